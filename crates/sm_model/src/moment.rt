@@ -1,0 +1,16 @@
+//! Moments.
+use crate::memory::{Copied, NoMemory};
+use std::alloc::Global;
+
+/// The greatest reading of a clock.
+pub const LAST_READING: u64 = 200_000_000_000;
+
+/// Whole seconds since the beginning of 1970 in UTC.
+#[derive(Clone, Copy, Debug, PartialEq, Eq, PartialOrd, Ord)]
+pub struct Moment(pub u64);
+
+impl Copied for Moment {
+    fn copy(&self, _alloc: Global) -> Result<Moment, NoMemory> {
+        Ok(*self)
+    }
+}

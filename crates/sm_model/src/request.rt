@@ -1,0 +1,53 @@
+//! Requests: one variant for each operation, with the members of its JSON body in snake case.
+use crate::bytes::Bytes;
+use crate::list::List;
+use crate::text::Text;
+use crate::value::Tag;
+
+/// CreateSecret (AWS Secrets Manager API Reference, CreateSecret).
+#[derive(Drop)]
+pub struct CreateSecret {
+    pub client_request_token: Option<Text>,
+    pub description: Option<Text>,
+    pub kms_key_id: Option<Text>,
+    pub name: Text,
+    pub secret_binary: Option<Bytes>,
+    pub secret_string: Option<Text>,
+    pub tags: Option<List<Tag>>,
+}
+
+/// GetSecretValue (AWS Secrets Manager API Reference, GetSecretValue).
+#[derive(Drop)]
+pub struct GetSecretValue {
+    pub secret_id: Text,
+    pub version_id: Option<Text>,
+    pub version_stage: Option<Text>,
+}
+
+/// PutSecretValue (AWS Secrets Manager API Reference, PutSecretValue).
+#[derive(Drop)]
+pub struct PutSecretValue {
+    pub client_request_token: Option<Text>,
+    pub secret_binary: Option<Bytes>,
+    pub secret_id: Text,
+    pub secret_string: Option<Text>,
+    pub version_stages: Option<List<Text>>,
+}
+
+/// UpdateSecretVersionStage (AWS Secrets Manager API Reference, UpdateSecretVersionStage).
+#[derive(Drop)]
+pub struct UpdateSecretVersionStage {
+    pub move_to_version_id: Option<Text>,
+    pub remove_from_version_id: Option<Text>,
+    pub secret_id: Text,
+    pub version_stage: Text,
+}
+
+/// A request as its body was read. Whether its members are in their forms is not yet known.
+#[derive(Drop)]
+pub enum Request {
+    CreateSecret(CreateSecret),
+    GetSecretValue(GetSecretValue),
+    PutSecretValue(PutSecretValue),
+    UpdateSecretVersionStage(UpdateSecretVersionStage),
+}
