@@ -38,14 +38,14 @@ impl Alphabet {
 }
 
 #[tactic(auto, unfolding(crate::specs::Spelling::is_name_byte))]
-fn is_name_byte(byte: u8) -> bool
+pub(crate) fn is_name_byte(byte: u8) -> bool
     ensures { result ≡ is_name_byte byte }
 {
     byte.is_ascii_alphanumeric() || b"/_+=.@-".contains(&byte)
 }
 
 #[tactic(auto, unfolding(crate::specs::Spelling::is_token_byte))]
-fn is_token_byte(byte: u8) -> bool
+pub(crate) fn is_token_byte(byte: u8) -> bool
     ensures { result ≡ is_token_byte byte }
 {
     (b'!'..=b'~').contains(&byte)

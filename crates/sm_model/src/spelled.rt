@@ -3,21 +3,7 @@ ghost use Rattle.std.specs.Prelude.{◌≡◌};
 ghost use Rattle.std.specs.List.{list_all};
 ghost use Rattle.sm_model.specs.Spelling.{is_name, is_name_byte, is_token, is_token_byte};
 
-/// Whether a byte may stand in a name.
-#[tactic(auto, unfolding(crate::specs::Spelling::is_name_byte))]
-fn is_name_byte(byte: u8) -> bool
-    ensures { result ≡ is_name_byte byte }
-{
-    byte.is_ascii_alphanumeric() || b"/_+=.@-".contains(&byte)
-}
-
-/// Whether a byte may stand in a token.
-#[tactic(auto, unfolding(crate::specs::Spelling::is_token_byte))]
-fn is_token_byte(byte: u8) -> bool
-    ensures { result ≡ is_token_byte byte }
-{
-    33 <= byte && byte <= 126
-}
+use crate::parts::{is_name_byte, is_token_byte};
 
 fn are_name_bytes(text: &[u8]) -> bool
     ensures { result ≡ list_all is_name_byte text.now }

@@ -62,6 +62,14 @@ impl Model for Name {
 }
 
 impl Name {
+    /// The name of a text that is spelled as one.
+    pub fn new(text: Text) -> Name
+        requires { IsTrue (is_name text) }
+        ensures { result ≡ text }
+    {
+        Name { text }
+    }
+
     /// Reads a name.
     #[tactic(auto, using(crate::proofs::RunLemmas::name_is_run, crate::proofs::RunLemmas::name_refusal))]
     pub fn read(alloc: Global, text: &[u8]) -> Result<Name, ReadRefused>
@@ -113,6 +121,14 @@ impl Model for Token {
 }
 
 impl Token {
+    /// The token of a text that is spelled as one.
+    pub fn new(text: Text) -> Token
+        requires { IsTrue (is_token text) }
+        ensures { result ≡ text }
+    {
+        Token { text }
+    }
+
     /// Reads a token.
     #[tactic(auto, using(crate::proofs::RunLemmas::token_is_run, crate::proofs::RunLemmas::token_refusal))]
     pub fn read(alloc: Global, text: &[u8]) -> Result<Token, ReadRefused>
