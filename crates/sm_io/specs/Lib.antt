@@ -1,6 +1,8 @@
 pub mod Calls
 pub mod CountWords
 pub mod Faults
+pub mod ListClock
+pub mod ListWords
 pub mod MemorySink
 pub mod MemorySource
 pub mod Source
