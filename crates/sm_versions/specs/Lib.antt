@@ -1,0 +1,4 @@
+pub mod Texts
+pub mod Labels
+pub mod Versions
+pub mod Put

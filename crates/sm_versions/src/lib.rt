@@ -1,0 +1,8 @@
+//! The versions of one secret and the labels on them (AWS Secrets Manager User Guide, "Secret versions"): new
+//! values, moves of labels, look-ups, and the settling of a rotation under way.
+#![tactic(auto)]
+
+pub mod labels;
+pub mod placing;
+pub mod put;
+pub mod versions;
