@@ -59,13 +59,14 @@ others_firsts_push ts t u = grind (arith, common_steps, firsts_push ts t, others
 -- one label more, as at a step of a loop
 pub place_others_more : (pairs : List Pair) (labels : List (List ℕ)) (i : ℕ) (l id : List ℕ) → i < length labels → l ≡ get_or labels i l
     → place_each pairs (others (firsts (take (i + 1) labels)) aws_current) id
-      ≡ cond (not (same_text l aws_current) && not (is_among (take i labels) l)) (place (place_each pairs (others (firsts (take i labels)) aws_current) id) l id) (place_each pairs (others (firsts (take i labels)) aws_current) id)
+    ≡ cond (not (same_text l aws_current) && not (is_among (take i labels) l)) (place (place_each pairs (others (firsts (take i labels)) aws_current) id) l id) (place_each pairs (others (firsts (take i labels)) aws_current) id)
 place_others_more pairs labels i l id h e =
     let t : take (i + 1) labels ≡ take i labels ++ l ∷ [] = grind (arith, take_more labels i l h) in
     rw t (rw (others_firsts_push (take i labels) l aws_current) (by (is_among (take i labels) l) (same_text l aws_current)))
   where
     before : List (List ℕ)
     before = others (firsts (take i labels)) aws_current
+
     by : (b c : Bool) → place_each pairs (cond b before (cond c before (before ++ l ∷ []))) id ≡ cond (not c && not b) (place (place_each pairs before id) l id) (place_each pairs before id)
     by true true = refl
     by true false = refl
@@ -79,8 +80,10 @@ place_all_is pairs labels id = by (is_among labels aws_current)
   where
     before : List (List ℕ)
     before = others (firsts labels) aws_current
+
     at_current : place (place_each pairs before id) aws_current id ≡ with_current (place_each pairs before id) id
     at_current = rw (same_text_itself aws_current)
+
     by : (b : Bool) → place_each pairs (before ++ cond b (aws_current ∷ []) []) id ≡ cond b (with_current (place_each pairs before id) id) (place_each pairs before id)
     by true = place_each-append pairs before (aws_current ∷ []) id ∙ at_current
     by false = ap (λ ls. place_each pairs ls id) (append-nil before)

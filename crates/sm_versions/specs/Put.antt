@@ -53,7 +53,7 @@ added_row row token value labels moment =
     record row {
       versions = row.versions ++ new_version row token value moment ∷ [];
       next_version = row.next_version + 1;
-      labels = place_all row.labels labels token
+      labels = place_all row.labels labels token;
     }
 
 -- the row with an empty version filled

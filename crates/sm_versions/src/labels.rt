@@ -2,7 +2,7 @@
 ghost use Rattle.std.specs.Prelude.{◌≡◌, IfOk, option_copied};
 ghost use Rattle.std.specs.List.{find};
 ghost use Rattle.sm_versions.specs.Texts.{same_text, is_among, aws_current, aws_previous, aws_pending, is_aws};
-ghost use Rattle.sm_versions.specs.Labels.{holder, labels_on, own_count};
+ghost use Rattle.sm_versions.specs.Labels.{holder, is_held_by, labels_on, own_count};
 
 use sm_model::{Copied, Label, List, NoMemory, Pair, Token};
 use std::alloc::Global;
@@ -97,6 +97,16 @@ pub fn is_same_id(id: &Token, other: &Token) -> bool
     ensures { result ≡ same_text id.now other.now }
 {
     id.equals(other)
+}
+
+/// Whether this version has the label.
+pub fn is_held_by(pairs: &[Pair], label: &Label, id: &Token) -> bool
+    ensures { result ≡ is_held_by (holder pairs.now label.now) id.now }
+{
+    match holder(pairs, label) {
+        Some(held) => is_same_id(held, id),
+        None => false,
+    }
 }
 
 /// The labels on a version, in the order of the pairs.

@@ -54,7 +54,12 @@ fn place_current(alloc: Global, pairs: &mut Vec<Pair>, id: &Token) -> Result<(),
 }
 
 /// Places AWSPREVIOUS on the version that held AWSCURRENT, where it is another than `id`.
-fn place_previous(alloc: Global, pairs: &mut Vec<Pair>, held: &Option<Token>, id: &Token) -> Result<(), NoMemory>
+fn place_previous(
+    alloc: Global,
+    pairs: &mut Vec<Pair>,
+    held: &Option<Token>,
+    id: &Token,
+) -> Result<(), NoMemory>
     ensures { OnOk result (pairs.new.items ≡ with_previous pairs.old.items held.now id.now) }
 {
     match held {
@@ -70,7 +75,12 @@ fn place_previous(alloc: Global, pairs: &mut Vec<Pair>, held: &Option<Token>, id
 }
 
 /// Places a label on a version. Without memory some of it may be done.
-pub fn place(alloc: Global, pairs: &mut Vec<Pair>, label: &Label, id: &Token) -> Result<(), NoMemory>
+pub fn place(
+    alloc: Global,
+    pairs: &mut Vec<Pair>,
+    label: &Label,
+    id: &Token,
+) -> Result<(), NoMemory>
     ensures { OnOk result (pairs.new.items ≡ place pairs.old.items label.now id.now) }
 {
     if is_current(label) {
@@ -81,7 +91,12 @@ pub fn place(alloc: Global, pairs: &mut Vec<Pair>, label: &Label, id: &Token) ->
 }
 
 /// Places the labels but AWSCURRENT on a version, in the order of their first occurrence.
-fn place_others(alloc: Global, pairs: &mut Vec<Pair>, labels: &[Label], id: &Token) -> Result<(), NoMemory>
+fn place_others(
+    alloc: Global,
+    pairs: &mut Vec<Pair>,
+    labels: &[Label],
+    id: &Token,
+) -> Result<(), NoMemory>
     ensures { OnOk result (pairs.new.items ≡ place_each pairs.old.items (others (firsts labels.now) aws_current) id.now) }
 {
     for (i, label) in labels.iter().enumerate() {
@@ -94,7 +109,12 @@ fn place_others(alloc: Global, pairs: &mut Vec<Pair>, labels: &[Label], id: &Tok
 
 /// Places labels on a version, AWSCURRENT last. Without memory some of it may be done.
 #[tactic(auto, using(crate::proofs::LabelLemmas::place_all_is))]
-pub fn place_all(alloc: Global, pairs: &mut Vec<Pair>, labels: &[Label], id: &Token) -> Result<(), NoMemory>
+pub fn place_all(
+    alloc: Global,
+    pairs: &mut Vec<Pair>,
+    labels: &[Label],
+    id: &Token,
+) -> Result<(), NoMemory>
     ensures { OnOk result (pairs.new.items ≡ place_all pairs.old.items labels.now id.now) }
 {
     place_others(alloc, pairs, labels, id)?;

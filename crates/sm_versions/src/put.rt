@@ -47,7 +47,12 @@ pub fn has_too_many(pairs: &[Pair]) -> bool
 }
 
 /// The pairs with all labels placed on the version.
-fn placed(alloc: Global, pairs: &List<Pair>, labels: &[Label], id: &Token) -> Result<List<Pair>, NoMemory>
+fn placed(
+    alloc: Global,
+    pairs: &List<Pair>,
+    labels: &[Label],
+    id: &Token,
+) -> Result<List<Pair>, NoMemory>
     ensures { IfOk result (λ placed. placed ≡ place_all pairs.now labels.now id.now) }
 {
     let mut placed = pairs.copy(alloc)?.into_vec();
@@ -56,7 +61,13 @@ fn placed(alloc: Global, pairs: &List<Pair>, labels: &[Label], id: &Token) -> Re
 }
 
 /// Gives the value to the empty version of the token.
-fn fill_version(alloc: Global, row: &mut SecretRow, token: &Token, value: &Value, labels: &[Label]) -> Result<PutDone, NoMemory>
+fn fill_version(
+    alloc: Global,
+    row: &mut SecretRow,
+    token: &Token,
+    value: &Value,
+    labels: &[Label],
+) -> Result<PutDone, NoMemory>
     ensures answer { IfOk result (λ done. done ≡ put_placed (place_all row.old.labels labels.now token.now)) }
     ensures row { row.new ≡ (if is_done result then filled_row row.old token.now value.now labels.now else row.old) }
 {
@@ -73,7 +84,13 @@ fn fill_version(alloc: Global, row: &mut SecretRow, token: &Token, value: &Value
 }
 
 /// A version with the value, to be added to the row.
-fn new_version(alloc: Global, row: &SecretRow, token: &Token, value: &Value, moment: Moment) -> Result<VersionRow, NoMemory>
+fn new_version(
+    alloc: Global,
+    row: &SecretRow,
+    token: &Token,
+    value: &Value,
+    moment: Moment,
+) -> Result<VersionRow, NoMemory>
     ensures { IfOk result (λ version. version ≡ new_version row.now token.now value.now moment) }
 {
     Ok(VersionRow {
@@ -87,7 +104,14 @@ fn new_version(alloc: Global, row: &SecretRow, token: &Token, value: &Value, mom
 }
 
 /// Adds a version with the token as its id and the value.
-fn add_version(alloc: Global, row: &mut SecretRow, token: &Token, value: &Value, labels: &[Label], moment: Moment) -> Result<PutDone, NoMemory>
+fn add_version(
+    alloc: Global,
+    row: &mut SecretRow,
+    token: &Token,
+    value: &Value,
+    labels: &[Label],
+    moment: Moment,
+) -> Result<PutDone, NoMemory>
     ensures answer { IfOk result (λ done. done ≡ put_new row.old token.now labels.now) }
     ensures row { row.new ≡ (if is_done result then added_row row.old token.now value.now labels.now moment else row.old) }
 {
@@ -117,7 +141,14 @@ fn repeat(alloc: Global, row: &SecretRow, token: &Token, is_same: bool) -> Resul
 }
 
 /// The same as `put`.
-fn try_put(alloc: Global, row: &mut SecretRow, token: &Token, value: &Value, labels: &[Label], moment: Moment) -> Result<PutDone, NoMemory>
+fn try_put(
+    alloc: Global,
+    row: &mut SecretRow,
+    token: &Token,
+    value: &Value,
+    labels: &[Label],
+    moment: Moment,
+) -> Result<PutDone, NoMemory>
     ensures answer { IfOk result (λ done. done ≡ put_answer row.old token.now value.now labels.now) }
     ensures row { row.new ≡ (if is_done result then put_row row.old token.now value.now labels.now moment else row.old) }
 {
@@ -135,7 +166,14 @@ fn try_put(alloc: Global, row: &mut SecretRow, token: &Token, value: &Value, lab
 
 /// Puts a value into the version whose id is the token, which is filled or made at the moment, and places the
 /// labels on it.
-pub fn put(alloc: Global, row: &mut SecretRow, token: &Token, value: &Value, labels: &[Label], moment: Moment) -> PutDone
+pub fn put(
+    alloc: Global,
+    row: &mut SecretRow,
+    token: &Token,
+    value: &Value,
+    labels: &[Label],
+    moment: Moment,
+) -> PutDone
     ensures answer { OrMemory result (put_answer row.old token.now value.now labels.now) }
     ensures row { row.new ≡ (if is_added result then put_row row.old token.now value.now labels.now moment else row.old) }
 {

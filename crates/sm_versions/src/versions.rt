@@ -18,9 +18,7 @@ pub fn is_same_value(value: &Value, other: &Value) -> bool
 fn first_with<'a>(versions: &'a [VersionRow], id: &Token) -> Option<&'a VersionRow>
     ensures { option_copied result ≡ find (λ v. same_text v.id id.now) versions.now }
 {
-    versions
-        .iter()
-        .find(|version| is_same_id(&version.id, id))
+    versions.iter().find(|version| is_same_id(&version.id, id))
 }
 
 /// The version with this id.
