@@ -3,8 +3,8 @@
 use Rattle.std.specs.Prelude.{ℕ, List, Option, Some, None, if◌then◌else◌}
 use Rattle.sm_model.specs.declared.rows.VersionRow.{VersionRow}
 use Rattle.sm_model.specs.declared.rows.SecretRow.{SecretRow}
-use Rattle.sm_versions.specs.declared.find.Found.{Found}
-use Rattle.sm_versions.specs.declared.find.Found.TheVariants.{Version, None as Missing, Differ}
+use Rattle.sm_versions.specs.declared.lookup.Found.{Found}
+use Rattle.sm_versions.specs.declared.lookup.Found.TheVariants.{Version, None as Missing, Differ}
 use Rattle.sm_versions.specs.Texts.{same_text, aws_current}
 use Rattle.sm_versions.specs.Labels.{holder}
 use Rattle.sm_versions.specs.Versions.{version_of}

@@ -5,3 +5,5 @@ pub mod Put
 pub mod Move
 pub mod Settle
 pub mod Find
+pub mod Serials
+pub mod Kept

@@ -7,8 +7,8 @@ use Rattle.sm_model.specs.declared.value.Value.{Value}
 use Rattle.sm_model.specs.declared.rows.Pair.{Pair}
 use Rattle.sm_model.specs.declared.rows.VersionRow.{VersionRow}
 use Rattle.sm_model.specs.declared.rows.SecretRow.{SecretRow}
-use Rattle.sm_versions.specs.declared.put.PutDone.{PutDone}
-use Rattle.sm_versions.specs.declared.put.PutDone.TheVariants.{Added, Same, Exists, TooMany, TooManyLabels, Memory}
+use Rattle.sm_versions.specs.declared.values.PutDone.{PutDone}
+use Rattle.sm_versions.specs.declared.values.PutDone.TheVariants.{Added, Same, Exists, TooMany, TooManyLabels, Memory}
 use Rattle.sm_versions.specs.Labels.{place_all, labels_on, own_count}
 use Rattle.sm_versions.specs.Versions.{same_value, version_of, filled}
 

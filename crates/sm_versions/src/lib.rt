@@ -2,10 +2,15 @@
 //! values, moves of labels, look-ups, and the settling of a rotation under way.
 #![tactic(auto)]
 
-pub mod find;
 pub mod labels;
+pub mod lookup;
 pub mod moving;
 pub mod placing;
-pub mod put;
-pub mod settle;
+pub mod settling;
+pub mod values;
 pub mod versions;
+
+pub use lookup::{Found, find};
+pub use moving::{Moved, move_label};
+pub use settling::{is_live, settle};
+pub use values::{PutDone, put};

@@ -3,10 +3,11 @@ ghost use Rattle.std.specs.Prelude.{◌≡◌, ◌⊎◌, IfOk, IsSome, option_c
 ghost use Rattle.sm_versions.specs.Texts.{aws_current};
 ghost use Rattle.sm_versions.specs.Labels.{holder};
 ghost use Rattle.sm_versions.specs.Move.{missing, may_move, move_placed, move_onto, move_to, move_held, move_answer, move_pairs, move_row, is_moved, is_done, OrMemory};
+ghost use Rattle.sm_versions.specs.Kept.{KeptUnsettled};
 
 use crate::labels::{holder, is_current, is_same_id};
 use crate::placing::{place, remove};
-use crate::put::{MOST_LABELS, has_too_many};
+use crate::values::{MOST_LABELS, has_too_many};
 use crate::versions::{has_value, has_version};
 use sm_model::{Copied, Label, List, NoMemory, Pair, SecretRow, Token, VersionRow};
 use std::alloc::Global;
@@ -189,6 +190,7 @@ pub fn move_label(
     requires { IsSome to ⊎ IsSome from }
     ensures answer { OrMemory result (move_answer row.old label.now (option_copied to.entry) (option_copied from.entry)) }
     ensures row { row.new ≡ (if is_moved result then move_row row.old label.now (option_copied to.entry) else row.old) }
+    ensures kept { KeptUnsettled row.old → KeptUnsettled row.new }
 {
     match try_move(alloc, row, label, to, from) {
         Ok(moved) => moved,

@@ -2,6 +2,7 @@
 ghost use Rattle.std.specs.Prelude.{◌≡◌, ◌&&◌};
 ghost use Rattle.sm_versions.specs.Versions.{has_value};
 ghost use Rattle.sm_versions.specs.Settle.{is_live, is_create, advanced, settled_job, settle};
+ghost use Rattle.sm_versions.specs.Kept.{KeptUnsettled, CurrentKept};
 
 use crate::labels::{current, holder, is_held_by, pending};
 use crate::versions::{has_value, has_version};
@@ -55,8 +56,10 @@ fn settled(row: &SecretRow, job: Option<Job>) -> Option<Job>
 
 /// Drops the secret's job where it is not live, and moves it from createSecret to setSecret, attempt 1, where its
 /// version has a value. It takes no memory.
+#[tactic(auto, using(crate::proofs::KeptLaws::settle_keeps))]
 pub fn settle(row: &mut SecretRow)
-    ensures { row.new ≡ settle row.old }
+    ensures row { row.new ≡ settle row.old }
+    ensures kept { KeptUnsettled row.old → CurrentKept row.new }
 {
     let job = row.job.take();
     row.job = settled(row, job);

@@ -1,7 +1,8 @@
 //! A new value for a secret (AWS Secrets Manager API Reference, PutSecretValue).
-ghost use Rattle.std.specs.Prelude.{◌≡◌, IfOk, if◌then◌else◌};
+ghost use Rattle.std.specs.Prelude.{◌≡◌, IsTrue, IfOk, if◌then◌else◌};
 ghost use Rattle.sm_versions.specs.Labels.{place_all, labels_on};
 ghost use Rattle.sm_versions.specs.Put.{has_too_many, is_full, put_placed, put_new, put_answer, new_version, added_row, filled_row, put_row, is_added, is_done, OrMemory};
+ghost use Rattle.sm_versions.specs.Kept.{KeptUnsettled, will_have_current};
 
 use crate::labels::{labels_on, own_count};
 use crate::placing::place_all;
@@ -176,6 +177,7 @@ pub fn put(
 ) -> PutDone
     ensures answer { OrMemory result (put_answer row.old token.now value.now labels.now) }
     ensures row { row.new ≡ (if is_added result then put_row row.old token.now value.now labels.now moment else row.old) }
+    ensures kept { KeptUnsettled row.old → IsTrue (will_have_current row.old labels.now) → KeptUnsettled row.new }
 {
     match try_put(alloc, row, token, value, labels, moment) {
         Ok(done) => done,
