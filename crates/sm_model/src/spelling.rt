@@ -192,6 +192,16 @@ impl Model for Label {
 }
 
 impl Label {
+    /// A label of the program's own. It takes no memory.
+    pub fn fixed(text: &'static str) -> Label
+        requires { IsTrue (is_label text.now) }
+        ensures { result ≡ text.now }
+    {
+        Label {
+            text: Text::fixed(text),
+        }
+    }
+
     pub fn as_text(&self) -> &Text
         ensures value { result.now ≡ self.now }
         ensures spelled { IsTrue (is_label self.now) }

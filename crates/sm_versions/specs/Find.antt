@@ -1,0 +1,49 @@
+-- A version by its id, by a label, or by both.
+-- AWS Secrets Manager API Reference: GetSecretValue (VersionId, VersionStage).
+use Rattle.std.specs.Prelude.{ℕ, List, Option, Some, None, if◌then◌else◌}
+use Rattle.sm_model.specs.declared.rows.VersionRow.{VersionRow}
+use Rattle.sm_model.specs.declared.rows.SecretRow.{SecretRow}
+use Rattle.sm_versions.specs.declared.lookup.Found.{Found}
+use Rattle.sm_versions.specs.declared.lookup.Found.TheVariants.{Version, None as Missing, Differ}
+use Rattle.sm_versions.specs.Texts.{same_text, aws_current}
+use Rattle.sm_versions.specs.Labels.{holder}
+use Rattle.sm_versions.specs.Versions.{version_of}
+
+-- a version, none, or two that differ
+pub data Lookup : Type 0 where
+  here : VersionRow → Lookup
+  nowhere : Lookup
+  apart : Lookup
+
+-- what a call found
+abbrev pub looked_up : Found → Lookup
+looked_up (Version version) = here version.now
+looked_up Missing = nowhere
+looked_up Differ = apart
+
+-- the version of the id that is there
+abbrev pub version_held : List VersionRow → Option (List ℕ) → Option VersionRow
+version_held versions None = None
+version_held versions (Some id) = version_of versions id
+
+-- the version that has the label
+abbrev pub labelled : SecretRow → List ℕ → Option VersionRow
+labelled row label = version_held row.versions (holder row.labels label)
+
+-- by one name
+abbrev pub by_one : Option VersionRow → Lookup
+by_one None = nowhere
+by_one (Some version) = here version
+
+-- by two names: each has to name a version, and both the same
+abbrev pub by_both : Option VersionRow → Option VersionRow → Lookup
+by_both None other = nowhere
+by_both (Some version) None = nowhere
+by_both (Some version) (Some other) = if same_text version.id other.id then here version else apart
+
+-- the version by its id, its label, or both; AWSCURRENT where neither is given
+abbrev pub lookup : SecretRow → Option (List ℕ) → Option (List ℕ) → Lookup
+lookup row (Some id) (Some label) = by_both (version_of row.versions id) (labelled row label)
+lookup row (Some id) None = by_one (version_of row.versions id)
+lookup row None (Some label) = by_one (labelled row label)
+lookup row None None = by_one (labelled row aws_current)

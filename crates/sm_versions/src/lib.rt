@@ -1,0 +1,16 @@
+//! The versions of one secret and the labels on them (AWS Secrets Manager User Guide, "Secret versions"): new
+//! values, moves of labels, look-ups, and the settling of a rotation under way.
+#![tactic(auto)]
+
+pub mod labels;
+pub mod lookup;
+pub mod moving;
+pub mod placing;
+pub mod settling;
+pub mod values;
+pub mod versions;
+
+pub use lookup::{Found, find};
+pub use moving::{Moved, move_label};
+pub use settling::{is_live, settle};
+pub use values::{PutDone, put};

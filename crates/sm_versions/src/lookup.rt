@@ -1,0 +1,82 @@
+//! A version by its id, by a label, or by both (AWS Secrets Manager API Reference, GetSecretValue).
+ghost use Rattle.std.specs.Prelude.{◌≡◌, option_copied};
+ghost use Rattle.sm_versions.specs.Texts.{aws_current};
+ghost use Rattle.sm_versions.specs.Find.{looked_up, labelled, by_one, by_both, lookup};
+
+use crate::labels::{current, holder, is_same_id};
+use crate::versions::version_of;
+use sm_model::{Label, SecretRow, Token, VersionRow};
+
+/// What a look-up found.
+#[derive(Drop)]
+pub enum Found<'a> {
+    Version(&'a VersionRow),
+    None,
+    /// The id and the label name two versions.
+    Differ,
+}
+
+/// The version that has the label.
+fn labelled<'a>(row: &'a SecretRow, label: &Label) -> Option<&'a VersionRow>
+    ensures { option_copied result ≡ labelled row.now label.now }
+{
+    match holder(row.labels.as_slice(), label) {
+        Some(id) => version_of(row.versions.as_slice(), id),
+        None => None,
+    }
+}
+
+/// What one name found.
+fn by_one(version: Option<&VersionRow>) -> Found<'_>
+    ensures { looked_up result ≡ by_one (option_copied version.entry) }
+{
+    match version {
+        Some(version) => Found::Version(version),
+        None => Found::None,
+    }
+}
+
+/// What two names found.
+fn by_both<'a>(version: Option<&'a VersionRow>, other: Option<&'a VersionRow>) -> Found<'a>
+    ensures { looked_up result ≡ by_both (option_copied version.entry) (option_copied other.entry) }
+{
+    match version {
+        Some(version) => match other {
+            Some(other) => {
+                if is_same_id(&version.id, &other.id) {
+                    Found::Version(version)
+                } else {
+                    Found::Differ
+                }
+            }
+            None => Found::None,
+        },
+        None => Found::None,
+    }
+}
+
+/// The version with AWSCURRENT.
+fn the_current(row: &SecretRow) -> Option<&VersionRow>
+    ensures { option_copied result ≡ labelled row.now aws_current }
+{
+    labelled(row, &current())
+}
+
+/// The version that the id, the label or both name, or without them the one with AWSCURRENT. It takes no memory.
+pub fn find<'a>(row: &'a SecretRow, id: Option<&Token>, label: Option<&Label>) -> Found<'a>
+    ensures { looked_up result ≡ lookup row.now (option_copied id.entry) (option_copied label.entry) }
+{
+    match id {
+        Some(id) => {
+            let version = version_of(row.versions.as_slice(), id);
+            match label {
+                Some(label) => by_both(version, labelled(row, label)),
+                None => by_one(version),
+            }
+        }
+        None => match label {
+            Some(label) => by_one(labelled(row, label)),
+            None => by_one(the_current(row)),
+        },
+    }
+}

@@ -1,0 +1,186 @@
+//! A new value for a secret (AWS Secrets Manager API Reference, PutSecretValue).
+ghost use Rattle.std.specs.Prelude.{◌≡◌, IsTrue, IfOk, if◌then◌else◌};
+ghost use Rattle.sm_versions.specs.Labels.{place_all, labels_on};
+ghost use Rattle.sm_versions.specs.Put.{has_too_many, is_full, put_placed, put_new, put_answer, new_version, added_row, filled_row, put_row, is_added, is_done, OrMemory};
+ghost use Rattle.sm_versions.specs.Kept.{KeptUnsettled, will_have_current};
+
+use crate::labels::{labels_on, own_count};
+use crate::placing::place_all;
+use crate::versions::{fill, is_same_value, version_of};
+use sm_model::{Copied, Label, List, Moment, NoMemory, Pair, SecretRow, Token, Value, VersionRow};
+use std::alloc::Global;
+use std::mem;
+
+/// The most versions of a secret.
+pub const MOST_VERSIONS: u64 = 1000;
+
+/// The most labels of a secret besides AWSCURRENT, AWSPREVIOUS and AWSPENDING.
+pub const MOST_LABELS: u64 = 20;
+
+/// What a put did.
+#[derive(Drop)]
+pub enum PutDone {
+    /// The value is in the version of the token, and the labels are on it.
+    Added,
+    /// The version of the token has this value already, and these labels.
+    Same(List<Label>),
+    /// The version of the token has another value.
+    Exists,
+    /// The secret has this many versions, and no more may be added.
+    TooMany(u64),
+    /// The secret would have more labels than this many besides AWSCURRENT, AWSPREVIOUS and AWSPENDING.
+    TooManyLabels(u64),
+    Memory,
+}
+
+/// Whether no version may be added.
+fn is_full(row: &SecretRow) -> bool
+    ensures { result ≡ is_full row.now }
+{
+    row.versions.len() >= MOST_VERSIONS as usize || row.next_version == u64::MAX
+}
+
+/// Whether there are more labels than a secret may have.
+pub fn has_too_many(pairs: &[Pair]) -> bool
+    ensures { result ≡ has_too_many pairs.now }
+{
+    own_count(pairs) > MOST_LABELS as usize
+}
+
+/// The pairs with all labels placed on the version.
+fn placed(
+    alloc: Global,
+    pairs: &List<Pair>,
+    labels: &[Label],
+    id: &Token,
+) -> Result<List<Pair>, NoMemory>
+    ensures { IfOk result (λ placed. placed ≡ place_all pairs.now labels.now id.now) }
+{
+    let mut placed = pairs.copy(alloc)?.into_vec();
+    place_all(alloc, &mut placed, labels, id)?;
+    Ok(List::new(placed))
+}
+
+/// Gives the value to the empty version of the token.
+fn fill_version(
+    alloc: Global,
+    row: &mut SecretRow,
+    token: &Token,
+    value: &Value,
+    labels: &[Label],
+) -> Result<PutDone, NoMemory>
+    ensures answer { IfOk result (λ done. done ≡ put_placed (place_all row.old.labels labels.now token.now)) }
+    ensures row { row.new ≡ (if is_done result then filled_row row.old token.now value.now labels.now else row.old) }
+{
+    let placed = placed(alloc, &row.labels, labels, token)?;
+    if has_too_many(placed.as_slice()) {
+        return Ok(PutDone::TooManyLabels(MOST_LABELS));
+    }
+    let value = value.copy(alloc)?;
+    let mut versions = mem::replace(&mut row.versions, List::empty(alloc)).into_vec();
+    fill(&mut versions, token, value);
+    row.versions = List::new(versions);
+    row.labels = placed;
+    Ok(PutDone::Added)
+}
+
+/// A version with the value, to be added to the row.
+fn new_version(
+    alloc: Global,
+    row: &SecretRow,
+    token: &Token,
+    value: &Value,
+    moment: Moment,
+) -> Result<VersionRow, NoMemory>
+    ensures { IfOk result (λ version. version ≡ new_version row.now token.now value.now moment) }
+{
+    Ok(VersionRow {
+        id: token.copy(alloc)?,
+        serial: row.next_version,
+        made: moment,
+        value: Some(value.copy(alloc)?),
+        rotated: None,
+        by_rotation: false,
+    })
+}
+
+/// Adds a version with the token as its id and the value.
+fn add_version(
+    alloc: Global,
+    row: &mut SecretRow,
+    token: &Token,
+    value: &Value,
+    labels: &[Label],
+    moment: Moment,
+) -> Result<PutDone, NoMemory>
+    ensures answer { IfOk result (λ done. done ≡ put_new row.old token.now labels.now) }
+    ensures row { row.new ≡ (if is_done result then added_row row.old token.now value.now labels.now moment else row.old) }
+{
+    if is_full(row) {
+        return Ok(PutDone::TooMany(MOST_VERSIONS));
+    }
+    let placed = placed(alloc, &row.labels, labels, token)?;
+    if has_too_many(placed.as_slice()) {
+        return Ok(PutDone::TooManyLabels(MOST_LABELS));
+    }
+    let version = new_version(alloc, row, token, value, moment)?;
+    row.versions.push(version)?;
+    row.next_version += 1;
+    row.labels = placed;
+    Ok(PutDone::Added)
+}
+
+/// The answer where the version of the token has a value already.
+fn repeat(alloc: Global, row: &SecretRow, token: &Token, is_same: bool) -> Result<PutDone, NoMemory>
+    ensures { IfOk result (λ done. done ≡ (if is_same then PutDone.Same (labels_on row.now.labels token.now) else PutDone.Exists)) }
+{
+    if is_same {
+        Ok(PutDone::Same(labels_on(alloc, row.labels.as_slice(), token)?))
+    } else {
+        Ok(PutDone::Exists)
+    }
+}
+
+/// The same as `put`.
+fn try_put(
+    alloc: Global,
+    row: &mut SecretRow,
+    token: &Token,
+    value: &Value,
+    labels: &[Label],
+    moment: Moment,
+) -> Result<PutDone, NoMemory>
+    ensures answer { IfOk result (λ done. done ≡ put_answer row.old token.now value.now labels.now) }
+    ensures row { row.new ≡ (if is_done result then put_row row.old token.now value.now labels.now moment else row.old) }
+{
+    match version_of(row.versions.as_slice(), token) {
+        Some(version) => match &version.value {
+            Some(kept) => {
+                let is_same = is_same_value(kept, value);
+                repeat(alloc, row, token, is_same)
+            }
+            None => fill_version(alloc, row, token, value, labels),
+        },
+        None => add_version(alloc, row, token, value, labels, moment),
+    }
+}
+
+/// Puts a value into the version whose id is the token, which is filled or made at the moment, and places the
+/// labels on it.
+pub fn put(
+    alloc: Global,
+    row: &mut SecretRow,
+    token: &Token,
+    value: &Value,
+    labels: &[Label],
+    moment: Moment,
+) -> PutDone
+    ensures answer { OrMemory result (put_answer row.old token.now value.now labels.now) }
+    ensures row { row.new ≡ (if is_added result then put_row row.old token.now value.now labels.now moment else row.old) }
+    ensures kept { KeptUnsettled row.old → IsTrue (will_have_current row.old labels.now) → KeptUnsettled row.new }
+{
+    match try_put(alloc, row, token, value, labels, moment) {
+        Ok(done) => done,
+        Err(NoMemory) => PutDone::Memory,
+    }
+}

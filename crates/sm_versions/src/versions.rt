@@ -1,0 +1,67 @@
+//! The versions of a secret.
+ghost use Rattle.std.specs.Prelude.{◌≡◌, option_copied};
+ghost use Rattle.std.specs.List.{find, position};
+ghost use Rattle.sm_versions.specs.Texts.{same_text};
+ghost use Rattle.sm_versions.specs.Versions.{same_value, version_of, has_version, has_value, filled};
+
+use crate::labels::is_same_id;
+use sm_model::{Token, Value, VersionRow};
+
+/// Whether both are the same text, or the same bytes.
+pub fn is_same_value(value: &Value, other: &Value) -> bool
+    ensures { result ≡ same_value value.now other.now }
+{
+    value.equals(other)
+}
+
+/// The first version with this id.
+fn first_with<'a>(versions: &'a [VersionRow], id: &Token) -> Option<&'a VersionRow>
+    ensures { option_copied result ≡ find (λ v. same_text v.id id.now) versions.now }
+{
+    versions.iter().find(|version| is_same_id(&version.id, id))
+}
+
+/// The version with this id.
+#[tactic(auto, using(crate::proofs::VersionLemmas::version_of_is_find))]
+pub fn version_of<'a>(versions: &'a [VersionRow], id: &Token) -> Option<&'a VersionRow>
+    ensures { option_copied result ≡ version_of versions.now id.now }
+{
+    first_with(versions, id)
+}
+
+/// Whether a version has this id.
+#[tactic(auto, using(crate::proofs::VersionLemmas::has_version_is_some))]
+pub fn has_version(versions: &[VersionRow], id: &Token) -> bool
+    ensures { result ≡ has_version versions.now id.now }
+{
+    version_of(versions, id).is_some()
+}
+
+/// Whether the version with this id has a value.
+#[tactic(auto, using(crate::proofs::VersionLemmas::value_of_is))]
+pub fn has_value(versions: &[VersionRow], id: &Token) -> bool
+    ensures { result ≡ has_value versions.now id.now }
+{
+    match version_of(versions, id) {
+        Some(version) => version.value.is_some(),
+        None => false,
+    }
+}
+
+/// The place of the version with this id.
+fn position_of(versions: &[VersionRow], id: &Token) -> Option<usize>
+    ensures { result ≡ position (λ v. same_text v.id id.now) versions.now }
+{
+    versions
+        .iter()
+        .position(|version| is_same_id(&version.id, id))
+}
+
+/// Gives a value to the version with this id.
+pub fn fill(versions: &mut Vec<VersionRow>, id: &Token, value: Value)
+    ensures { versions.new.items ≡ filled versions.old.items id.now value }
+{
+    if let Some(i) = position_of(versions.as_slice(), id) {
+        versions[i].value = Some(value);
+    }
+}
