@@ -1,3 +1,4 @@
+pub mod ArnLemmas
 pub mod DrawnLemmas
 pub mod FaultLemmas
 pub mod PartLemmas

@@ -5,7 +5,7 @@ ghost use Rattle.sm_model.specs.Reading.{IsRefusal};
 ghost use Rattle.sm_model.specs.Drawn.{drawn_token, drawn_arn, suffix_character};
 
 use crate::memory::{Copied, NoMemory};
-use crate::parts::{NAME, TOKEN, read_parts};
+use crate::parts::{ARN, NAME, TOKEN, read_parts};
 use crate::text::Text;
 use std::alloc::Global;
 use std::error::Error;
@@ -217,6 +217,17 @@ impl Model for Arn {
 }
 
 impl Arn {
+    /// Reads an ARN.
+    #[tactic(auto, using(crate::proofs::ArnLemmas::arn_is_parts, crate::proofs::ArnLemmas::arn_refusal, crate::proofs::ArnLemmas::region_ends))]
+    pub fn read(alloc: Global, text: &[u8]) -> Result<Arn, ReadRefused>
+        ensures value { IfOk result (λ arn. arn ≡ text.now) }
+        ensures spelled { OnOk result (IsTrue (is_arn text.now)) }
+        ensures refused { IfErr result (IsRefusal is_arn text.now) }
+    {
+        let text = read_parts(alloc, &ARN, text)?;
+        Ok(Arn { text })
+    }
+
     /// The ARN of a new secret with this name: it ends in the characters of six random bytes.
     #[tactic(auto, using(crate::proofs::DrawnLemmas::drawn_arn_is_arn))]
     pub fn drawn(alloc: Global, name: &Name, six: &[u8; 6]) -> Result<Arn, NoMemory>

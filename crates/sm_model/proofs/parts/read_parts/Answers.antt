@@ -5,4 +5,4 @@ pub text_of-requires : goal.text_of-requires
 text_of-requires c =
     let parts = c.args.parts.now in
     let bytes = c.args.bytes.now in
-    parts_are_utf8 parts bytes c.requires.ascii (no_fault parts bytes c.requires.apart c.in-None.ensures)
+    parts_are_utf8 parts bytes (no_fault parts bytes c.requires c.in-None.ensures)
