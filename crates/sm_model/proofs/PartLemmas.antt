@@ -3,10 +3,10 @@ use Rattle.std.proofs.Common.{◌≡◌, ℕ, zero, suc, ◌+◌, ◌-◌, ◌<�
 use Rattle.std.proofs.Math.Seq.{take-add}
 use Rattle.std.proofs.lemmas.List.{drop_more, drop_all, drop_at, take-append-drop, length-take-le, length-drop, length-replicate, get_or-replicate, append_assoc}
 use Rattle.std.proofs.lemmas.List.Folds.{list_all-append}
-use Rattle.std.proofs.lemmas.Str.{IsUtf8-from_ascii, is_utf8-from_IsUtf8, IsUtf8-from_is_utf8}
+use Rattle.std.proofs.lemmas.Str.{IsUtf8-from_ascii, is_utf8-from_IsUtf8}
 use Rattle.std.specs.Char.{is_ascii}
 use Rattle.std.specs.List.{list_all}
-use Rattle.std.specs.Str.{is_utf8, IsUtf8}
+use Rattle.std.specs.Str.{is_utf8}
 use Rattle.std.proofs.lemmas.Bool.{eqb-true, cases_Bool, cases_lt, and_parts, and_from, and_right, not-true, eq-eqb, false≢true, le-leb, lt-leb, leb-true, ltb-true, lt-ltb, le-ltb}
 use Rattle.std.proofs.lemmas.Bool.Decides.{nat_tests}
 use Rattle.sm_model.specs.declared.parts.Alphabet.{Alphabet}
@@ -340,7 +340,3 @@ parts_are_ascii (part ∷ parts) text has =
 pub parts_are_utf8 : (parts : List Part) (text : List ℕ) → has_parts parts text ≡ true → is_utf8 text ≡ true
 parts_are_utf8 parts text has =
     is_utf8-from_IsUtf8 text (IsUtf8-from_ascii text (λ i. ascii_at text i (parts_are_ascii parts text has)))
-
--- bytes that pass the test of UTF-8 are not refused as none
-pub utf8_is_text : (bytes : List ℕ) → is_utf8 bytes ≡ true → ¬ IsUtf8 bytes → ⊥
-utf8_is_text bytes utf8 refused = refused (IsUtf8-from_is_utf8 bytes utf8)

@@ -2,14 +2,11 @@
 ghost use Rattle.std.specs.Prelude.{◌≡◌, ◌≤◌, length, IfOk, OnOk, IfErr, IsTrue};
 ghost use Rattle.sm_model.specs.Spelling.{is_name_byte, is_token_byte, is_region_byte};
 ghost use Rattle.sm_model.specs.Parts.{is_in, word_bytes, admits, least, reach, fault_from, has_parts, are_apart};
-ghost use Rattle.std.specs.Str.{is_utf8};
 ghost use Rattle.sm_model.specs.Reading.{IsRefusal};
 
-use crate::memory::NoMemory;
 use crate::spelling::ReadRefused;
 use crate::text::Text;
 use std::alloc::Global;
-use std::str;
 
 /// The bytes that a run may have.
 #[derive(Clone, Copy)]
@@ -162,17 +159,6 @@ pub(crate) fn read_parts(alloc: Global, parts: &[Part], bytes: &[u8]) -> Result<
 {
     match first_fault(parts, bytes) {
         Some(place) => Err(ReadRefused::Spelling(place)),
-        None => Ok(text_of(alloc, bytes)?),
-    }
-}
-
-#[tactic(auto, using(crate::proofs::PartLemmas::utf8_is_text))]
-fn text_of(alloc: Global, bytes: &[u8]) -> Result<Text, NoMemory>
-    requires { IsTrue (is_utf8 bytes.now) }
-    ensures { IfOk result (λ text. text ≡ bytes.now) }
-{
-    match str::from_utf8(bytes) {
-        Ok(text) => Text::from_str(alloc, text),
-        Err(_) => unreachable!(),
+        None => Ok(Text::from_utf8(alloc, bytes)?),
     }
 }

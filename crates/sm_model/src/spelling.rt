@@ -4,6 +4,7 @@ ghost use Rattle.sm_model.specs.Spelling.{is_name, is_token, is_label, is_arn};
 ghost use Rattle.sm_model.specs.Reading.{IsRefusal};
 ghost use Rattle.sm_model.specs.Drawn.{drawn_token, drawn_arn, suffix_character};
 
+use crate::characters::read_label_text;
 use crate::memory::{Copied, NoMemory};
 use crate::parts::{ARN, NAME, TOKEN, read_parts};
 use crate::text::Text;
@@ -176,6 +177,16 @@ impl Model for Label {
 }
 
 impl Label {
+    /// Reads a label.
+    pub fn read(alloc: Global, text: &[u8]) -> Result<Label, ReadRefused>
+        ensures value { IfOk result (λ label. label ≡ text.now) }
+        ensures spelled { OnOk result (IsTrue (is_label text.now)) }
+        ensures refused { IfErr result (IsRefusal is_label text.now) }
+    {
+        let text = read_label_text(alloc, text)?;
+        Ok(Label { text })
+    }
+
     pub fn as_text(&self) -> &Text
         ensures value { result.now ≡ self.now }
         ensures spelled { IsTrue (is_label self.now) }
