@@ -6,6 +6,7 @@
 #![tactic(auto)]
 
 pub mod bytes;
+mod characters;
 pub mod entry;
 pub mod fails;
 pub mod list;
@@ -17,7 +18,11 @@ pub mod reply;
 pub mod request;
 pub mod row_list;
 pub mod rows;
+<<<<<<< HEAD
 pub mod spelled;
+=======
+pub mod secret_id;
+>>>>>>> edd05c263bca1f13c2595524208b1b9c08a10656
 pub mod spelling;
 pub mod text;
 pub mod value;
@@ -36,6 +41,7 @@ pub use request::{
 };
 pub use row_list::RowList;
 pub use rows::{Job, Pair, Rotation, Rows, SecretRow, Stage, VersionRow};
+pub use secret_id::SecretId;
 pub use spelling::{Arn, Label, Name, ReadRefused, Token};
 pub use text::Text;
 pub use value::{Tag, Value};
