@@ -41,3 +41,8 @@ pub use system_clock::SystemClock;
 pub use system_words::SystemWords;
 pub use transfer::{ReadBytes, ReadEnd, Wrote, put_all, read_to};
 pub use words::{Drew, Words};
+
+#[cfg(test)]
+mod adapter_tests;
+#[cfg(test)]
+mod tests;

@@ -60,6 +60,5 @@ impl Clock for ListClock {
 
     fn pause(&mut self)
         ensures same { self.new ≡ self.old }
-    {
-    }
+    {}
 }

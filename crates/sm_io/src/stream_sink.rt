@@ -1,6 +1,9 @@
 //! A sink over any writer.
-ghost use Rattle.std.specs.Prelude.{None};
+ghost use Rattle.std.specs.Prelude.{◌≡◌, ◌<◌, ◌≤◌, length, take, None, IfOk};
 ghost use Rattle.std.specs.Io.{WritesAtMost};
+ghost use Rattle.std.specs.Io.KnownBytes.{Appends, WriteAppends};
+ghost use Rattle.sm_io.specs.Faults.{Rose, raised};
+ghost use Rattle.sm_io.specs.Sink.{IfPut, OnPutFailed};
 
 use crate::sink::{Gave, Sink};
 use std::io;
@@ -35,7 +38,17 @@ impl<W: Write> Sink for StreamSink<W> {
 
     ghost beside_sink = { λ _. (None, 0) };
 
-    fn put(&mut self, piece: &[u8]) -> Gave {
+    fn put(&mut self, piece: &[u8]) -> Gave
+        ensures within { IfPut result (λ n. n ≤ length piece.now) }
+        ensures some { IfPut result (λ n. 0 < length piece.now → 0 < n) }
+        ensures failed { OnPutFailed result (Rose self.old.faults self.new.faults) }
+        ensures later { self.old.faults ≤ self.new.faults }
+
+        // What it does to the writer, where that says what it holds.
+        ensures writes { IfPut result (λ n. Appends (W.contents self.old.writer) (W.contents self.new.writer) (take n piece.now)) }
+        ensures count { OnPutFailed result (self.new.faults ≡ raised self.old.faults) }
+        ensures same_count { IfPut result (λ _. self.new.faults ≡ self.old.faults) }
+    {
         if piece.is_empty() {
             return Gave::Put(0);
         }
@@ -51,7 +64,8 @@ impl<W: Write> Sink for StreamSink<W> {
 
 /// Writes once, and flushes what was written.
 fn write_through<W: Write>(writer: &mut W, piece: &[u8]) -> io::Result<usize>
-    ensures { WritesAtMost result piece.now }
+    ensures bound { WritesAtMost result piece.now }
+    ensures bytes { IfOk result (λ n. Appends (W.contents writer.old) (W.contents writer.new) (take n piece.now)) }
 {
     let count = write_some(writer, piece)?;
     writer.flush()?;
@@ -60,7 +74,8 @@ fn write_through<W: Write>(writer: &mut W, piece: &[u8]) -> io::Result<usize>
 
 /// Writes once, and again where the write was interrupted.
 fn write_some<W: Write>(writer: &mut W, piece: &[u8]) -> io::Result<usize>
-    ensures { WritesAtMost result piece.now }
+    ensures bound { WritesAtMost result piece.now }
+    ensures bytes { WriteAppends (W.contents writer.old) (W.contents writer.new) result piece.now }
 {
     for _ in 1..TRIES {
         match writer.write(piece) {

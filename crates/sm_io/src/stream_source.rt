@@ -1,6 +1,9 @@
 //! A source over any reader.
-ghost use Rattle.std.specs.Prelude.{None};
+ghost use Rattle.std.specs.Prelude.{◌≡◌, ◌<◌, ◌≤◌, length, take, None};
 ghost use Rattle.std.specs.Io.{ReadsAtMost};
+ghost use Rattle.std.specs.Io.KnownBytes.{ReadConsumes, Consumes, Keeps, IsAtEnd};
+ghost use Rattle.sm_io.specs.Faults.{Rose, raised};
+ghost use Rattle.sm_io.specs.Source.{IfGot, OnEnd, OnTakeFailed};
 
 use crate::source::{Source, Took};
 use std::io;
@@ -35,7 +38,19 @@ impl<R: Read> Source for StreamSource<R> {
 
     ghost beside_source = { λ _. (None, 0) };
 
-    fn take(&mut self, buf: &mut [u8]) -> Took {
+    fn take(&mut self, buf: &mut [u8]) -> Took
+        ensures within { IfGot result (λ n. n ≤ length buf.old) }
+        ensures some { IfGot result (λ n. 0 < length buf.old → 0 < n) }
+        ensures failed { OnTakeFailed result (Rose self.old.faults self.new.faults) }
+        ensures later { self.old.faults ≤ self.new.faults }
+
+        // What it does to the reader, where that says what it has left.
+        ensures reads { IfGot result (λ n. Consumes (R.remaining self.old.reader) (R.remaining self.new.reader) (take n buf.new)) }
+        ensures at_end { OnEnd result (IsAtEnd (R.remaining self.new.reader)) }
+        ensures keeps { OnTakeFailed result (Keeps (R.remaining self.old.reader) (R.remaining self.new.reader)) }
+        ensures count { OnTakeFailed result (self.new.faults ≡ raised self.old.faults) }
+        ensures same_count { IfGot result (λ _. self.new.faults ≡ self.old.faults) }
+    {
         if buf.is_empty() {
             return Took::Got(0);
         }
@@ -52,7 +67,8 @@ impl<R: Read> Source for StreamSource<R> {
 
 /// Reads once, and again where the read was interrupted.
 fn read_some<R: Read>(reader: &mut R, buf: &mut [u8]) -> io::Result<usize>
-    ensures { ReadsAtMost result buf.new }
+    ensures bound { ReadsAtMost result buf.new }
+    ensures bytes { ReadConsumes (R.remaining reader.old) (R.remaining reader.new) result buf.new }
 {
     for _ in 1..TRIES {
         match reader.read(buf) {

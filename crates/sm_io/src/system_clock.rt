@@ -5,9 +5,8 @@ ghost use Rattle.sm_model.specs.declared.moment.TheConstants.{LAST_READING};
 use crate::clock::Clock;
 use sm_model::Moment;
 use sm_model::moment::LAST_READING;
-use std::thread;
-use std::time;
 use std::time::{Duration, SystemTime, UNIX_EPOCH};
+use std::{thread, time};
 
 /// How many milliseconds a pause sleeps.
 const PAUSE: u64 = 50;

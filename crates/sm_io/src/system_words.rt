@@ -1,5 +1,7 @@
 //! The system's random words.
-ghost use Rattle.std.specs.Prelude.{◌≡◌, None};
+ghost use Rattle.std.specs.Prelude.{◌≡◌, ◌≤◌, length, None};
+ghost use Rattle.sm_io.specs.Faults.{Rose, raised};
+ghost use Rattle.sm_io.specs.Words.{IfDrew, OnDrawFailed};
 
 use crate::words::{Drew, Words};
 use sm_model::Bytes;
@@ -32,7 +34,13 @@ impl<R: RandomSource> Words for SystemWords<R> {
 
     ghost faults = { λ w. w.faults };
 
-    fn draw(&mut self, n: usize) -> Drew {
+    fn draw(&mut self, n: usize) -> Drew
+        ensures exactly { IfDrew result (λ bytes. length bytes ≡ n) }
+        ensures failed { OnDrawFailed result (Rose self.old.faults self.new.faults) }
+        ensures later { self.old.faults ≤ self.new.faults }
+        ensures count { OnDrawFailed result (self.new.faults ≡ raised self.old.faults) }
+        ensures same_count { IfDrew result (λ _. self.new.faults ≡ self.old.faults) }
+    {
         let mut vec = Vec::new(self.alloc);
         if vec.resize(n, 0).is_err() {
             return Drew::Memory;
