@@ -217,3 +217,25 @@ fn clocks_in_memory_read_what_they_are_given(rt: HostRuntime) -> Result<(), Fail
     );
     Ok(())
 }
+
+/// A value that may cross threads.
+fn sendable<T: Send>(value: T) -> T {
+    value
+}
+
+#[test]
+fn each_form_may_cross_threads(rt: HostRuntime) -> Result<(), Fail> {
+    let alloc = rt.alloc();
+    sendable(QuietSink);
+    sendable(FixedClock::new(Moment(5)));
+    sendable(ListClock::new(List::empty(alloc)));
+    sendable(CountWords::new(alloc, 0, Fails::never(alloc)));
+    sendable(list_words(alloc, Fails::never(alloc))?);
+    sendable(source(alloc, "a", 1, Fails::never(alloc))?);
+    sendable(MemorySink::new(alloc, 1, Fails::never(alloc)));
+    sendable(StreamSource::new(rt.stdin()));
+    sendable(StreamSink::new(rt.stdout()));
+    sendable(SystemWords::new(alloc, &rt));
+    sendable(SystemClock::new(&rt));
+    Ok(())
+}
