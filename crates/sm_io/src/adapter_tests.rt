@@ -103,10 +103,13 @@ impl RandomSource for NoWords {
     }
 }
 
-/// How many bytes a draw of 300 gave.
+/// How many bytes a draw of 300 gave, where they aren't all 0.
 fn drawn_count<W: Words>(words: &mut W) -> Option<usize> {
     match words.draw(300) {
-        Drew::Bytes(bytes) => Some(bytes.len()),
+        Drew::Bytes(bytes) => {
+            let some = bytes.as_slice().iter().any(|byte| *byte != 0);
+            some.then_some(bytes.len())
+        }
         Drew::Failed => None,
         Drew::Memory => None,
     }

@@ -4,7 +4,8 @@ ghost use Rattle.std.specs.Borrow.{ftrue};
 
 use std::marker::Model;
 
-/// How often something happened, or how much of it. It has no bytes: only clauses see it, and it has no last value.
+/// How often something happened, or how much of it. It has no bytes: only clauses see it, and so it has no
+/// last value.
 #[derive(Drop)]
 pub struct Count {
     pub ghost value: { ℕ },

@@ -2,7 +2,7 @@
 ghost use Rattle.std.specs.Prelude.{◌≡◌, ◌↔◌, ◌+◌, ◌≤◌, [], length, IsTrue, IfOk, Some};
 ghost use Rattle.sm_io.specs.Faults.{Rose};
 ghost use Rattle.sm_io.specs.Words.{IfDrew, OnDrawFailed, Draws};
-ghost use Rattle.sm_io.specs.Calls.{fails_next};
+ghost use Rattle.sm_io.specs.Calls.{no_calls, fails_next};
 ghost use Rattle.sm_io.specs.CountWords.{count_up, after_draw};
 
 use crate::calls::Calls;
@@ -36,7 +36,7 @@ impl Model for CountWords {
 impl CountWords {
     /// Words that have drawn nothing. It takes no memory.
     pub fn new(alloc: Global, first: u8, fails: Fails) -> CountWords
-        ensures state { result ≡ record { first = first; count = 0; calls = record { fails = fails; made = 0; faults = 0 } } }
+        ensures state { result ≡ record { first = first; count = 0; calls = no_calls fails } }
         ensures drawn { ⟦<CountWords as Words>⟧.drawn result ≡ Some [] }
         ensures faults { ⟦<CountWords as Words>⟧.faults result ≡ 0 }
     {
@@ -57,7 +57,8 @@ impl Words for CountWords {
 
     fn draw(&mut self, n: usize) -> Drew
         ensures exactly { IfDrew result (λ bytes. length bytes ≡ n) }
-        ensures bytes { Draws result (Some (count_up self.old.first self.old.count)) (Some (count_up self.new.first self.new.count)) }
+        ensures bytes { Draws result (Some (count_up self.old.first self.old.count))
+            (Some (count_up self.new.first self.new.count)) }
         ensures failed { OnDrawFailed result (Rose self.old.calls.faults self.new.calls.faults) }
         ensures later { self.old.calls.faults ≤ self.new.calls.faults }
 

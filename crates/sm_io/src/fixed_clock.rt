@@ -47,7 +47,8 @@ impl Clock for FixedClock {
 
     fn now(&mut self) -> Moment
         ensures bound { result.0 ≤ LAST_READING }
-        ensures told { Some (fixed_readings self.new) ≡ append_known (Some (fixed_readings self.old)) (result.0 ∷ []) }
+        ensures told { Some (fixed_readings self.new)
+            ≡ append_known (Some (fixed_readings self.old)) (result.0 ∷ []) }
 
         // Exactly what it reads.
         ensures exact { result ≡ self.old.moment }
@@ -59,6 +60,5 @@ impl Clock for FixedClock {
 
     fn pause(&mut self)
         ensures same { self.new ≡ self.old }
-    {
-    }
+    {}
 }

@@ -49,7 +49,8 @@ impl Clock for ListClock {
 
     fn now(&mut self) -> Moment
         ensures bound { result.0 ≤ LAST_READING }
-        ensures told { Some (list_readings self.new) ≡ append_known (Some (list_readings self.old)) (result.0 ∷ []) }
+        ensures told { Some (list_readings self.new)
+            ≡ append_known (Some (list_readings self.old)) (result.0 ∷ []) }
 
         // Exactly what it reads.
         ensures exact { result.0 ≡ reading_at self.old.moments self.old.count }
@@ -65,8 +66,7 @@ impl Clock for ListClock {
 
     fn pause(&mut self)
         ensures same { self.new ≡ self.old }
-    {
-    }
+    {}
 }
 
 /// The moment at a place of a list, and 0 where the list is empty.
