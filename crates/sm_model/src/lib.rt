@@ -11,11 +11,13 @@ pub mod fails;
 pub mod list;
 pub mod memory;
 pub mod moment;
+mod parts;
 pub mod person;
 pub mod reply;
 pub mod request;
 pub mod row_list;
 pub mod rows;
+pub mod spelled;
 pub mod spelling;
 pub mod text;
 pub mod value;
@@ -30,11 +32,11 @@ pub use moment::Moment;
 pub use person::Person;
 pub use reply::{CreatedSecret, GotSecret, NamedSecret, PutValue, Reply};
 pub use request::{
-    CreateSecret, GetSecretValue, PutSecretValue, Request, UpdateSecretVersionStage,
+    CreateSecret, GetSecretValue, PutSecretValue, Request, UpdateSecretVersionStage, need,
 };
 pub use row_list::RowList;
 pub use rows::{Job, Pair, Rotation, Rows, SecretRow, Stage, VersionRow};
-pub use spelling::{Arn, Label, Name, Token};
+pub use spelling::{Arn, Label, Name, ReadRefused, Token};
 pub use text::Text;
 pub use value::{Tag, Value};
-pub use why::{What, Why};
+pub use why::{BadKind, What, Why};

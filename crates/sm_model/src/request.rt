@@ -1,4 +1,7 @@
 //! Requests: one variant for each operation, with the members of its JSON body in snake case.
+ghost use Rattle.std.specs.Prelude.{◌≡◌};
+ghost use Rattle.sm_model.specs.Needed.{needed, token_bytes};
+
 use crate::bytes::Bytes;
 use crate::list::List;
 use crate::text::Text;
@@ -50,4 +53,28 @@ pub enum Request {
     GetSecretValue(GetSecretValue),
     PutSecretValue(PutSecretValue),
     UpdateSecretVersionStage(UpdateSecretVersionStage),
+}
+
+/// How many random bytes are drawn for a request, as its body was read: 6 for the end of a new secret's ARN,
+/// and 16 for a token that is wanted and not given.
+pub fn need(request: &Request) -> usize
+    ensures { result ≡ needed request.now }
+{
+    match request {
+        Request::CreateSecret(create) => {
+            if create.secret_string.is_some() || create.secret_binary.is_some() {
+                6 + need_for_token(&create.client_request_token)
+            } else {
+                6
+            }
+        }
+        Request::PutSecretValue(put) => need_for_token(&put.client_request_token),
+        Request::GetSecretValue(_) | Request::UpdateSecretVersionStage(_) => 0,
+    }
+}
+
+fn need_for_token(token: &Option<Text>) -> usize
+    ensures { result ≡ token_bytes token.now }
+{
+    if token.is_some() { 0 } else { 16 }
 }

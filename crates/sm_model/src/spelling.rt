@@ -1,11 +1,48 @@
 //! Names, tokens, labels and ARNs: texts in their spelling.
-ghost use Rattle.std.specs.Prelude.{◌≡◌, ◌↔◌, IsTrue, IfOk};
+ghost use Rattle.std.specs.Prelude.{◌≡◌, ◌↔◌, IsTrue, IfOk, OnOk, IfErr, string_bytes};
 ghost use Rattle.sm_model.specs.Spelling.{is_name, is_token, is_label, is_arn};
+ghost use Rattle.sm_model.specs.Reading.{IsRefusal};
+ghost use Rattle.sm_model.specs.Drawn.{drawn_token, drawn_arn, suffix_character};
 
 use crate::memory::{Copied, NoMemory};
+use crate::parts::{NAME, TOKEN, read_parts};
 use crate::text::Text;
 use std::alloc::Global;
+use std::error::Error;
+use std::fmt;
 use std::marker::Model;
+use uuid::Builder;
+
+/// Why a text was not read.
+#[derive(Clone, Copy, Debug, PartialEq, Eq)]
+pub enum ReadRefused {
+    /// It is not in the spelling. The number is the first place, in bytes, at which no continuation is, or the
+    /// text's length.
+    Spelling(usize),
+    Memory,
+}
+
+impl fmt::Display for ReadRefused {
+    fn fmt<W: fmt::Write>(&self, f: &mut fmt::Formatter<W>) -> fmt::Result {
+        match self {
+            ReadRefused::Spelling(place) => write!(f, "not in the spelling at byte {place}"),
+            ReadRefused::Memory => f.write_str("out of memory"),
+        }
+    }
+}
+
+impl Error for ReadRefused {}
+
+impl From<NoMemory> for ReadRefused {
+    ghost use Rattle.std.specs.Prelude.{◌≡◌};
+    ghost use Rattle.sm_model.specs.declared.spelling.ReadRefused.TheVariants.{Memory};
+
+    ghost from_gives = { λ _ refused. refused ≡ Memory };
+
+    fn from(_error: NoMemory) -> ReadRefused {
+        ReadRefused::Memory
+    }
+}
 
 /// The name of a secret: 1 to 512 ASCII letters, digits and `/_+=.@-`.
 #[derive(Drop)]
@@ -25,6 +62,25 @@ impl Model for Name {
 }
 
 impl Name {
+    /// The name of a text that is spelled as one.
+    pub fn new(text: Text) -> Name
+        requires { IsTrue (is_name text) }
+        ensures { result ≡ text }
+    {
+        Name { text }
+    }
+
+    /// Reads a name.
+    #[tactic(auto, using(crate::proofs::RunLemmas::name_is_run, crate::proofs::RunLemmas::name_refusal))]
+    pub fn read(alloc: Global, text: &[u8]) -> Result<Name, ReadRefused>
+        ensures value { IfOk result (λ name. name ≡ text.now) }
+        ensures spelled { OnOk result (IsTrue (is_name text.now)) }
+        ensures refused { IfErr result (IsRefusal is_name text.now) }
+    {
+        let text = read_parts(alloc, &NAME, text)?;
+        Ok(Name { text })
+    }
+
     pub fn as_text(&self) -> &Text
         ensures value { result.now ≡ self.now }
         ensures spelled { IsTrue (is_name self.now) }
@@ -65,6 +121,37 @@ impl Model for Token {
 }
 
 impl Token {
+    /// The token of a text that is spelled as one.
+    pub fn new(text: Text) -> Token
+        requires { IsTrue (is_token text) }
+        ensures { result ≡ text }
+    {
+        Token { text }
+    }
+
+    /// Reads a token.
+    #[tactic(auto, using(crate::proofs::RunLemmas::token_is_run, crate::proofs::RunLemmas::token_refusal))]
+    pub fn read(alloc: Global, text: &[u8]) -> Result<Token, ReadRefused>
+        ensures value { IfOk result (λ token. token ≡ text.now) }
+        ensures spelled { OnOk result (IsTrue (is_token text.now)) }
+        ensures refused { IfErr result (IsRefusal is_token text.now) }
+    {
+        let text = read_parts(alloc, &TOKEN, text)?;
+        Ok(Token { text })
+    }
+
+    /// The version 4 UUID of 16 random bytes, in lower-case hexadecimal digits with hyphens.
+    #[tactic(auto, using(crate::proofs::DrawnLemmas::hyphenated_is_token))]
+    pub fn drawn(alloc: Global, bytes: &[u8; 16]) -> Result<Token, NoMemory>
+        ensures { IfOk result (λ token. token ≡ drawn_token bytes.now) }
+    {
+        let uuid = Builder::from_random_bytes(*bytes).into_uuid();
+        let text = uuid.hyphenated().to_string(alloc)?;
+        Ok(Token {
+            text: Text::new(text),
+        })
+    }
+
     pub fn as_text(&self) -> &Text
         ensures value { result.now ≡ self.now }
         ensures spelled { IsTrue (is_token self.now) }
@@ -105,14 +192,12 @@ impl Model for Label {
 }
 
 impl Label {
-    /// A label of the program's own. It takes no memory.
-    pub fn fixed(text: &'static str) -> Label
-        requires { IsTrue (is_label text.now) }
-        ensures { result ≡ text.now }
+    /// The label of a text that is spelled as one.
+    pub fn new(text: Text) -> Label
+        requires { IsTrue (is_label text) }
+        ensures { result ≡ text }
     {
-        Label {
-            text: Text::fixed(text),
-        }
+        Label { text }
     }
 
     pub fn as_text(&self) -> &Text
@@ -156,6 +241,17 @@ impl Model for Arn {
 }
 
 impl Arn {
+    /// The ARN of a new secret with this name: it ends in the characters of six random bytes.
+    #[tactic(auto, using(crate::proofs::DrawnLemmas::drawn_arn_is_arn))]
+    pub fn drawn(alloc: Global, name: &Name, six: &[u8; 6]) -> Result<Arn, NoMemory>
+        ensures { IfOk result (λ arn. arn ≡ drawn_arn name.now six.now) }
+    {
+        let text = drawn_arn_text(alloc, name.as_text(), six)?;
+        Ok(Arn {
+            text: Text::new(text),
+        })
+    }
+
     pub fn as_text(&self) -> &Text
         ensures value { result.now ≡ self.now }
         ensures spelled { IsTrue (is_arn self.now) }
@@ -169,6 +265,37 @@ impl Arn {
     {
         self.text.equals(&other.text)
     }
+}
+
+#[tactic(auto, unfolding(crate::specs::Drawn::drawn_arn))]
+fn drawn_arn_text(alloc: Global, name: &Text, six: &[u8; 6]) -> Result<String, NoMemory>
+    ensures { IfOk result (λ text. string_bytes text ≡ drawn_arn name.now six.now) }
+{
+    let mut text = String::from_str(
+        alloc,
+        "arn:aws:secretsmanager:us-east-1:000000000000:secret:",
+    )?;
+    text.push_str(name.as_str())?;
+    text.push('-')?;
+    for byte in six {
+        text.push(suffix_character(*byte))?;
+    }
+    Ok(text)
+}
+
+/// The character of a random byte at the end of an ARN: the byte modulo 62, into `A` to `Z`, `a` to `z`, `0` to `9`.
+fn suffix_character(byte: u8) -> char
+    ensures { result ≡ suffix_character byte }
+{
+    let n = byte % 62;
+    let character = if n < 26 {
+        b'A' + n
+    } else if n < 52 {
+        b'a' + (n - 26)
+    } else {
+        b'0' + (n - 52)
+    };
+    char::from(character)
 }
 
 impl Copied for Arn {

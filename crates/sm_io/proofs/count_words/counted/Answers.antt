@@ -1,0 +1,7 @@
+use Rattle.std.proofs.Common.{arith}
+use Rattle.std.proofs.lemmas.Grind.{common_steps}
+use Rattle.sm_io.proofs.Counting.{count_up-push}
+use Rattle.sm_io.proofs.count_words.counted.Goals as goal
+
+pub loop-k-preserved : goal.loop-k-preserved
+loop-k-preserved c = grind (arith, common_steps, count_up-push c.args.from c.loop-k.k (omega arith))

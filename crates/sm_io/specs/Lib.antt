@@ -1,0 +1,11 @@
+pub mod Calls
+pub mod CountWords
+pub mod Faults
+pub mod ListClock
+pub mod ListWords
+pub mod MemorySink
+pub mod MemorySource
+pub mod Source
+pub mod Sink
+pub mod Transfer
+pub mod Words

@@ -1,0 +1,95 @@
+//! Random words in memory that count up.
+ghost use Rattle.std.specs.Prelude.{◌≡◌, ◌↔◌, ◌+◌, ◌-◌, ◌≤◌, [], length, IsTrue, IfOk, Some};
+ghost use Rattle.sm_io.specs.Faults.{Rose};
+ghost use Rattle.sm_io.specs.Words.{IfDrew, OnDrawFailed, Draws};
+ghost use Rattle.sm_io.specs.Calls.{fails_next};
+ghost use Rattle.sm_io.specs.CountWords.{count_up, after_draw};
+
+use crate::calls::Calls;
+use crate::words::{Drew, Words};
+use sm_model::{Bytes, Fails, NoMemory};
+use std::alloc::Global;
+use std::marker::Model;
+
+/// Words that draw a first byte, the first plus 1, and on, modulo 256, unless a call is told to fail. A draw
+/// that would come past 2^64 - 1 finds no memory.
+#[derive(Drop)]
+pub struct CountWords {
+    alloc: Global,
+    first: u8,
+    next: u64,
+    calls: Calls,
+}
+
+impl Model for CountWords {
+    ghost use Rattle.std.specs.Prelude.{◌-◌, ◌≤◌};
+    ghost use Rattle.sm_io.specs.CountWords.{CountState};
+
+    ghost Value = { CountState };
+
+    ghost view = { λ w. record { first = w.first; count = w.next - w.first; calls = w.calls } };
+
+    ghost invariant = { λ w. w.first ≤ w.next };
+}
+
+impl CountWords {
+    /// Words that have drawn nothing. It takes no memory.
+    pub fn new(alloc: Global, first: u8, fails: Fails) -> CountWords
+        ensures state { result ≡ record { first = first; count = 0; calls = record { fails = fails; made = 0; faults = 0 } } }
+        ensures drawn { ⟦<CountWords as Words>⟧.drawn result ≡ Some [] }
+        ensures faults { ⟦<CountWords as Words>⟧.faults result ≡ 0 }
+    {
+        CountWords {
+            alloc,
+            first,
+            next: first as u64,
+            calls: Calls::new(fails),
+        }
+    }
+}
+
+impl Words for CountWords {
+    ghost drawn = { λ w. Some (count_up w.first w.count) };
+
+    ghost faults = { λ w. w.calls.faults };
+
+    fn draw(&mut self, n: usize) -> Drew
+        ensures exactly { IfDrew result (λ bytes. length bytes ≡ n) }
+        ensures bytes { Draws result (Some (count_up self.old.first self.old.count)) (Some (count_up self.new.first self.new.count)) }
+        ensures failed { OnDrawFailed result (Rose self.old.calls.faults self.new.calls.faults) }
+        ensures later { self.old.calls.faults ≤ self.new.calls.faults }
+
+        // Exactly which call fails and which bytes the others draw.
+        ensures told { (result ≡ Drew.Failed) ↔ IsTrue (fails_next self.old.calls) }
+        ensures next { IfDrew result (λ bytes. bytes ≡ count_up (self.old.first + self.old.count) n) }
+        ensures after { self.new ≡ after_draw self.old result }
+    {
+        if self.calls.next_fails() {
+            self.calls.count_fault();
+            return Drew::Failed;
+        }
+        self.calls.count_call();
+        let Some(end) = self.next.checked_add(n as u64) else {
+            return Drew::Memory;
+        };
+        match counted(self.alloc, self.next, end) {
+            Ok(bytes) => {
+                self.next = end;
+                Drew::Bytes(Bytes::new(bytes))
+            }
+            Err(_) => Drew::Memory,
+        }
+    }
+}
+
+/// The numbers from one up to another, modulo 256.
+fn counted(alloc: Global, from: u64, to: u64) -> Result<Vec<u8>, NoMemory>
+    requires { from ≤ to }
+    ensures { IfOk result (λ vec. vec.items ≡ count_up from (to - from)) }
+{
+    let mut vec = Vec::with_capacity(alloc, (to - from) as usize)?;
+    for k in from..to {
+        vec.push((k % 256) as u8)?;
+    }
+    Ok(vec)
+}

@@ -1,0 +1,43 @@
+//! The outside of a program as traits with exact contracts: sources and sinks of bytes, random words and
+//! clocks, with forms of each in memory, adapters over the system's, and the loops above them.
+//!
+//! What an object of the outside holds is told optionally: a ghost member gives `Some` content, or `None`
+//! where the object can't say, and each clause is an equation that holds either way. What fails counts its
+//! faults, and answers `Failed` only where its count rose in that call.
+#![tactic(auto)]
+
+pub mod calls;
+pub mod clock;
+pub mod count_words;
+pub mod fixed_clock;
+pub mod list_clock;
+pub mod list_words;
+pub mod memory_sink;
+pub mod memory_source;
+pub mod quiet_sink;
+pub mod sink;
+pub mod source;
+pub mod stream_sink;
+pub mod stream_source;
+pub mod system_clock;
+pub mod system_words;
+pub mod transfer;
+pub mod words;
+
+pub use calls::Calls;
+pub use clock::Clock;
+pub use count_words::CountWords;
+pub use fixed_clock::FixedClock;
+pub use list_clock::ListClock;
+pub use list_words::ListWords;
+pub use memory_sink::MemorySink;
+pub use memory_source::MemorySource;
+pub use quiet_sink::QuietSink;
+pub use sink::{Gave, Sink};
+pub use source::{Source, Took};
+pub use stream_sink::StreamSink;
+pub use stream_source::StreamSource;
+pub use system_clock::SystemClock;
+pub use system_words::SystemWords;
+pub use transfer::{ReadBytes, ReadEnd, Wrote, put_all, read_to};
+pub use words::{Drew, Words};

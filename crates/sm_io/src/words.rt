@@ -1,0 +1,30 @@
+//! Where random bytes come from.
+ghost use Rattle.std.specs.Prelude.{◌≡◌, ◌≤◌, ℕ, List, Option, length};
+ghost use Rattle.sm_io.specs.Faults.{Rose};
+ghost use Rattle.sm_io.specs.Words.{IfDrew, OnDrawFailed, Draws};
+
+use sm_model::Bytes;
+
+/// What a draw answers: the bytes, that it failed, or that there was no memory for them.
+#[derive(Drop)]
+pub enum Drew {
+    Bytes(Bytes),
+    Failed,
+    Memory,
+}
+
+/// A source of random bytes.
+pub trait Words {
+    /// The bytes that were drawn so far, where it tells them.
+    ghost drawn: { Self → Option (List ℕ) };
+
+    /// How often it has failed. At 2^64 - 1 the count stands.
+    ghost faults: { Self → ℕ };
+
+    /// Draws exactly n bytes, or none.
+    fn draw(&mut self, n: usize) -> Drew
+        ensures exactly { IfDrew result (λ bytes. length bytes ≡ n) }
+        ensures bytes { Draws result (drawn self.old) (drawn self.new) }
+        ensures failed { OnDrawFailed result (Rose (faults self.old) (faults self.new)) }
+        ensures later { faults self.old ≤ faults self.new };
+}

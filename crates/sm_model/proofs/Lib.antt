@@ -1,0 +1,4 @@
+pub mod DrawnLemmas
+pub mod FaultLemmas
+pub mod PartLemmas
+pub mod RunLemmas

@@ -1,0 +1,158 @@
+//! Spellings of several parts, one after the other.
+ghost use Rattle.std.specs.Prelude.{◌≡◌, ◌≤◌, length, IfOk, OnOk, IfErr, IsTrue};
+ghost use Rattle.sm_model.specs.Spelling.{is_name_byte, is_token_byte, is_region_byte};
+ghost use Rattle.sm_model.specs.Parts.{is_in, admits, least, reach, fault_from, has_parts, are_apart, is_ascii_part};
+ghost use Rattle.std.specs.Str.{is_utf8};
+ghost use Rattle.std.specs.List.{list_all};
+ghost use Rattle.sm_model.specs.Reading.{IsRefusal};
+
+use crate::memory::NoMemory;
+use crate::spelling::ReadRefused;
+use crate::text::Text;
+use std::alloc::Global;
+use std::str;
+
+/// The bytes that a run may have.
+#[derive(Clone, Copy)]
+pub(crate) enum Alphabet {
+    /// ASCII letters, digits and `/_+=.@-`.
+    NameBytes,
+    /// From `!` to `~`.
+    TokenBytes,
+    /// Lower-case ASCII letters, digits and `-`.
+    RegionBytes,
+    Digits,
+}
+
+impl Alphabet {
+    fn contains(self, byte: u8) -> bool
+        ensures { result ≡ is_in self byte }
+    {
+        match self {
+            Alphabet::NameBytes => is_name_byte(byte),
+            Alphabet::TokenBytes => is_token_byte(byte),
+            Alphabet::RegionBytes => is_region_byte(byte),
+            Alphabet::Digits => byte.is_ascii_digit(),
+        }
+    }
+}
+
+#[tactic(auto, unfolding(crate::specs::Spelling::is_name_byte))]
+pub(crate) fn is_name_byte(byte: u8) -> bool
+    ensures { result ≡ is_name_byte byte }
+{
+    byte.is_ascii_alphanumeric() || b"/_+=.@-".contains(&byte)
+}
+
+#[tactic(auto, unfolding(crate::specs::Spelling::is_token_byte))]
+pub(crate) fn is_token_byte(byte: u8) -> bool
+    ensures { result ≡ is_token_byte byte }
+{
+    (b'!'..=b'~').contains(&byte)
+}
+
+#[tactic(auto, unfolding(crate::specs::Spelling::is_region_byte))]
+fn is_region_byte(byte: u8) -> bool
+    ensures { result ≡ is_region_byte byte }
+{
+    byte.is_ascii_lowercase() || byte.is_ascii_digit() || byte == b'-'
+}
+
+/// A part of a spelling.
+#[derive(Clone, Copy)]
+pub(crate) enum Part {
+    /// These very bytes.
+    Literal(&'static [u8]),
+    /// At least and at most so many bytes of an alphabet.
+    Run(Alphabet, usize, usize),
+}
+
+pub(crate) const NAME: [Part; 1] = [Part::Run(Alphabet::NameBytes, 1, 512)];
+
+pub(crate) const TOKEN: [Part; 1] = [Part::Run(Alphabet::TokenBytes, 32, 64)];
+
+pub(crate) const ARN: [Part; 6] = [
+    Part::Literal(b"arn:aws:secretsmanager:"),
+    Part::Run(Alphabet::RegionBytes, 1, 32),
+    Part::Literal(b":"),
+    Part::Run(Alphabet::Digits, 12, 12),
+    Part::Literal(b":secret:"),
+    Part::Run(Alphabet::NameBytes, 1, 519),
+];
+
+impl Part {
+    /// Whether the part may have the byte at a place, counted from its own first byte.
+    fn admits(&self, place: usize, byte: u8) -> bool
+        ensures { result ≡ admits self.now place byte }
+    {
+        match self {
+            Part::Literal(bytes) => place < bytes.len() && bytes[place] == byte,
+            Part::Run(alphabet, _, greatest) => place < *greatest && alphabet.contains(byte),
+        }
+    }
+
+    /// How many bytes it has at least.
+    fn least(&self) -> usize
+        ensures { result ≡ least self.now }
+    {
+        match self {
+            Part::Literal(bytes) => bytes.len(),
+            Part::Run(_, least, _) => *least,
+        }
+    }
+
+    /// How many bytes at the front of a text the part takes.
+    fn reach(&self, text: &[u8]) -> usize
+        ensures value { result ≡ reach self.now text.now }
+        ensures within { result ≤ length text.now }
+    {
+        for (place, byte) in text.iter().enumerate() {
+            if !self.admits(place, *byte) {
+                return place;
+            }
+        }
+        text.len()
+    }
+}
+
+/// The place at which a text leaves the parts, or none where it has them all and nothing more.
+#[tactic(auto, using(crate::proofs::PartLemmas::fault_from_all, crate::proofs::PartLemmas::fault_from_more))]
+pub(crate) fn first_fault(parts: &[Part], text: &[u8]) -> Option<usize>
+    ensures { result ≡ fault_from 0 parts.now text.now }
+{
+    let mut at = 0;
+    for part in parts {
+        let reach = part.reach(&text[at..]);
+        at += reach;
+        if reach < part.least() {
+            return Some(at);
+        }
+    }
+    if at < text.len() { Some(at) } else { None }
+}
+
+#[tactic(auto, using(crate::proofs::PartLemmas::no_fault, crate::proofs::PartLemmas::fault_place))]
+/// The text of bytes that have the parts, one after the other, and nothing more.
+pub(crate) fn read_parts(alloc: Global, parts: &[Part], bytes: &[u8]) -> Result<Text, ReadRefused>
+    requires apart { IsTrue (are_apart parts.now) }
+    requires ascii { IsTrue (list_all is_ascii_part parts.now) }
+    ensures value { IfOk result (λ text. text ≡ bytes.now) }
+    ensures spelled { OnOk result (IsTrue (has_parts parts.now bytes.now)) }
+    ensures refused { IfErr result (IsRefusal (has_parts parts.now) bytes.now) }
+{
+    match first_fault(parts, bytes) {
+        Some(place) => Err(ReadRefused::Spelling(place)),
+        None => Ok(text_of(alloc, bytes)?),
+    }
+}
+
+#[tactic(auto, using(crate::proofs::PartLemmas::utf8_is_text))]
+fn text_of(alloc: Global, bytes: &[u8]) -> Result<Text, NoMemory>
+    requires { IsTrue (is_utf8 bytes.now) }
+    ensures { IfOk result (λ text. text ≡ bytes.now) }
+{
+    match str::from_utf8(bytes) {
+        Ok(text) => Text::from_str(alloc, text),
+        Err(_) => unreachable!(),
+    }
+}
