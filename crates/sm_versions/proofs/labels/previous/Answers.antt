@@ -4,4 +4,4 @@ use Rattle.sm_versions.proofs.TextLemmas.{ascii_label}
 use Rattle.sm_versions.proofs.labels.previous.Goals as goal
 
 pub new-requires : goal.new-requires
-new-requires c = ascii_label _ refl refl
+new-requires c = rw c.fixed.ensures (ascii_label _ refl refl)
