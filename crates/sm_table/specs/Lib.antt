@@ -1,0 +1,4 @@
+pub mod Sweep
+pub mod Changes
+pub mod Ready
+pub mod Kept
