@@ -6,18 +6,13 @@ use Rattle.sm_model.specs.declared.entry.Change.TheVariants.{Add, Replace, Drop,
 use Rattle.sm_model.specs.declared.rows.SecretRow.{SecretRow}
 use Rattle.sm_model.specs.declared.rows.Rows.{Rows}
 use Rattle.sm_model.specs.Drawn.{drawn_arn}
-use Rattle.sm_versions.specs.Texts.{same_text}
-use Rattle.sm_table.specs.Sweep.{swept, sweep}
+use Rattle.sm_table.specs.Sweep.{swept}
+use Rattle.sm_table.specs.Found.{row_named}
 
 -- the first row with the serial
 abbrev pub row_with : List SecretRow → ℕ → Option SecretRow
 row_with [] serial = None
 row_with (r ∷ rs) serial = if nat_eq r.serial serial then Some r else row_with rs serial
-
--- the first row with the name
-abbrev pub row_named : List SecretRow → List ℕ → Option SecretRow
-row_named [] name = None
-row_named (r ∷ rs) name = if same_text r.name name then Some r else row_named rs name
 
 -- the row in the place of the first one with its serial
 abbrev pub replaced : List SecretRow → SecretRow → List SecretRow

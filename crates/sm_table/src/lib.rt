@@ -3,6 +3,7 @@
 #![tactic(auto)]
 
 pub mod edits;
+pub mod search;
 pub mod table;
 
 pub use table::{Prepared, Table};

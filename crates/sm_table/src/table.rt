@@ -115,6 +115,18 @@ impl Table {
     }
 }
 
+impl RowList for Table {
+    ghost rows = { λ table. table.secrets };
+
+    fn count(&self) -> usize {
+        self.secrets.len()
+    }
+
+    fn at(&self, i: usize) -> Option<&SecretRow> {
+        self.secrets.get(i)
+    }
+}
+
 /// Room for a row beside so many others, where the change adds one.
 fn room_of(alloc: Global, change: &Change, count: usize) -> Result<Vec<SecretRow>, NoMemory>
     requires { count < 2 ^ 63 }
