@@ -2,6 +2,7 @@
 ghost use Rattle.std.specs.Prelude.{◌≡◌, ℕ, [], IfOk, ◌^◌, ◌<◌, ◌≤◌, vec_capacity};
 ghost use Rattle.sm_table.specs.Sweep.{sweep};
 ghost use Rattle.sm_table.specs.Changes.{changed, CanMake, StandsAt, room_for, PreparedChange};
+ghost use Rattle.sm_table.specs.Kept.{RowsKept, ChangeKept, NamesKept};
 
 use crate::edits;
 use sm_model::{Change, Copied, List, Moment, NoMemory, RowList, Rows, SecretRow};
@@ -95,7 +96,18 @@ impl Table {
     pub fn commit(&mut self, prepared: Prepared, moment: Moment)
         requires unchanged { prepared.before ≡ self.old }
         requires stands { StandsAt self.old moment prepared.change }
-        ensures { self.new ≡ changed (sweep self.old moment) prepared.change }
+        ensures rows { self.new ≡ changed (sweep self.old moment) prepared.change }
+        ensures kept { RowsKept self.old → ChangeKept prepared.change → RowsKept self.new }
+        ensures named { RowsKept self.old → NamesKept self.old → NamesKept self.new }
+    {
+        self.make(prepared, moment);
+    }
+
+    /// The same as `commit`.
+    fn make(&mut self, prepared: Prepared, moment: Moment)
+        requires { prepared.before ≡ self.old }
+        ensures rows { self.new ≡ changed (sweep self.old moment) prepared.change }
+        ensures can { CanMake self.old prepared.change }
     {
         let Prepared {
             change,
