@@ -1,4 +1,8 @@
+pub mod ArnLemmas
+pub mod CharacterLemmas
 pub mod DrawnLemmas
 pub mod FaultLemmas
+pub mod LabelLemmas
 pub mod PartLemmas
 pub mod RunLemmas
+pub mod SecretIdLemmas

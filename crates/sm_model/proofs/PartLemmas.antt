@@ -3,19 +3,21 @@ use Rattle.std.proofs.Common.{◌≡◌, ℕ, zero, suc, ◌+◌, ◌-◌, ◌<�
 use Rattle.std.proofs.Math.Seq.{take-add}
 use Rattle.std.proofs.lemmas.List.{drop_more, drop_all, drop_at, take-append-drop, length-take-le, length-drop, length-replicate, get_or-replicate, append_assoc}
 use Rattle.std.proofs.lemmas.List.Folds.{list_all-append}
-use Rattle.std.proofs.lemmas.Str.{IsUtf8-from_ascii, is_utf8-from_IsUtf8, IsUtf8-from_is_utf8}
+use Rattle.std.proofs.lemmas.Str.{IsUtf8-from_ascii, is_utf8-from_IsUtf8}
 use Rattle.std.specs.Char.{is_ascii}
 use Rattle.std.specs.List.{list_all}
-use Rattle.std.specs.Str.{is_utf8, IsUtf8}
+use Rattle.std.specs.Str.{is_utf8}
 use Rattle.std.proofs.lemmas.Bool.{eqb-true, cases_Bool, cases_lt, and_parts, and_from, and_right, not-true, eq-eqb, false≢true, le-leb, lt-leb, leb-true, ltb-true, lt-ltb, le-ltb}
 use Rattle.std.proofs.lemmas.Bool.Decides.{nat_tests}
 use Rattle.sm_model.specs.declared.parts.Alphabet.{Alphabet}
 use Rattle.sm_model.specs.declared.parts.Alphabet.TheVariants.{NameBytes, TokenBytes, RegionBytes, Digits}
+use Rattle.sm_model.specs.declared.parts.Word.{Word}
+use Rattle.sm_model.specs.declared.parts.Word.TheVariants.{ArnStart, Colon, ResourceType}
 use Rattle.sm_model.specs.declared.parts.Part.{Part}
 use Rattle.sm_model.specs.declared.parts.Part.TheVariants.{Literal, Run}
 use Rattle.sm_model.specs.Spelling.{is_name_byte, is_token_byte, is_region_byte}
 use Rattle.sm_model.specs.FirstFault.{IsFirstFault, CanBecomeSpelled}
-use Rattle.sm_model.specs.Parts.{is_in, admits, least, reach, reach_from, fault_from, has_parts, sample_byte, sample_part, sample, is_apart, are_apart, is_ascii_part}
+use Rattle.sm_model.specs.Parts.{is_in, admits, least, reach, reach_from, fault_from, has_parts, sample_byte, sample_part, sample, is_apart, are_apart, word_bytes}
 
 -- after the last part: nothing may be left
 pub fault_from_all : (start i at : ℕ) (parts : List Part) (text : List ℕ)
@@ -36,7 +38,7 @@ pub reach_stop : (part : Part) (place byte : ℕ) (rest : List ℕ) → admits p
 reach_stop part place byte rest refused = rw refused refl
 
 -- the bytes that a part takes, whatever follows them
-reach_front : (part : Part) (place : ℕ) (text more : List ℕ)
+pub reach_front : (part : Part) (place : ℕ) (text more : List ℕ)
     → reach_from part place (take (reach_from part place text) text ++ more)
     ≡ reach_from part place text + reach_from part (place + reach_from part place text) more
 reach_front part place [] more = rw (add-zero, zero-add) refl
@@ -100,13 +102,13 @@ sample_is_in Digits = refl
 apart_stops : (part : Part) (following : List ℕ) (place : ℕ) → is_apart part following ≡ true → least part ≤ place
     → reach_from part place following ≡ 0
 apart_stops part [] place apart enough = refl
-apart_stops (Literal bytes) (byte ∷ rest) place apart enough = reach_stop (Literal bytes) place byte rest (rw (le-ltb place (length bytes.now) enough) refl)
+apart_stops (Literal word) (byte ∷ rest) place apart enough = reach_stop (Literal word) place byte rest (rw (le-ltb place (length (word_bytes word)) enough) refl)
 apart_stops (Run alphabet low high) (byte ∷ rest) place apart enough =
     reach_stop (Run alphabet low high) place byte rest
     (and_right (nat_lt place high) (is_in alphabet byte) (not-true (is_in alphabet byte) (and_parts (nat_le low high) (not (is_in alphabet byte)) apart).1))
 
 length_sample : (part : Part) → length (sample_part part) ≡ least part
-length_sample (Literal bytes) = refl
+length_sample (Literal word) = refl
 length_sample (Run alphabet low high) = length-replicate low (sample_byte alphabet)
 
 has_room : (alphabet : Alphabet) (low high : ℕ) (following : List ℕ) → is_apart (Run alphabet low high) following ≡ true → low ≤ high
@@ -115,8 +117,8 @@ has_room alphabet low high (byte ∷ rest) apart = leb-true low high (and_parts 
 
 sample_admitted : (part : Part) (following : List ℕ) (place : ℕ) → is_apart part following ≡ true → place < least part
     → admits part place (get_or (sample_part part) place 0) ≡ true
-sample_admitted (Literal bytes) following place apart under =
-    and_from _ _ (lt-ltb place (length bytes.now) under) (eq-eqb (get_or bytes.now place 0) (get_or bytes.now place 0) refl)
+sample_admitted (Literal word) following place apart under =
+    and_from _ _ (lt-ltb place (length (word_bytes word)) under) (eq-eqb (get_or (word_bytes word) place 0) (get_or (word_bytes word) place 0) refl)
 sample_admitted (Run alphabet low high) following place apart under =
     let room : low ≤ high = has_room alphabet low high following apart in
     rw (get_or-replicate low place (sample_byte alphabet) 0 under)
@@ -133,7 +135,7 @@ sample_taken part following (suc more) place apart sum =
     ∙ ap (λ n. n + 1) (sample_taken part following more (place + 1) apart (omega arith)) ∙ add-one more)
 
 -- a text in two: what its first part takes, and the rest
-has_parts_split : (part : Part) (parts : List Part) (front rest : List ℕ) → reach part (front ++ rest) ≡ length front
+pub has_parts_split : (part : Part) (parts : List Part) (front rest : List ℕ) → reach part (front ++ rest) ≡ length front
     → has_parts (part ∷ parts) (front ++ rest) ≡ (nat_le (least part) (length front) && has_parts parts rest)
 has_parts_split part parts front rest taken = rw (taken, drop_at front rest (length front) refl) refl
 
@@ -303,40 +305,38 @@ ascii_at [] place all = omega arith
 ascii_at (byte ∷ bytes) zero all = ltb-true byte 128 (and_parts (is_ascii byte) (list_all is_ascii bytes) all).0
 ascii_at (byte ∷ bytes) (suc place) all = ascii_at bytes place (and_parts (is_ascii byte) (list_all is_ascii bytes) all).1
 
-admitted_is_ascii : (part : Part) (place byte : ℕ) → is_ascii_part part ≡ true → admits part place byte ≡ true → byte < 128
-admitted_is_ascii (Literal bytes) place byte ascii admitted =
-    let same : get_or bytes.now place 0 ≡ byte =
-    eqb-true (get_or bytes.now place 0) byte (and_parts (nat_lt place (length bytes.now)) (get_or bytes.now place 0 == byte) admitted).1 in
-    omega (arith, same, ascii_at bytes.now place ascii)
-admitted_is_ascii (Run alphabet low high) place byte ascii admitted = in_alphabet_is_ascii alphabet byte (and_parts _ _ admitted).1
+word_is_ascii : (word : Word) → list_all is_ascii (word_bytes word) ≡ true
+word_is_ascii ArnStart = refl
+word_is_ascii Colon = refl
+word_is_ascii ResourceType = refl
 
-taken_is_ascii : (part : Part) (place : ℕ) (text : List ℕ) → is_ascii_part part ≡ true
+admitted_is_ascii : (part : Part) (place byte : ℕ) → admits part place byte ≡ true → byte < 128
+admitted_is_ascii (Literal word) place byte admitted =
+    let same : get_or (word_bytes word) place 0 ≡ byte =
+    eqb-true (get_or (word_bytes word) place 0) byte (and_parts (nat_lt place (length (word_bytes word))) (get_or (word_bytes word) place 0 == byte) admitted).1 in
+    omega (arith, same, ascii_at (word_bytes word) place (word_is_ascii word))
+admitted_is_ascii (Run alphabet low high) place byte admitted = in_alphabet_is_ascii alphabet byte (and_parts _ _ admitted).1
+
+taken_is_ascii : (part : Part) (place : ℕ) (text : List ℕ)
     → list_all is_ascii (take (reach_from part place text) text) ≡ true
-taken_is_ascii part place [] ascii = refl
-taken_is_ascii part place (byte ∷ text) ascii =
+taken_is_ascii part place [] = refl
+taken_is_ascii part place (byte ∷ text) =
     elim (cases_Bool (admits part place byte)) [
       | inl admitted ↦
           rw (reach_step part place byte text admitted, add-one (reach_from part (place + 1) text))
-          (and_from _ _ (lt-ltb byte 128 (admitted_is_ascii part place byte ascii admitted)) (taken_is_ascii part (place + 1) text ascii))
+          (and_from _ _ (lt-ltb byte 128 (admitted_is_ascii part place byte admitted)) (taken_is_ascii part (place + 1) text))
       | inr refused ↦ rw (reach_stop part place byte text refused) refl
     ]
 
-parts_are_ascii : (parts : List Part) (text : List ℕ) → list_all is_ascii_part parts ≡ true → has_parts parts text ≡ true
-    → list_all is_ascii text ≡ true
-parts_are_ascii [] [] ascii has = refl
-parts_are_ascii [] (byte ∷ text) ascii has = absurd (false≢true has)
-parts_are_ascii (part ∷ parts) text ascii has =
+parts_are_ascii : (parts : List Part) (text : List ℕ) → has_parts parts text ≡ true → list_all is_ascii text ≡ true
+parts_are_ascii [] [] has = refl
+parts_are_ascii [] (byte ∷ text) has = absurd (false≢true has)
+parts_are_ascii (part ∷ parts) text has =
     let n : ℕ = reach part text in
-    let both = and_parts (is_ascii_part part) (list_all is_ascii_part parts) ascii in
-    let rest : list_all is_ascii (drop n text) ≡ true = parts_are_ascii parts (drop n text) both.1 (and_parts _ _ has).1 in
-    let all = list_all-append is_ascii (take n text) (drop n text) in
-    ap (list_all is_ascii) (sym (take-append-drop n text)) ∙ all ∙ and_from _ _ (taken_is_ascii part 0 text both.0) rest
+    let rest : list_all is_ascii (drop n text) ≡ true = parts_are_ascii parts (drop n text) (and_parts _ _ has).1 in
+    ap (list_all is_ascii) (sym (take-append-drop n text)) ∙ list_all-append is_ascii (take n text) (drop n text)
+    ∙ and_from _ _ (taken_is_ascii part 0 text) rest
 
-pub parts_are_utf8 : (parts : List Part) (text : List ℕ) → list_all is_ascii_part parts ≡ true → has_parts parts text ≡ true
-    → is_utf8 text ≡ true
-parts_are_utf8 parts text ascii has =
-    is_utf8-from_IsUtf8 text (IsUtf8-from_ascii text (λ i. ascii_at text i (parts_are_ascii parts text ascii has)))
-
--- bytes that pass the test of UTF-8 are not refused as none
-pub utf8_is_text : (bytes : List ℕ) → is_utf8 bytes ≡ true → ¬ IsUtf8 bytes → ⊥
-utf8_is_text bytes utf8 refused = refused (IsUtf8-from_is_utf8 bytes utf8)
+pub parts_are_utf8 : (parts : List Part) (text : List ℕ) → has_parts parts text ≡ true → is_utf8 text ≡ true
+parts_are_utf8 parts text has =
+    is_utf8-from_IsUtf8 text (IsUtf8-from_ascii text (λ i. ascii_at text i (parts_are_ascii parts text has)))

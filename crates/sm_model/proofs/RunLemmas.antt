@@ -14,12 +14,12 @@ use Rattle.sm_model.proofs.FaultLemmas.{refusal_same}
 use Rattle.sm_model.proofs.PartLemmas.{reach_step, reach_stop, reach_within}
 
 -- two tests that follow from each other
-same_tests : (a b : Bool) → (a ≡ true → b ≡ true) → (b ≡ true → a ≡ true) → a ≡ b
+pub same_tests : (a b : Bool) → (a ≡ true → b ≡ true) → (b ≡ true → a ≡ true) → a ≡ b
 same_tests true b to back = sym (to refl)
 same_tests false true to back = back refl
 same_tests false false to back = refl
 
-run_taken : (alphabet : Alphabet) (low high place : ℕ) (text : List ℕ) → list_all (is_in alphabet) text ≡ true → place + length text ≤ high
+pub run_taken : (alphabet : Alphabet) (low high place : ℕ) (text : List ℕ) → list_all (is_in alphabet) text ≡ true → place + length text ≤ high
     → reach_from (Run alphabet low high) place text ≡ length text
 run_taken alphabet low high place [] all room = refl
 run_taken alphabet low high place (byte ∷ text) all room =
@@ -27,7 +27,7 @@ run_taken alphabet low high place (byte ∷ text) all room =
     reach_step (Run alphabet low high) place byte text (and_from _ _ (lt-ltb place high (omega arith)) both.0)
     ∙ ap (λ n. n + 1) (run_taken alphabet low high (place + 1) text both.1 (omega arith)) ∙ add-one (length text)
 
-taken_run : (alphabet : Alphabet) (low high place : ℕ) (text : List ℕ) → reach_from (Run alphabet low high) place text ≡ length text
+pub taken_run : (alphabet : Alphabet) (low high place : ℕ) (text : List ℕ) → reach_from (Run alphabet low high) place text ≡ length text
     → (list_all (is_in alphabet) text ≡ true) × (0 < length text → place + length text ≤ high)
 taken_run alphabet low high place [] taken = (refl, λ some. absurd (omega arith))
 taken_run alphabet low high place (byte ∷ text) taken =
@@ -45,6 +45,9 @@ taken_run alphabet low high place (byte ∷ text) taken =
     run_room : (place high more : ℕ) → place < high → (0 < more → place + 1 + more ≤ high) → place + suc more ≤ high
     run_room place high zero here room = omega arith
     run_room place high (suc more) here room = omega (arith, room (omega arith))
+
+pub room_for_all : (n high : ℕ) → (0 < n → 0 + n ≤ high) → n ≤ high
+room_for_all n high room = elim (cases_lt 0 n) [ inl some ↦ omega (arith, room some) | inr none ↦ omega arith ]
 
 nothing_left : (rest : List ℕ) → has_parts [] rest ≡ true → length rest ≡ 0
 nothing_left [] has = refl

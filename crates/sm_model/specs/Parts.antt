@@ -1,10 +1,11 @@
 -- Spellings of several parts, one after the other.
-use Rattle.std.specs.Prelude.{ℕ, ◌+◌, Bool, true, false, not, ◌&&◌, ◌==◌, nat_lt, nat_le, if◌then◌else◌, List, [], ◌∷◌, length, ◌++◌, drop, replicate, slice_index, Option, Some, None}
-use Rattle.std.specs.Char.{is_ascii, is_ascii_digit}
-use Rattle.std.specs.List.{list_all}
+use Rattle.std.specs.Prelude.{ℕ, ◌+◌, Bool, true, false, not, ◌&&◌, ◌==◌, nat_lt, nat_le, if◌then◌else◌, List, [], ◌∷◌, length, ◌++◌, drop, replicate, slice_index, codes, Option, Some, None}
+use Rattle.std.specs.Char.{is_ascii_digit}
 use Rattle.sm_model.specs.Spelling.{is_name_byte, is_token_byte, is_region_byte}
 use Rattle.sm_model.specs.declared.parts.Alphabet.{Alphabet}
 use Rattle.sm_model.specs.declared.parts.Alphabet.TheVariants.{NameBytes, TokenBytes, RegionBytes, Digits}
+use Rattle.sm_model.specs.declared.parts.Word.{Word}
+use Rattle.sm_model.specs.declared.parts.Word.TheVariants.{ArnStart, Colon, ResourceType}
 use Rattle.sm_model.specs.declared.parts.Part.{Part}
 use Rattle.sm_model.specs.declared.parts.Part.TheVariants.{Literal, Run}
 
@@ -15,14 +16,20 @@ is_in TokenBytes byte = is_token_byte byte
 is_in RegionBytes byte = is_region_byte byte
 is_in Digits byte = is_ascii_digit byte
 
+-- the bytes of a word
+abbrev pub word_bytes : Word → List ℕ
+word_bytes ArnStart = codes "arn:aws:secretsmanager:"
+word_bytes Colon = codes ":"
+word_bytes ResourceType = codes ":secret:"
+
 -- the part may have the byte at the place, counted from its own first byte
 abbrev pub admits : Part → ℕ → ℕ → Bool
-admits (Literal bytes) place byte = nat_lt place (length bytes.now) && (slice_index bytes.now place == byte)
+admits (Literal word) place byte = nat_lt place (length (word_bytes word)) && (slice_index (word_bytes word) place == byte)
 admits (Run alphabet low high) place byte = nat_lt place high && is_in alphabet byte
 
 -- how many bytes it has at least
 abbrev pub least : Part → ℕ
-least (Literal bytes) = length bytes.now
+least (Literal word) = length (word_bytes word)
 least (Run alphabet low high) = low
 
 -- of a part of which so many bytes are read: how many more it takes from the front of a text
@@ -57,7 +64,7 @@ sample_byte Digits = 48
 
 -- the shortest bytes of a part
 abbrev pub sample_part : Part → List ℕ
-sample_part (Literal bytes) = bytes.now
+sample_part (Literal word) = word_bytes word
 sample_part (Run alphabet low high) = replicate low (sample_byte alphabet)
 
 -- bytes that have the parts
@@ -67,7 +74,7 @@ sample (part ∷ parts) = sample_part part ++ sample parts
 
 -- the part can be told from what follows it: a run has none of the bytes that may follow, and room for its least
 abbrev pub is_apart : Part → List ℕ → Bool
-is_apart (Literal bytes) following = true
+is_apart (Literal word) following = true
 is_apart (Run alphabet low high) [] = nat_le low high
 is_apart (Run alphabet low high) (byte ∷ rest) = nat_le low high && not (is_in alphabet byte)
 
@@ -75,8 +82,3 @@ is_apart (Run alphabet low high) (byte ∷ rest) = nat_le low high && not (is_in
 abbrev pub are_apart : List Part → Bool
 are_apart [] = true
 are_apart (part ∷ parts) = is_apart part (sample parts) && are_apart parts
-
--- each byte that a part may have is ASCII
-abbrev pub is_ascii_part : Part → Bool
-is_ascii_part (Literal bytes) = list_all is_ascii bytes.now
-is_ascii_part (Run alphabet low high) = true

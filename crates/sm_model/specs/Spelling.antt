@@ -1,7 +1,7 @@
 -- The spellings of names, tokens, labels and ARNs, as tests on a text's bytes.
 -- AWS Secrets Manager API Reference: CreateSecret (Name, ClientRequestToken), UpdateSecretVersionStage (VersionStage);
 -- IAM User Guide: "Amazon Resource Names (ARNs)".
-use Rattle.std.specs.Prelude.{ℕ, Bool, ◌||◌, ◌&&◌, ◌==◌, nat_le, nat_eq, List, length, drop, codes}
+use Rattle.std.specs.Prelude.{ℕ, Bool, ◌||◌, ◌&&◌, ◌==◌, nat_le, nat_eq, List, length, drop, codes, if◌then◌else◌}
 use Rattle.std.specs.List.{list_any, list_all, starts_with, before_first, after_first}
 use Rattle.std.specs.Char.{is_ascii_alphanumeric, is_ascii_digit, is_ascii_lowercase}
 use Rattle.std.specs.Str.{is_utf8, chars}
@@ -53,3 +53,11 @@ is_region_on text = is_run is_region_byte 1 32 (before_first is_colon text) && i
 -- an ARN of a secret: arn:aws:secretsmanager:<region>:<account>:secret:<rest>
 unfoldable pub is_arn : List ℕ → Bool
 is_arn text = starts_with nat_eq text (codes "arn:aws:secretsmanager:") && is_region_on (drop 23 text)
+
+-- a text that begins with arn: is to be an ARN
+abbrev pub is_arn_like : List ℕ → Bool
+is_arn_like text = starts_with nat_eq text (codes "arn:")
+
+-- the SecretId of a request: an ARN where it begins with arn:, and else a name
+unfoldable pub is_secret_id : List ℕ → Bool
+is_secret_id text = if is_arn_like text then is_arn text else is_name text

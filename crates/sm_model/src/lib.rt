@@ -6,6 +6,7 @@
 #![tactic(auto)]
 
 pub mod bytes;
+mod characters;
 pub mod entry;
 pub mod fails;
 pub mod list;
@@ -17,6 +18,7 @@ pub mod reply;
 pub mod request;
 pub mod row_list;
 pub mod rows;
+pub mod secret_id;
 pub mod spelled;
 pub mod spelling;
 pub mod text;
@@ -36,6 +38,7 @@ pub use request::{
 };
 pub use row_list::RowList;
 pub use rows::{Job, Pair, Rotation, Rows, SecretRow, Stage, VersionRow};
+pub use secret_id::SecretId;
 pub use spelling::{Arn, Label, Name, ReadRefused, Token};
 pub use text::Text;
 pub use value::{Tag, Value};

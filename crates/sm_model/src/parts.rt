@@ -1,16 +1,12 @@
 //! Spellings of several parts, one after the other.
 ghost use Rattle.std.specs.Prelude.{◌≡◌, ◌≤◌, length, IfOk, OnOk, IfErr, IsTrue};
 ghost use Rattle.sm_model.specs.Spelling.{is_name_byte, is_token_byte, is_region_byte};
-ghost use Rattle.sm_model.specs.Parts.{is_in, admits, least, reach, fault_from, has_parts, are_apart, is_ascii_part};
-ghost use Rattle.std.specs.Str.{is_utf8};
-ghost use Rattle.std.specs.List.{list_all};
+ghost use Rattle.sm_model.specs.Parts.{is_in, word_bytes, admits, least, reach, fault_from, has_parts, are_apart};
 ghost use Rattle.sm_model.specs.Reading.{IsRefusal};
 
-use crate::memory::NoMemory;
 use crate::spelling::ReadRefused;
 use crate::text::Text;
 use std::alloc::Global;
-use std::str;
 
 /// The bytes that a run may have.
 #[derive(Clone, Copy)]
@@ -58,11 +54,30 @@ fn is_region_byte(byte: u8) -> bool
     byte.is_ascii_lowercase() || byte.is_ascii_digit() || byte == b'-'
 }
 
+/// A text that stands in spellings as it is.
+#[derive(Clone, Copy)]
+pub(crate) enum Word {
+    ArnStart,
+    Colon,
+    ResourceType,
+}
+
+impl Word {
+    fn as_bytes(self) -> &'static [u8]
+        ensures { result.now ≡ word_bytes self }
+    {
+        match self {
+            Word::ArnStart => b"arn:aws:secretsmanager:",
+            Word::Colon => b":",
+            Word::ResourceType => b":secret:",
+        }
+    }
+}
+
 /// A part of a spelling.
 #[derive(Clone, Copy)]
 pub(crate) enum Part {
-    /// These very bytes.
-    Literal(&'static [u8]),
+    Literal(Word),
     /// At least and at most so many bytes of an alphabet.
     Run(Alphabet, usize, usize),
 }
@@ -72,11 +87,11 @@ pub(crate) const NAME: [Part; 1] = [Part::Run(Alphabet::NameBytes, 1, 512)];
 pub(crate) const TOKEN: [Part; 1] = [Part::Run(Alphabet::TokenBytes, 32, 64)];
 
 pub(crate) const ARN: [Part; 6] = [
-    Part::Literal(b"arn:aws:secretsmanager:"),
+    Part::Literal(Word::ArnStart),
     Part::Run(Alphabet::RegionBytes, 1, 32),
-    Part::Literal(b":"),
+    Part::Literal(Word::Colon),
     Part::Run(Alphabet::Digits, 12, 12),
-    Part::Literal(b":secret:"),
+    Part::Literal(Word::ResourceType),
     Part::Run(Alphabet::NameBytes, 1, 519),
 ];
 
@@ -86,7 +101,10 @@ impl Part {
         ensures { result ≡ admits self.now place byte }
     {
         match self {
-            Part::Literal(bytes) => place < bytes.len() && bytes[place] == byte,
+            Part::Literal(word) => {
+                let bytes = word.as_bytes();
+                place < bytes.len() && bytes[place] == byte
+            }
             Part::Run(alphabet, _, greatest) => place < *greatest && alphabet.contains(byte),
         }
     }
@@ -96,7 +114,7 @@ impl Part {
         ensures { result ≡ least self.now }
     {
         match self {
-            Part::Literal(bytes) => bytes.len(),
+            Part::Literal(word) => word.as_bytes().len(),
             Part::Run(_, least, _) => *least,
         }
     }
@@ -134,25 +152,13 @@ pub(crate) fn first_fault(parts: &[Part], text: &[u8]) -> Option<usize>
 #[tactic(auto, using(crate::proofs::PartLemmas::no_fault, crate::proofs::PartLemmas::fault_place))]
 /// The text of bytes that have the parts, one after the other, and nothing more.
 pub(crate) fn read_parts(alloc: Global, parts: &[Part], bytes: &[u8]) -> Result<Text, ReadRefused>
-    requires apart { IsTrue (are_apart parts.now) }
-    requires ascii { IsTrue (list_all is_ascii_part parts.now) }
+    requires { IsTrue (are_apart parts.now) }
     ensures value { IfOk result (λ text. text ≡ bytes.now) }
     ensures spelled { OnOk result (IsTrue (has_parts parts.now bytes.now)) }
     ensures refused { IfErr result (IsRefusal (has_parts parts.now) bytes.now) }
 {
     match first_fault(parts, bytes) {
         Some(place) => Err(ReadRefused::Spelling(place)),
-        None => Ok(text_of(alloc, bytes)?),
-    }
-}
-
-#[tactic(auto, using(crate::proofs::PartLemmas::utf8_is_text))]
-fn text_of(alloc: Global, bytes: &[u8]) -> Result<Text, NoMemory>
-    requires { IsTrue (is_utf8 bytes.now) }
-    ensures { IfOk result (λ text. text ≡ bytes.now) }
-{
-    match str::from_utf8(bytes) {
-        Ok(text) => Text::from_str(alloc, text),
-        Err(_) => unreachable!(),
+        None => Ok(Text::from_utf8(alloc, bytes)?),
     }
 }

@@ -4,8 +4,9 @@ ghost use Rattle.sm_model.specs.Spelling.{is_name, is_token, is_label, is_arn};
 ghost use Rattle.sm_model.specs.Reading.{IsRefusal};
 ghost use Rattle.sm_model.specs.Drawn.{drawn_token, drawn_arn, suffix_character};
 
+use crate::characters::read_label_text;
 use crate::memory::{Copied, NoMemory};
-use crate::parts::{NAME, TOKEN, read_parts};
+use crate::parts::{ARN, NAME, TOKEN, read_parts};
 use crate::text::Text;
 use std::alloc::Global;
 use std::error::Error;
@@ -200,6 +201,16 @@ impl Label {
         Label { text }
     }
 
+    /// Reads a label.
+    pub fn read(alloc: Global, text: &[u8]) -> Result<Label, ReadRefused>
+        ensures value { IfOk result (λ label. label ≡ text.now) }
+        ensures spelled { OnOk result (IsTrue (is_label text.now)) }
+        ensures refused { IfErr result (IsRefusal is_label text.now) }
+    {
+        let text = read_label_text(alloc, text)?;
+        Ok(Label { text })
+    }
+
     pub fn as_text(&self) -> &Text
         ensures value { result.now ≡ self.now }
         ensures spelled { IsTrue (is_label self.now) }
@@ -241,6 +252,17 @@ impl Model for Arn {
 }
 
 impl Arn {
+    /// Reads an ARN.
+    #[tactic(auto, using(crate::proofs::ArnLemmas::arn_is_parts, crate::proofs::ArnLemmas::arn_refusal, crate::proofs::ArnLemmas::region_ends))]
+    pub fn read(alloc: Global, text: &[u8]) -> Result<Arn, ReadRefused>
+        ensures value { IfOk result (λ arn. arn ≡ text.now) }
+        ensures spelled { OnOk result (IsTrue (is_arn text.now)) }
+        ensures refused { IfErr result (IsRefusal is_arn text.now) }
+    {
+        let text = read_parts(alloc, &ARN, text)?;
+        Ok(Arn { text })
+    }
+
     /// The ARN of a new secret with this name: it ends in the characters of six random bytes.
     #[tactic(auto, using(crate::proofs::DrawnLemmas::drawn_arn_is_arn))]
     pub fn drawn(alloc: Global, name: &Name, six: &[u8; 6]) -> Result<Arn, NoMemory>

@@ -1,10 +1,12 @@
 //! Texts.
 ghost use Rattle.std.specs.Prelude.{◌≡◌, ℕ, ◌↔◌, IsTrue, IfOk, IsUtf8, length, string_bytes};
+ghost use Rattle.std.specs.Str.{is_utf8};
 
 use crate::memory::{Copied, NoMemory};
 use std::alloc::Global;
 use std::borrow::CowStr;
 use std::marker::Model;
+use std::str;
 
 /// UTF-8 text, which contracts see as the list of its bytes. A text that the program itself has, such as the
 /// name of a member, takes no memory.
@@ -46,6 +48,18 @@ impl Text {
         ensures { IfOk result (λ t. t ≡ text.now) }
     {
         Ok(Text::new(String::from_str(alloc, text)?))
+    }
+
+    /// The text of bytes that are UTF-8.
+    #[tactic(auto, using(crate::proofs::FaultLemmas::utf8_is_text))]
+    pub(crate) fn from_utf8(alloc: Global, bytes: &[u8]) -> Result<Text, NoMemory>
+        requires { IsTrue (is_utf8 bytes.now) }
+        ensures { IfOk result (λ t. t ≡ bytes.now) }
+    {
+        match str::from_utf8(bytes) {
+            Ok(text) => Text::from_str(alloc, text),
+            Err(_) => unreachable!(),
+        }
     }
 
     /// The text as a string. It takes memory only for a text of the program's own.
