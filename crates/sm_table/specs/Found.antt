@@ -4,6 +4,8 @@ use Rattle.std.specs.Prelude.{ℕ, ◌-◌, List, [], ◌∷◌, length, take, O
 use Rattle.sm_model.specs.declared.moment.Moment.{Moment}
 use Rattle.sm_model.specs.declared.rows.SecretRow.{SecretRow}
 use Rattle.sm_model.specs.declared.rows.Rows.{Rows}
+use Rattle.sm_model.specs.declared.secret_id.SecretId.{SecretId}
+use Rattle.sm_model.specs.declared.secret_id.SecretId.TheVariants.{Name, Arn}
 use Rattle.sm_versions.specs.Texts.{same_text}
 use Rattle.sm_table.specs.Sweep.{swept, sweep}
 
@@ -34,3 +36,12 @@ or_else (Some row) other = Some row
 -- the row whose whole ARN it is is taken first, and then one whose ARN begins with it
 abbrev pub row_by_arn : List SecretRow → List ℕ → Option SecretRow
 row_by_arn rows arn = or_else (row_with_arn rows arn) (row_with_short_arn rows arn)
+
+-- the row of a list that a SecretId names
+abbrev pub named_by : List SecretRow → SecretId → Option SecretRow
+named_by rows (Name name) = row_named rows name
+named_by rows (Arn arn) = row_by_arn rows arn
+
+-- the row of those still there at the moment that the SecretId names, or none
+abbrev pub found : Rows → Moment → SecretId → Option SecretRow
+found rows moment id = named_by (sweep rows moment).secrets id

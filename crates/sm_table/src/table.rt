@@ -1,11 +1,12 @@
 //! The table of all secrets.
-ghost use Rattle.std.specs.Prelude.{◌≡◌, ℕ, [], IfOk, ◌^◌, ◌<◌, ◌≤◌, vec_capacity};
+ghost use Rattle.std.specs.Prelude.{◌≡◌, ℕ, [], IfOk, ◌^◌, ◌<◌, ◌≤◌, vec_capacity, option_copied};
 ghost use Rattle.sm_table.specs.Sweep.{sweep};
+ghost use Rattle.sm_table.specs.Found.{found};
 ghost use Rattle.sm_table.specs.Changes.{changed, CanMake, StandsAt, room_for, PreparedChange};
 ghost use Rattle.sm_table.specs.Kept.{RowsKept, ChangeKept, NamesKept};
 
-use crate::edits;
-use sm_model::{Change, Copied, List, Moment, NoMemory, RowList, Rows, SecretRow};
+use crate::{edits, search};
+use sm_model::{Change, Copied, List, Moment, NoMemory, RowList, Rows, SecretId, SecretRow};
 use sm_model::list::copies;
 use std::alloc::Global;
 use std::marker::Model;
@@ -75,6 +76,17 @@ impl Table {
             next: self.next,
             secrets: List::new(copies(self.alloc, self.secrets.as_slice())?),
         })
+    }
+
+    /// The row that the SecretId names, of those whose deletion date is not reached: by its name, or by the whole
+    /// ARN before an ARN without the hyphen and the six characters at its end. It takes no memory.
+    pub fn find(&self, id: &SecretId, moment: Moment) -> Option<&SecretRow>
+        ensures { option_copied result ≡ found self.now moment id.now }
+    {
+        match id {
+            SecretId::Name(name) => search::row_named(self.secrets.as_slice(), moment, name),
+            SecretId::Arn(arn) => search::row_by_arn(self.secrets.as_slice(), moment, arn),
+        }
     }
 
     /// Takes all the memory that the change needs. The rows stay.
