@@ -18,11 +18,8 @@ pub mod reply;
 pub mod request;
 pub mod row_list;
 pub mod rows;
-<<<<<<< HEAD
-pub mod spelled;
-=======
 pub mod secret_id;
->>>>>>> edd05c263bca1f13c2595524208b1b9c08a10656
+pub mod spelled;
 pub mod spelling;
 pub mod text;
 pub mod value;

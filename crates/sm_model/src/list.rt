@@ -82,7 +82,7 @@ impl<T: Drop> List<T> {
 }
 
 /// The copies of the items of a slice, in order.
-fn copies<T: Copied>(alloc: Global, items: &[T]) -> Result<Vec<T>, NoMemory>
+pub fn copies<T: Copied>(alloc: Global, items: &[T]) -> Result<Vec<T>, NoMemory>
     ensures { IfOk result (λ v. v.items ≡ items.now) }
 {
     let mut vec = Vec::with_capacity(alloc, items.len())?;

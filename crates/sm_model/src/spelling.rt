@@ -193,14 +193,12 @@ impl Model for Label {
 }
 
 impl Label {
-    /// A label of the program's own. It takes no memory.
-    pub fn fixed(text: &'static str) -> Label
-        requires { IsTrue (is_label text.now) }
-        ensures { result ≡ text.now }
+    /// The label of a text that is spelled as one.
+    pub fn new(text: Text) -> Label
+        requires { IsTrue (is_label text) }
+        ensures { result ≡ text }
     {
-        Label {
-            text: Text::fixed(text),
-        }
+        Label { text }
     }
 
     /// Reads a label.

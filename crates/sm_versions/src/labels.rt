@@ -4,7 +4,7 @@ ghost use Rattle.std.specs.List.{find};
 ghost use Rattle.sm_versions.specs.Texts.{same_text, is_among, aws_current, aws_previous, aws_pending, is_aws};
 ghost use Rattle.sm_versions.specs.Labels.{holder, is_held_by, labels_on, own_count};
 
-use sm_model::{Copied, Label, List, NoMemory, Pair, Token};
+use sm_model::{Copied, Label, List, NoMemory, Pair, Text, Token};
 use std::alloc::Global;
 
 /// AWSCURRENT. It takes no memory.
@@ -12,7 +12,7 @@ use std::alloc::Global;
 pub fn current() -> Label
     ensures { result ≡ aws_current }
 {
-    Label::fixed("AWSCURRENT")
+    Label::new(Text::fixed("AWSCURRENT"))
 }
 
 /// AWSPREVIOUS. It takes no memory.
@@ -20,7 +20,7 @@ pub fn current() -> Label
 pub fn previous() -> Label
     ensures { result ≡ aws_previous }
 {
-    Label::fixed("AWSPREVIOUS")
+    Label::new(Text::fixed("AWSPREVIOUS"))
 }
 
 /// AWSPENDING. It takes no memory.
@@ -28,7 +28,7 @@ pub fn previous() -> Label
 pub fn pending() -> Label
     ensures { result ≡ aws_pending }
 {
-    Label::fixed("AWSPENDING")
+    Label::new(Text::fixed("AWSPENDING"))
 }
 
 /// Whether both texts are the same label.

@@ -3,5 +3,5 @@ use Rattle.sm_versions.specs.Texts.{aws_current}
 use Rattle.sm_versions.proofs.TextLemmas.{ascii_label}
 use Rattle.sm_versions.proofs.labels.current.Goals as goal
 
-pub fixed-requires : goal.fixed-requires
-fixed-requires c = ascii_label _ refl refl
+pub new-requires : goal.new-requires
+new-requires c = rw c.fixed.ensures (ascii_label _ refl refl)

@@ -1,0 +1,50 @@
+-- What holds of all rows between any two changes.
+use Rattle.std.specs.Prelude.{ℕ, Bool, true, ◌&&◌, List, [], ◌∷◌, not, IsTrue}
+use Rattle.sm_model.specs.declared.entry.Change.{Change}
+use Rattle.sm_model.specs.declared.entry.Change.TheVariants.{Add, Replace, Drop, Nothing}
+use Rattle.sm_model.specs.declared.rows.SecretRow.{SecretRow}
+use Rattle.sm_model.specs.declared.rows.Rows.{Rows}
+use Rattle.sm_versions.specs.Texts.{is_among}
+use Rattle.sm_versions.specs.Serials.{rises}
+use Rattle.sm_versions.specs.Kept.{CurrentKept}
+use Rattle.sm_table.specs.Changes.{IsArnOf}
+
+abbrev pub row_serials : List SecretRow → List ℕ
+row_serials [] = []
+row_serials (r ∷ rs) = r.serial ∷ row_serials rs
+
+-- each row is as a secret is between any two changes
+abbrev pub EachKept : List SecretRow → Type 0
+EachKept [] = Unit {0}
+EachKept (r ∷ rs) = CurrentKept r × EachKept rs
+
+-- serials rise and are below the next one, and each row is kept
+pub record RowsKept (rows : Rows) : Type 0 where
+  pub serials : IsTrue (rises 0 (row_serials rows.secrets) rows.next)
+  pub each : EachKept rows.secrets
+
+-- an added or a replacing row is kept
+abbrev pub ChangeKept : Change → Type 0
+ChangeKept (Add row) = CurrentKept row
+ChangeKept (Replace row) = CurrentKept row
+ChangeKept (Drop serial) = Unit {0}
+ChangeKept Nothing = Unit {0}
+
+abbrev pub row_names : List SecretRow → List (List ℕ)
+row_names [] = []
+row_names (r ∷ rs) = r.name ∷ row_names rs
+
+-- no text stands twice
+abbrev pub once : List (List ℕ) → Bool
+once [] = true
+once (t ∷ ts) = not (is_among ts t) && once ts
+
+-- each row's ARN is one of its name
+abbrev pub EachArn : List SecretRow → Type 0
+EachArn [] = Unit {0}
+EachArn (r ∷ rs) = IsArnOf r.arn r.name × EachArn rs
+
+-- no name stands twice, and each row's ARN is one of its name
+pub record NamesKept (rows : Rows) : Type 0 where
+  pub once : IsTrue (once (row_names rows.secrets))
+  pub arns : EachArn rows.secrets

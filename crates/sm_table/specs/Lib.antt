@@ -1,0 +1,5 @@
+pub mod Sweep
+pub mod Found
+pub mod Changes
+pub mod Ready
+pub mod Kept

@@ -1,0 +1,24 @@
+-- The rows that are still there at a moment.
+-- AWS Secrets Manager API Reference: DeleteSecret (DeletionDate).
+use Rattle.std.specs.Prelude.{ℕ, Bool, false, nat_le, List, [], ◌∷◌, Option, Some, None, if◌then◌else◌}
+use Rattle.sm_model.specs.declared.moment.Moment.{Moment}
+use Rattle.sm_model.specs.declared.rows.SecretRow.{SecretRow}
+use Rattle.sm_model.specs.declared.rows.Rows.{Rows}
+
+-- there is a date, and the moment has reached it
+abbrev pub is_reached : Option Moment → Moment → Bool
+is_reached None moment = false
+is_reached (Some date) moment = nat_le date.0 moment.0
+
+-- the secret's deletion date is reached
+abbrev pub is_gone : SecretRow → Moment → Bool
+is_gone row moment = is_reached row.deletion moment
+
+-- the rows that have no deletion date or one above the moment
+abbrev pub swept : List SecretRow → Moment → List SecretRow
+swept [] moment = []
+swept (r ∷ rs) moment = if is_gone r moment then swept rs moment else r ∷ swept rs moment
+
+-- the same of all rows
+abbrev pub sweep : Rows → Moment → Rows
+sweep rows moment = record rows { secrets = swept rows.secrets moment }

@@ -1,0 +1,94 @@
+//! Look-ups in a list of rows.
+ghost use Rattle.std.specs.Prelude.{◌≡◌, ◌&&◌, not, option_copied};
+ghost use Rattle.std.specs.List.{find};
+ghost use Rattle.sm_versions.specs.Texts.{same_text};
+ghost use Rattle.sm_table.specs.Sweep.{is_gone, swept};
+ghost use Rattle.sm_table.specs.Found.{row_named, row_with_arn, row_with_short_arn, row_by_arn, short_arn};
+
+use crate::edits::is_gone;
+use sm_model::{Arn, Moment, Name, SecretRow};
+
+/// How many characters of an ARN are drawn when the secret is made, with the hyphen before them.
+const SUFFIX: usize = 7;
+
+/// Whether the row has the name.
+fn has_name(row: &SecretRow, name: &Name) -> bool
+    ensures { result ≡ same_text row.now.name name.now }
+{
+    row.name.equals(name)
+}
+
+/// Whether the row has the ARN.
+fn has_arn(row: &SecretRow, arn: &Arn) -> bool
+    ensures { result ≡ same_text row.now.arn arn.now }
+{
+    row.arn.equals(arn)
+}
+
+/// Whether the row has the ARN up to the hyphen and the characters that were drawn.
+#[tactic(auto, unfolding(sm_versions::specs::Texts::same_text))]
+fn has_short_arn(row: &SecretRow, arn: &Arn) -> bool
+    ensures { result ≡ same_text (short_arn row.now.arn) arn.now }
+{
+    let whole = row.arn.as_text().as_bytes();
+    &whole[..whole.len().saturating_sub(SUFFIX)] == arn.as_text().as_bytes()
+}
+
+/// The first row that is there at the moment and has the name.
+fn first_named<'a>(rows: &'a [SecretRow], moment: Moment, name: &Name) -> Option<&'a SecretRow>
+    ensures { option_copied result ≡ find (λ r. not (is_gone r moment) && same_text r.name name.now) rows.now }
+{
+    rows.iter()
+        .find(|row| !is_gone(row, moment) && has_name(row, name))
+}
+
+/// The first row that is there at the moment and has the ARN.
+fn first_with_arn<'a>(rows: &'a [SecretRow], moment: Moment, arn: &Arn) -> Option<&'a SecretRow>
+    ensures { option_copied result ≡ find (λ r. not (is_gone r moment) && same_text r.arn arn.now) rows.now }
+{
+    rows.iter()
+        .find(|row| !is_gone(row, moment) && has_arn(row, arn))
+}
+
+/// The first row that is there at the moment and has the ARN without what was drawn.
+fn first_with_short_arn<'a>(rows: &'a [SecretRow], moment: Moment, arn: &Arn) -> Option<&'a SecretRow>
+    ensures { option_copied result ≡ find (λ r. not (is_gone r moment) && same_text (short_arn r.arn) arn.now) rows.now }
+{
+    rows.iter()
+        .find(|row| !is_gone(row, moment) && has_short_arn(row, arn))
+}
+
+/// The row with the name at the moment.
+#[tactic(auto, using(crate::proofs::FoundLemmas::row_named_is_find))]
+pub fn row_named<'a>(rows: &'a [SecretRow], moment: Moment, name: &Name) -> Option<&'a SecretRow>
+    ensures { option_copied result ≡ row_named (swept rows.now moment) name.now }
+{
+    first_named(rows, moment, name)
+}
+
+/// The row with the ARN at the moment.
+#[tactic(auto, using(crate::proofs::FoundLemmas::row_with_arn_is_find))]
+fn row_with_arn<'a>(rows: &'a [SecretRow], moment: Moment, arn: &Arn) -> Option<&'a SecretRow>
+    ensures { option_copied result ≡ row_with_arn (swept rows.now moment) arn.now }
+{
+    first_with_arn(rows, moment, arn)
+}
+
+/// The row with the ARN without what was drawn, at the moment.
+#[tactic(auto, using(crate::proofs::FoundLemmas::row_with_short_arn_is_find))]
+fn row_with_short_arn<'a>(rows: &'a [SecretRow], moment: Moment, arn: &Arn) -> Option<&'a SecretRow>
+    ensures { option_copied result ≡ row_with_short_arn (swept rows.now moment) arn.now }
+{
+    first_with_short_arn(rows, moment, arn)
+}
+
+/// The row that the ARN names at the moment: one with the whole ARN, or else one with the ARN without what was
+/// drawn.
+pub fn row_by_arn<'a>(rows: &'a [SecretRow], moment: Moment, arn: &Arn) -> Option<&'a SecretRow>
+    ensures { option_copied result ≡ row_by_arn (swept rows.now moment) arn.now }
+{
+    match row_with_arn(rows, moment, arn) {
+        Some(row) => Some(row),
+        None => row_with_short_arn(rows, moment, arn),
+    }
+}

@@ -1,0 +1,164 @@
+//! The table of all secrets.
+ghost use Rattle.std.specs.Prelude.{◌≡◌, ℕ, [], IfOk, ◌^◌, ◌<◌, ◌≤◌, vec_capacity, option_copied};
+ghost use Rattle.sm_table.specs.Sweep.{sweep};
+ghost use Rattle.sm_table.specs.Found.{found};
+ghost use Rattle.sm_table.specs.Changes.{changed, CanMake, StandsAt, room_for, PreparedChange};
+ghost use Rattle.sm_table.specs.Kept.{RowsKept, ChangeKept, NamesKept};
+
+use crate::{edits, search};
+use sm_model::{Change, Copied, List, Moment, NoMemory, RowList, Rows, SecretId, SecretRow};
+use sm_model::list::copies;
+use std::alloc::Global;
+use std::marker::Model;
+use std::snapshot::Snapshot;
+
+/// All secrets, in order of creation, which contracts see as the rows.
+#[derive(Drop)]
+pub struct Table {
+    alloc: Global,
+    next: u64,
+    secrets: Vec<SecretRow>,
+}
+
+impl Model for Table {
+    ghost use Rattle.sm_model.specs.declared.rows.Rows.{Rows};
+
+    ghost Value = { Rows };
+
+    ghost view = { λ t. record { next = t.next; secrets = t.secrets.items } };
+}
+
+/// A change for which all memory is there.
+#[derive(Drop)]
+pub struct Prepared {
+    change: Change,
+    /// Where a row is added, room for it and the others.
+    room: Vec<SecretRow>,
+    before: Snapshot<Table>,
+}
+
+impl Model for Prepared {
+    ghost use Rattle.std.specs.Prelude.{vec_capacity};
+    ghost use Rattle.sm_table.specs.Changes.{PreparedChange};
+    ghost use Rattle.sm_table.specs.Ready.{IsReady};
+
+    ghost Value = { PreparedChange };
+
+    ghost view = { λ p. record { before = p.before.value; change = p.change } };
+
+    ghost invariant = { λ p. IsReady p.before.value p.change p.room.items (vec_capacity p.room) };
+}
+
+impl Table {
+    /// No secrets. It takes no memory.
+    pub fn new(alloc: Global) -> Table
+        ensures { (result.next ≡ 0) × (result.secrets ≡ []) }
+    {
+        Table {
+            alloc,
+            next: 0,
+            secrets: Vec::new(alloc),
+        }
+    }
+
+    /// The serial of the next secret. It takes no memory.
+    pub fn next(&self) -> u64
+        ensures { result ≡ self.now.next }
+    {
+        self.next
+    }
+
+    /// A copy of the rows.
+    pub fn rows(&self) -> Result<Rows, NoMemory>
+        ensures { IfOk result (λ rows. rows ≡ self.now) }
+    {
+        Ok(Rows {
+            next: self.next,
+            secrets: List::new(copies(self.alloc, self.secrets.as_slice())?),
+        })
+    }
+
+    /// The row that the SecretId names, of those whose deletion date is not reached: by its name, or by the whole
+    /// ARN before an ARN without the hyphen and the six characters at its end. It takes no memory.
+    pub fn find(&self, id: &SecretId, moment: Moment) -> Option<&SecretRow>
+        ensures { option_copied result ≡ found self.now moment id.now }
+    {
+        match id {
+            SecretId::Name(name) => search::row_named(self.secrets.as_slice(), moment, name),
+            SecretId::Arn(arn) => search::row_by_arn(self.secrets.as_slice(), moment, arn),
+        }
+    }
+
+    /// Takes all the memory that the change needs. The rows stay.
+    pub fn prepare(&mut self, change: Change) -> Result<Prepared, NoMemory>
+        requires { CanMake self.old change }
+        ensures prepared { IfOk result (λ p. p ≡ record { before = self.old; change = change }) }
+        ensures rows { self.new ≡ self.old }
+    {
+        let room = room_of(self.alloc, &change, self.secrets.len())?;
+        let before = Snapshot::of(self);
+        Ok(Prepared {
+            change,
+            room,
+            before,
+        })
+    }
+
+    /// Drops the rows whose deletion date is reached, and then makes the change. It takes no memory.
+    pub fn commit(&mut self, prepared: Prepared, moment: Moment)
+        requires unchanged { prepared.before ≡ self.old }
+        requires stands { StandsAt self.old moment prepared.change }
+        ensures rows { self.new ≡ changed (sweep self.old moment) prepared.change }
+        ensures kept { RowsKept self.old → ChangeKept prepared.change → RowsKept self.new }
+        ensures named { RowsKept self.old → NamesKept self.old → NamesKept self.new }
+    {
+        self.make(prepared, moment);
+    }
+
+    /// The same as `commit`.
+    fn make(&mut self, prepared: Prepared, moment: Moment)
+        requires { prepared.before ≡ self.old }
+        ensures rows { self.new ≡ changed (sweep self.old moment) prepared.change }
+        ensures can { CanMake self.old prepared.change }
+    {
+        let Prepared {
+            change,
+            room,
+            before: _,
+        } = prepared;
+        edits::sweep(&mut self.secrets, moment);
+        match change {
+            Change::Add(row) => {
+                edits::add(&mut self.secrets, room, row);
+                self.next += 1;
+            }
+            Change::Replace(row) => edits::replace(&mut self.secrets, row),
+            Change::Drop(serial) => edits::drop_row(&mut self.secrets, serial),
+            Change::Nothing => {}
+        }
+    }
+}
+
+impl RowList for Table {
+    ghost rows = { λ table. table.secrets };
+
+    fn count(&self) -> usize {
+        self.secrets.len()
+    }
+
+    fn at(&self, i: usize) -> Option<&SecretRow> {
+        self.secrets.get(i)
+    }
+}
+
+/// Room for a row beside so many others, where the change adds one.
+fn room_of(alloc: Global, change: &Change, count: usize) -> Result<Vec<SecretRow>, NoMemory>
+    requires { count < 2 ^ 63 }
+    ensures empty { IfOk result (λ room. room.items ≡ []) }
+    ensures enough { IfOk result (λ room. room_for change.now count ≤ vec_capacity room) }
+{
+    match change {
+        Change::Add(_) => Ok(Vec::with_capacity(alloc, count + 1)?),
+        Change::Replace(_) | Change::Drop(_) | Change::Nothing => Ok(Vec::new(alloc)),
+    }
+}
