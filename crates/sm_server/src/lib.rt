@@ -10,6 +10,8 @@ mod refusal;
 mod reply;
 mod run;
 mod status;
+#[cfg(test)]
+mod tests;
 mod turn;
 mod write;
 
