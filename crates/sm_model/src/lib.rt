@@ -20,6 +20,8 @@ pub mod row_list;
 pub mod rows;
 pub mod secret_id;
 pub mod spelling;
+#[cfg(test)]
+mod tests;
 pub mod text;
 pub mod value;
 pub mod why;
