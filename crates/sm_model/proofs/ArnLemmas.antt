@@ -96,7 +96,7 @@ colon_first word more parts rest is has =
     begins [] starts = absurd (false≢true starts)
     begins (c ∷ rest) starts = (rest, ap (λ b. b ∷ rest) (sym (eqb-true 58 c (and_parts (58 == c) _ starts).0)))
 
-colon_place : (alphabet : Alphabet) (front after : List ℕ) → is_in alphabet 58 ≡ false → list_all (is_in alphabet) front ≡ true
+pub colon_place : (alphabet : Alphabet) (front after : List ℕ) → is_in alphabet 58 ≡ false → list_all (is_in alphabet) front ≡ true
     → position_or_len is_colon (front ++ 58 ∷ after) ≡ length front
 colon_place alphabet [] after other all = refl
 colon_place alphabet (b ∷ front) after other all =
@@ -163,7 +163,7 @@ run_first alphabet low high word more parts text other is = same_tests _ _ to ba
         ∙ has_parts_split part later front (58 ∷ rest.0) (reach_whole part front (58 ∷ rest.0) alone stops)
         ∙ and_from _ _ bounds.0 (ap (has_parts later) (sym rest.1) ∙ both.1)
 
-at_colon : (text : List ℕ)
+pub at_colon : (text : List ℕ)
     → ((drop (position_or_len is_colon text) text ≡ []) × (after_first is_colon text ≡ []))
     ⊎ (drop (position_or_len is_colon text) text ≡ 58 ∷ after_first is_colon text)
 at_colon [] = inl (refl, refl)

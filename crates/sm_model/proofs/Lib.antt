@@ -1,4 +1,5 @@
 pub mod ArnLemmas
+pub mod ArnShapeLemmas
 pub mod CharacterLemmas
 pub mod DrawnLemmas
 pub mod FaultLemmas

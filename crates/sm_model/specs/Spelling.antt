@@ -1,7 +1,7 @@
 -- The spellings of names, tokens, labels and ARNs, as tests on a text's bytes.
 -- AWS Secrets Manager API Reference: CreateSecret (Name, ClientRequestToken), UpdateSecretVersionStage (VersionStage);
 -- IAM User Guide: "Amazon Resource Names (ARNs)".
-use Rattle.std.specs.Prelude.{ℕ, Bool, ◌||◌, ◌&&◌, ◌==◌, nat_le, nat_eq, List, length, drop, codes, if◌then◌else◌}
+use Rattle.std.specs.Prelude.{◌≡◌, ℕ, Bool, IsTrue, ◌++◌, ◌||◌, ◌&&◌, ◌==◌, nat_le, nat_eq, List, length, drop, codes, if◌then◌else◌}
 use Rattle.std.specs.List.{list_any, list_all, starts_with, before_first, after_first}
 use Rattle.std.specs.Char.{is_ascii_alphanumeric, is_ascii_digit, is_ascii_lowercase}
 use Rattle.std.specs.Str.{is_utf8, chars}
@@ -61,3 +61,10 @@ is_arn_like text = starts_with nat_eq text (codes "arn:")
 -- the SecretId of a request: an ARN where it begins with arn:, and else a name
 unfoldable pub is_secret_id : List ℕ → Bool
 is_secret_id text = if is_arn_like text then is_arn text else is_name text
+
+-- An ARN of a secret, as a sentence: arn:aws:secretsmanager:<region>:<account>:secret:<rest>. The test is_arn answers it.
+pub record IsArnOf (text region account rest : List ℕ) : Type 0 where
+  pub whole : text ≡ codes "arn:aws:secretsmanager:" ++ (region ++ (codes ":" ++ (account ++ (codes ":secret:" ++ rest))))
+  pub region_spelled : IsTrue (is_run is_region_byte 1 32 region)
+  pub account_spelled : IsTrue (is_run is_ascii_digit 12 12 account)
+  pub rest_spelled : IsTrue (is_run is_name_byte 1 519 rest)

@@ -21,6 +21,8 @@ pub mod rows;
 pub mod secret_id;
 pub mod spelled;
 pub mod spelling;
+#[cfg(test)]
+mod tests;
 pub mod text;
 pub mod value;
 pub mod why;
