@@ -2,7 +2,7 @@
 use Rattle.std.proofs.Common.{◌≡◌, ℕ, zero, suc, ◌+◌, ◌-◌, ◌<◌, min, List, [], ◌∷◌, ◌++◌, length, get_or, refl, arith}
 use Rattle.std.proofs.lemmas.List.FromFn.{map-range_with_len_more}
 use Rattle.sm_model.specs.declared.moment.Moment.{Moment}
-use Rattle.sm_io.specs.ListClock.{ListClockState, reading_at, list_readings}
+use Rattle.sm_io.specs.ListClock.{reading_at, list_readings}
 
 -- the reading at a place of the list is the moment there
 pub reading_at-get_or : (moments : List Moment) (at : ℕ) (d : Moment) → at < length moments → reading_at moments at ≡ (get_or moments at d).0

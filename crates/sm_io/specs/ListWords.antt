@@ -1,5 +1,5 @@
 -- Random words from a list.
-use Rattle.std.specs.Prelude.{ℕ, List, length, take, drop, ◌++◌, Bool, ◌||◌, nat_lt}
+use Rattle.std.specs.Prelude.{ℕ, List, length, drop, ◌++◌, Bool, ◌||◌, nat_lt}
 use Rattle.sm_io.specs.declared.calls.Calls.{Calls}
 use Rattle.sm_io.specs.declared.words.Drew.{Drew}
 use Rattle.sm_io.specs.declared.words.Drew.TheVariants.{Bytes, Failed, Memory}

@@ -8,7 +8,7 @@
 
 pub mod calls;
 pub mod clock;
-pub mod count;
+mod count;
 pub mod count_words;
 pub mod fixed_clock;
 pub mod list_clock;

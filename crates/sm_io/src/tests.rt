@@ -223,19 +223,86 @@ fn sendable<T: Send>(value: T) -> T {
     value
 }
 
-#[test]
-fn each_form_may_cross_threads(rt: HostRuntime) -> Result<(), Fail> {
+fn first_take<S: Source>(mut source: S) -> Took
+where
+    S: Drop,
+{
+    let mut buf = [0u8; 2];
+    source.take(&mut buf)
+}
+
+fn first_put<K: Sink>(mut sink: K) -> Gave
+where
+    K: Drop,
+{
+    sink.put(b"abc")
+}
+
+fn first_draw<W: Words>(mut words: W) -> usize
+where
+    W: Drop,
+{
+    match words.draw(3) {
+        Drew::Bytes(bytes) => bytes.len(),
+        Drew::Failed => 0,
+        Drew::Memory => 0,
+    }
+}
+
+/// Whether a second reading is no earlier than the first.
+fn goes_on<C: Clock>(mut clock: C) -> bool
+where
+    C: Drop,
+{
+    let first = clock.now();
+    clock.pause();
+    first <= clock.now()
+}
+
+fn takes_of_all(alloc: Global) -> Result<[Took; 2], NoMemory> {
+    let memory = source(alloc, "abc", 5, Fails::never(alloc))?;
+    let stream = StreamSource::new(b"abc".as_slice());
+    Ok([first_take(sendable(memory)), first_take(sendable(stream))])
+}
+
+fn puts_of_all(alloc: Global) -> [Gave; 3] {
+    let memory = MemorySink::new(alloc, 2, Fails::never(alloc));
+    let stream = StreamSink::new(Vec::new(alloc));
+    [
+        first_put(sendable(memory)),
+        first_put(sendable(QuietSink)),
+        first_put(sendable(stream)),
+    ]
+}
+
+fn draws_of_all(rt: &HostRuntime) -> Result<[usize; 3], NoMemory> {
     let alloc = rt.alloc();
-    sendable(QuietSink);
-    sendable(FixedClock::new(Moment(5)));
-    sendable(ListClock::new(List::empty(alloc)));
-    sendable(CountWords::new(alloc, 0, Fails::never(alloc)));
-    sendable(list_words(alloc, Fails::never(alloc))?);
-    sendable(source(alloc, "a", 1, Fails::never(alloc))?);
-    sendable(MemorySink::new(alloc, 1, Fails::never(alloc)));
-    sendable(StreamSource::new(rt.stdin()));
-    sendable(StreamSink::new(rt.stdout()));
-    sendable(SystemWords::new(alloc, &rt));
-    sendable(SystemClock::new(&rt));
+    let counted = CountWords::new(alloc, 0, Fails::never(alloc));
+    let listed = list_words(alloc, Fails::never(alloc))?;
+    let system = SystemWords::new(alloc, rt);
+    Ok([
+        first_draw(sendable(counted)),
+        first_draw(sendable(listed)),
+        first_draw(sendable(system)),
+    ])
+}
+
+fn readings_of_all(rt: &HostRuntime) -> [bool; 3] {
+    [
+        goes_on(sendable(FixedClock::new(Moment(5)))),
+        goes_on(sendable(ListClock::new(List::empty(rt.alloc())))),
+        goes_on(sendable(SystemClock::new(rt))),
+    ]
+}
+
+#[test]
+fn each_form_is_called_through_its_bound(rt: HostRuntime) -> Result<(), Fail> {
+    assert_eq!(rt; takes_of_all(rt.alloc())?, [Took::Got(2); 2]);
+    assert_eq!(rt;
+        puts_of_all(rt.alloc()),
+        [Gave::Put(2), Gave::Put(3), Gave::Put(3)]
+    );
+    assert_eq!(rt; draws_of_all(&rt)?, [3; 3]);
+    assert_eq!(rt; readings_of_all(&rt), [true; 3]);
     Ok(())
 }
