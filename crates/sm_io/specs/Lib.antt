@@ -1,6 +1,8 @@
+pub mod Adapters
 pub mod Calls
 pub mod CountWords
 pub mod Faults
+pub mod FixedClock
 pub mod ListClock
 pub mod ListWords
 pub mod MemorySink

@@ -3,6 +3,7 @@ use Rattle.std.specs.Prelude.{◌≡◌, ℕ, List, Option, take, ⊤}
 use Rattle.std.specs.Io.KnownBytes.{append_known}
 use Rattle.sm_io.specs.declared.sink.Gave.{Gave}
 use Rattle.sm_io.specs.declared.sink.Gave.TheVariants.{Put, Failed}
+use Rattle.sm_io.specs.Faults.{raised}
 
 -- a fact about how many bytes a put gave, where it didn't fail
 abbrev pub IfPut : Gave → (ℕ → Type 0) → Type 0
@@ -18,3 +19,8 @@ OnPutFailed Failed P = P
 abbrev pub Puts : Gave → List ℕ → Option (List ℕ) → Option (List ℕ) → Type 0
 Puts (Put n) piece old new = new ≡ append_known old (take n piece)
 Puts Failed piece old new = new ≡ old
+
+-- the count of a sink that counts exactly its failed puts
+abbrev pub faults_after_put : Gave → ℕ → ℕ
+faults_after_put (Put n) count = count
+faults_after_put Failed count = raised count

@@ -3,6 +3,7 @@ use Rattle.std.specs.Prelude.{◌≡◌, ℕ, List, Option, take, ⊤}
 use Rattle.std.specs.Io.KnownBytes.{prepend_known}
 use Rattle.sm_io.specs.declared.source.Took.{Took}
 use Rattle.sm_io.specs.declared.source.Took.TheVariants.{Got, End, Failed}
+use Rattle.sm_io.specs.Faults.{raised}
 
 -- a fact about how many bytes a take got, where it got some
 abbrev pub IfGot : Took → (ℕ → Type 0) → Type 0
@@ -28,3 +29,9 @@ abbrev pub Takes : Took → List ℕ → Option (List ℕ) → Option (List ℕ)
 Takes (Got n) buf old new = old ≡ prepend_known (take n buf) new
 Takes End buf old new = new ≡ old
 Takes Failed buf old new = new ≡ old
+
+-- the count of a source that counts exactly its failed takes
+abbrev pub faults_after_take : Took → ℕ → ℕ
+faults_after_take (Got n) count = count
+faults_after_take End count = count
+faults_after_take Failed count = raised count

@@ -13,11 +13,11 @@ pub struct Calls {
 }
 
 impl Calls {
-    ghost use Rattle.sm_io.specs.Calls.{fails_next, after_call, after_fault};
+    ghost use Rattle.sm_io.specs.Calls.{no_calls, fails_next, after_call, after_fault};
 
     /// No calls so far.
     pub fn new(fails: Fails) -> Calls
-        ensures { result ≡ record { fails = fails; made = 0; faults = 0 } }
+        ensures { result ≡ no_calls fails }
     {
         Calls {
             fails,

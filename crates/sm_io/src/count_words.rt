@@ -1,48 +1,50 @@
 //! Random words in memory that count up.
-ghost use Rattle.std.specs.Prelude.{◌≡◌, ◌↔◌, ◌+◌, ◌-◌, ◌≤◌, [], length, IsTrue, IfOk, Some};
+ghost use Rattle.std.specs.Prelude.{◌≡◌, ◌↔◌, ◌+◌, ◌≤◌, [], length, IsTrue, IfOk, Some};
 ghost use Rattle.sm_io.specs.Faults.{Rose};
 ghost use Rattle.sm_io.specs.Words.{IfDrew, OnDrawFailed, Draws};
-ghost use Rattle.sm_io.specs.Calls.{fails_next};
+ghost use Rattle.sm_io.specs.Calls.{no_calls, fails_next};
 ghost use Rattle.sm_io.specs.CountWords.{count_up, after_draw};
 
 use crate::calls::Calls;
+use crate::count::Count;
 use crate::words::{Drew, Words};
 use sm_model::{Bytes, Fails, NoMemory};
 use std::alloc::Global;
 use std::marker::Model;
 
-/// Words that draw a first byte, the first plus 1, and on, modulo 256, unless a call is told to fail. A draw
-/// that would come past 2^64 - 1 finds no memory.
+/// Words that draw a first byte, the first plus 1, and on, modulo 256, unless a call is told to fail.
 #[derive(Drop)]
 pub struct CountWords {
     alloc: Global,
     first: u8,
-    next: u64,
+    next: u8,
+    count: Count,
     calls: Calls,
 }
 
 impl Model for CountWords {
-    ghost use Rattle.std.specs.Prelude.{◌-◌, ◌≤◌};
+    ghost use Rattle.std.specs.Prelude.{◌≡◌, ◌+◌, ◌%◌};
     ghost use Rattle.sm_io.specs.CountWords.{CountState};
 
     ghost Value = { CountState };
 
-    ghost view = { λ w. record { first = w.first; count = w.next - w.first; calls = w.calls } };
+    ghost view = { λ w. record { first = w.first; count = w.count.value; calls = w.calls } };
 
-    ghost invariant = { λ w. w.first ≤ w.next };
+    ghost invariant = { λ w. w.next ≡ (w.first + w.count.value) % 256 };
 }
 
 impl CountWords {
     /// Words that have drawn nothing. It takes no memory.
     pub fn new(alloc: Global, first: u8, fails: Fails) -> CountWords
-        ensures state { result ≡ record { first = first; count = 0; calls = record { fails = fails; made = 0; faults = 0 } } }
+        ensures state { result ≡ record { first = first; count = 0; calls = no_calls fails } }
         ensures drawn { ⟦<CountWords as Words>⟧.drawn result ≡ Some [] }
         ensures faults { ⟦<CountWords as Words>⟧.faults result ≡ 0 }
     {
         CountWords {
             alloc,
             first,
-            next: first as u64,
+            next: first,
+            count: Count::zero(),
             calls: Calls::new(fails),
         }
     }
@@ -55,7 +57,8 @@ impl Words for CountWords {
 
     fn draw(&mut self, n: usize) -> Drew
         ensures exactly { IfDrew result (λ bytes. length bytes ≡ n) }
-        ensures bytes { Draws result (Some (count_up self.old.first self.old.count)) (Some (count_up self.new.first self.new.count)) }
+        ensures bytes { Draws result (Some (count_up self.old.first self.old.count))
+            (Some (count_up self.new.first self.new.count)) }
         ensures failed { OnDrawFailed result (Rose self.old.calls.faults self.new.calls.faults) }
         ensures later { self.old.calls.faults ≤ self.new.calls.faults }
 
@@ -69,12 +72,10 @@ impl Words for CountWords {
             return Drew::Failed;
         }
         self.calls.count_call();
-        let Some(end) = self.next.checked_add(n as u64) else {
-            return Drew::Memory;
-        };
-        match counted(self.alloc, self.next, end) {
+        match counted(self.alloc, self.next, n) {
             Ok(bytes) => {
-                self.next = end;
+                self.next = self.next.wrapping_add((n % 256) as u8);
+                self.count = Count::plus(&self.count, &n);
                 Drew::Bytes(Bytes::new(bytes))
             }
             Err(_) => Drew::Memory,
@@ -82,14 +83,13 @@ impl Words for CountWords {
     }
 }
 
-/// The numbers from one up to another, modulo 256.
-fn counted(alloc: Global, from: u64, to: u64) -> Result<Vec<u8>, NoMemory>
-    requires { from ≤ to }
-    ensures { IfOk result (λ vec. vec.items ≡ count_up from (to - from)) }
+/// So many bytes that count up from the first, modulo 256.
+fn counted(alloc: Global, first: u8, n: usize) -> Result<Vec<u8>, NoMemory>
+    ensures { IfOk result (λ vec. vec.items ≡ count_up first n) }
 {
-    let mut vec = Vec::with_capacity(alloc, (to - from) as usize)?;
-    for k in from..to {
-        vec.push((k % 256) as u8)?;
+    let mut vec = Vec::with_capacity(alloc, n)?;
+    for k in 0..n {
+        vec.push(first.wrapping_add((k % 256) as u8))?;
     }
     Ok(vec)
 }

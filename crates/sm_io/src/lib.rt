@@ -8,6 +8,7 @@
 
 pub mod calls;
 pub mod clock;
+pub mod count;
 pub mod count_words;
 pub mod fixed_clock;
 pub mod list_clock;
@@ -41,3 +42,8 @@ pub use system_clock::SystemClock;
 pub use system_words::SystemWords;
 pub use transfer::{ReadBytes, ReadEnd, Wrote, put_all, read_to};
 pub use words::{Drew, Words};
+
+#[cfg(test)]
+mod adapter_tests;
+#[cfg(test)]
+mod tests;

@@ -1,58 +1,64 @@
 //! A clock in memory that reads given moments.
-ghost use Rattle.std.specs.Prelude.{◌≡◌, ◌≤◌, [], ◌∷◌, None};
+ghost use Rattle.std.specs.Prelude.{◌≡◌, ◌≤◌, ◌+◌, ◌-◌, [], ◌∷◌, length, Some};
 ghost use Rattle.std.specs.Io.KnownBytes.{append_known};
 ghost use Rattle.sm_model.specs.declared.moment.TheConstants.{LAST_READING};
-ghost use Rattle.sm_io.specs.ListClock.{AreReadings, next_reading, after_reading};
+ghost use Rattle.sm_io.specs.ListClock.{AreReadings, reading_at, list_readings};
 
 use crate::clock::Clock;
+use crate::count::Count;
 use sm_model::{List, Moment};
 use std::marker::Model;
 
 /// A clock that reads given moments in order, then the last of them again and again, and 0 where there is
-/// none. Contracts see it as the moments that are to come.
+/// none.
 #[derive(Drop)]
 pub struct ListClock {
     moments: List<Moment>,
     at: usize,
+    count: Count,
 }
 
 impl Model for ListClock {
-    ghost use Rattle.std.specs.Prelude.{◌≤◌, List, length, drop};
-    ghost use Rattle.sm_model.specs.declared.moment.Moment.{Moment};
-    ghost use Rattle.sm_io.specs.ListClock.{AreReadings};
+    ghost use Rattle.std.specs.Prelude.{◌≡◌, ◌-◌, length, min};
+    ghost use Rattle.sm_io.specs.ListClock.{ListClockState, AreReadings};
 
-    ghost Value = { List Moment };
+    ghost Value = { ListClockState };
 
-    ghost view = { λ c. drop c.at c.moments };
+    ghost view = { λ c. record { moments = c.moments; count = c.count.value } };
 
-    ghost invariant = { λ c. (c.at ≤ length c.moments) × AreReadings c.moments };
+    ghost invariant = { λ c. (c.at ≡ min c.count.value (length c.moments - 1)) × AreReadings c.moments };
 }
 
 impl ListClock {
     /// A clock that reads these moments. It takes no memory.
     pub fn new(moments: List<Moment>) -> ListClock
         requires { AreReadings moments }
-        ensures { result ≡ moments }
+        ensures state { result ≡ record { moments = moments; count = 0 } }
+        ensures readings { ⟦<ListClock as Clock>⟧.readings result ≡ Some [] }
     {
-        ListClock { moments, at: 0 }
+        ListClock {
+            moments,
+            at: 0,
+            count: Count::zero(),
+        }
     }
 }
 
 impl Clock for ListClock {
-    ghost readings = { λ _. None };
+    ghost readings = { λ c. Some (list_readings c) };
 
     fn now(&mut self) -> Moment
         ensures bound { result.0 ≤ LAST_READING }
-        ensures told { None ≡ append_known None (result.0 ∷ []) }
-        ensures exact { result.0 ≡ next_reading self.old }
-        ensures after { self.new ≡ after_reading self.old }
+        ensures told { Some (list_readings self.new)
+            ≡ append_known (Some (list_readings self.old)) (result.0 ∷ []) }
+
+        // Exactly what it reads.
+        ensures exact { result.0 ≡ reading_at self.old.moments self.old.count }
+        ensures after { self.new ≡ record self.old { count = self.old.count + 1 } }
     {
-        let moments = self.moments.as_slice();
-        if self.at == moments.len() {
-            return Moment(0);
-        }
-        let moment = moments[self.at];
-        if self.at + 1 < moments.len() {
+        self.count = Count::plus(&self.count, &1);
+        let moment = moment_at(self.moments.as_slice(), self.at);
+        if self.at + 1 < self.moments.len() {
             self.at += 1;
         }
         moment
@@ -60,6 +66,19 @@ impl Clock for ListClock {
 
     fn pause(&mut self)
         ensures same { self.new ≡ self.old }
-    {
+    {}
+}
+
+/// The moment at a place of a list, and 0 where the list is empty.
+fn moment_at(moments: &[Moment], at: usize) -> Moment
+    requires readings { AreReadings moments.now }
+    requires inside { at ≤ length moments.now - 1 }
+    ensures bound { result.0 ≤ LAST_READING }
+    ensures exact { result.0 ≡ reading_at moments.now at }
+{
+    if moments.is_empty() {
+        Moment(0)
+    } else {
+        moments[at]
     }
 }

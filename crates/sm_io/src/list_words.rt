@@ -1,6 +1,7 @@
 //! Random words in memory that are given.
 ghost use Rattle.std.specs.Prelude.{◌≡◌, ◌↔◌, ◌≤◌, [], length, take, IsTrue, Some};
 ghost use Rattle.sm_io.specs.Faults.{Rose};
+ghost use Rattle.sm_io.specs.Calls.{no_calls};
 ghost use Rattle.sm_io.specs.Words.{IfDrew, OnDrawFailed, Draws};
 ghost use Rattle.sm_io.specs.ListWords.{fails_draw, after_list_draw};
 
@@ -34,7 +35,7 @@ impl Model for ListWords {
 impl ListWords {
     /// Words that draw these bytes. It takes no memory.
     pub fn new(alloc: Global, bytes: Bytes, fails: Fails) -> ListWords
-        ensures state { result ≡ record { drawn = []; rest = bytes; calls = record { fails = fails; made = 0; faults = 0 } } }
+        ensures state { result ≡ record { drawn = []; rest = bytes; calls = no_calls fails } }
         ensures drawn { ⟦<ListWords as Words>⟧.drawn result ≡ Some [] }
         ensures faults { ⟦<ListWords as Words>⟧.faults result ≡ 0 }
     {

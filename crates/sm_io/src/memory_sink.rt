@@ -2,7 +2,7 @@
 ghost use Rattle.std.specs.Prelude.{◌≡◌, ◌<◌, ◌≤◌, [], ◌++◌, length, min, if◌then◌else◌, IsTrue, Some};
 ghost use Rattle.sm_io.specs.Faults.{Rose};
 ghost use Rattle.sm_io.specs.Sink.{IfPut, OnPutFailed, Puts};
-ghost use Rattle.sm_io.specs.Calls.{fails_next};
+ghost use Rattle.sm_io.specs.Calls.{no_calls, fails_next};
 ghost use Rattle.sm_io.specs.MemorySink.{after_put};
 
 use crate::calls::Calls;
@@ -37,7 +37,7 @@ impl MemorySink {
     /// A sink that has taken nothing. It takes no memory.
     pub fn new(alloc: Global, step: usize, fails: Fails) -> MemorySink
         requires { 1 ≤ step }
-        ensures state { result ≡ record { taken = []; step = step; calls = record { fails = fails; made = 0; faults = 0 } } }
+        ensures state { result ≡ record { taken = []; step = step; calls = no_calls fails } }
         ensures taken { ⟦<MemorySink as Sink>⟧.taken result ≡ Some [] }
         ensures faults { ⟦<MemorySink as Sink>⟧.sink_faults result ≡ 0 }
     {
@@ -93,7 +93,8 @@ impl Sink for MemorySink {
     }
 }
 
-/// Adds a slice at the end of bytes, and says whether there was memory for it. Without memory the bytes stay.
+/// Adds a slice at the end of bytes, and says whether there was memory for it. Without memory the bytes
+/// stay.
 fn append(alloc: Global, bytes: &mut Bytes, slice: &[u8]) -> bool
     ensures { bytes.new ≡ (if result then bytes.old ++ slice.now else bytes.old) }
 {

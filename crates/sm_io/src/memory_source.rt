@@ -2,6 +2,7 @@
 ghost use Rattle.std.specs.Prelude.{◌≡◌, ◌<◌, ◌≤◌, length, take, Some};
 ghost use Rattle.std.specs.Io.KnownBytes.{IsAtEnd};
 ghost use Rattle.sm_io.specs.Faults.{Rose};
+ghost use Rattle.sm_io.specs.Calls.{no_calls};
 ghost use Rattle.sm_io.specs.Source.{IfGot, OnEnd, OnTakeFailed, Takes};
 ghost use Rattle.sm_io.specs.MemorySource.{take_answer, after_take};
 
@@ -35,7 +36,7 @@ impl MemorySource {
     /// A source of these bytes. It takes no memory.
     pub fn new(bytes: Bytes, step: usize, fails: Fails) -> MemorySource
         requires { 1 ≤ step }
-        ensures state { result ≡ record { rest = bytes; step = step; calls = record { fails = fails; made = 0; faults = 0 } } }
+        ensures state { result ≡ record { rest = bytes; step = step; calls = no_calls fails } }
         ensures left { ⟦<MemorySource as Source>⟧.left result ≡ Some bytes }
         ensures faults { ⟦<MemorySource as Source>⟧.source_faults result ≡ 0 }
     {

@@ -24,7 +24,7 @@ pub trait Sink {
     /// What the source beside it has left, where it tells that, and how often that has failed.
     ghost beside_sink: { Self → Option (List ℕ) × ℕ };
 
-    /// Takes the front of a piece: at least one byte, if the piece has one.
+    /// Takes the front of a piece: at least one byte, if the piece has one. Of an empty piece it takes none.
     fn put(&mut self, piece: &[u8]) -> Gave
         ensures within { IfPut result (λ n. n ≤ length piece.now) }
         ensures some { IfPut result (λ n. 0 < length piece.now → 0 < n) }

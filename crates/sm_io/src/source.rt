@@ -14,8 +14,8 @@ pub enum Took {
 
 /// A source of bytes.
 ///
-/// One value may be a source and a sink at once. What its sink side took and counted stands in `beside`,
-/// and a take leaves it.
+/// One value may be a source and a sink at once. What its sink side took and counted stands in
+/// `beside_source`, and a take leaves it.
 pub trait Source {
     /// The bytes that are left, where the source tells them.
     ghost left: { Self → Option (List ℕ) };
@@ -26,8 +26,8 @@ pub trait Source {
     /// What the sink beside it took, where it tells that, and how often that has failed.
     ghost beside_source: { Self → Option (List ℕ) × ℕ };
 
-    /// Takes the next bytes to the front of a buffer: at least one, if the buffer has room for one. What it
-    /// leaves in the rest of the buffer is not said.
+    /// Takes the next bytes to the front of a buffer: at least one, if the buffer has room for one. An empty
+    /// buffer gets none. What is left in the rest of the buffer is not said.
     fn take(&mut self, buf: &mut [u8]) -> Took
         ensures within { IfGot result (λ n. n ≤ length buf.old) }
         ensures some { IfGot result (λ n. 0 < length buf.old → 0 < n) }

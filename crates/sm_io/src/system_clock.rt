@@ -5,9 +5,8 @@ ghost use Rattle.sm_model.specs.declared.moment.TheConstants.{LAST_READING};
 use crate::clock::Clock;
 use sm_model::Moment;
 use sm_model::moment::LAST_READING;
-use std::thread;
-use std::time;
 use std::time::{Duration, SystemTime, UNIX_EPOCH};
+use std::{thread, time};
 
 /// How many milliseconds a pause sleeps.
 const PAUSE: u64 = 50;
@@ -22,16 +21,25 @@ pub struct SystemClock<C> {
 }
 
 impl<C> SystemClock<C> {
+    ghost use Rattle.sm_io.specs.Adapters.{last_reading};
+
     /// The clock of a system, which hasn't been read.
-    pub fn new(clock: C) -> SystemClock<C> {
+    pub fn new(clock: C) -> SystemClock<C>
+        ensures { last_reading result ≡ 0 }
+    {
         SystemClock { clock, last: 0 }
     }
 }
 
 impl<C: time::Clock> Clock for SystemClock<C> {
+    ghost use Rattle.sm_io.specs.Adapters.{last_reading};
+
     ghost readings = { λ _. None };
 
-    fn now(&mut self) -> Moment {
+    fn now(&mut self) -> Moment
+        ensures bound { result.0 ≤ LAST_READING }
+        ensures kept { result.0 ≡ last_reading self.new }
+    {
         if let Some(seconds) = seconds_now(&self.clock) {
             self.last = seconds.min(LAST_READING);
         }

@@ -1,5 +1,8 @@
 //! The system's random words.
-ghost use Rattle.std.specs.Prelude.{◌≡◌, None};
+ghost use Rattle.std.specs.Prelude.{◌≡◌, ◌≤◌, length, None};
+ghost use Rattle.sm_io.specs.Adapters.{draw_faults};
+ghost use Rattle.sm_io.specs.Faults.{Rose};
+ghost use Rattle.sm_io.specs.Words.{IfDrew, OnDrawFailed, faults_after_draw};
 
 use crate::words::{Drew, Words};
 use sm_model::Bytes;
@@ -17,7 +20,7 @@ pub struct SystemWords<R> {
 impl<R> SystemWords<R> {
     /// The words of this source, without a fault so far.
     pub fn new(alloc: Global, source: R) -> SystemWords<R>
-        ensures { result ≡ record { alloc = alloc; source = source; faults = 0 } }
+        ensures { draw_faults result ≡ 0 }
     {
         SystemWords {
             alloc,
@@ -30,9 +33,14 @@ impl<R> SystemWords<R> {
 impl<R: RandomSource> Words for SystemWords<R> {
     ghost drawn = { λ _. None };
 
-    ghost faults = { λ w. w.faults };
+    ghost faults = { λ w. draw_faults w };
 
-    fn draw(&mut self, n: usize) -> Drew {
+    fn draw(&mut self, n: usize) -> Drew
+        ensures exactly { IfDrew result (λ bytes. length bytes ≡ n) }
+        ensures failed { OnDrawFailed result (Rose (draw_faults self.old) (draw_faults self.new)) }
+        ensures later { draw_faults self.old ≤ draw_faults self.new }
+        ensures count { draw_faults self.new ≡ faults_after_draw result (draw_faults self.old) }
+    {
         let mut vec = Vec::new(self.alloc);
         if vec.resize(n, 0).is_err() {
             return Drew::Memory;

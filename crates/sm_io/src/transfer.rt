@@ -59,14 +59,15 @@ pub struct ReadBytes {
     pub end: ReadEnd,
 }
 
-/// Reads until nothing is left, the source fails, there is no memory for more, or as many bytes as the limit
-/// says are there. The bytes that were read are given back however it ends.
+/// Reads until nothing is left, the source fails, there is no memory for more, or as many bytes as the
+/// limit says are there. The bytes that were read are given back however it ends.
 pub fn read_to<S: Source>(alloc: Global, source: &mut S, limit: usize) -> ReadBytes
     ensures bytes { S.left source.old ≡ prepend_known result.bytes (S.left source.new) }
     ensures within { length result.bytes ≤ limit }
     ensures full { (result.end ≡ ReadEnd.Full) ↔ (length result.bytes ≡ limit) }
     ensures end { OnReadEnd result.end (IsAtEnd (S.left source.new)) }
-    ensures failed { OnReadFailed result.end (Rose (S.source_faults source.old) (S.source_faults source.new)) }
+    ensures failed { OnReadFailed result.end
+        (Rose (S.source_faults source.old) (S.source_faults source.new)) }
     ensures later { S.source_faults source.old ≤ S.source_faults source.new }
     ensures beside { S.beside_source source.new ≡ S.beside_source source.old }
 {
@@ -82,11 +83,13 @@ pub fn read_to<S: Source>(alloc: Global, source: &mut S, limit: usize) -> ReadBy
 /// Reads to the front of a vector, and says how many bytes of it were read and why the read ended.
 fn fill<S: Source>(source: &mut S, vec: &mut Vec<u8>, limit: usize) -> (usize, ReadEnd)
     ensures there { result.0 ≤ vec_len vec.new }
-    ensures bytes { S.left source.old ≡ prepend_known (take result.0 vec.new.items) (S.left source.new) }
+    ensures bytes { S.left source.old
+        ≡ prepend_known (take result.0 vec.new.items) (S.left source.new) }
     ensures within { result.0 ≤ limit }
     ensures full { (result.1 ≡ ReadEnd.Full) ↔ (result.0 ≡ limit) }
     ensures end { OnReadEnd result.1 (IsAtEnd (S.left source.new)) }
-    ensures failed { OnReadFailed result.1 (Rose (S.source_faults source.old) (S.source_faults source.new)) }
+    ensures failed { OnReadFailed result.1
+        (Rose (S.source_faults source.old) (S.source_faults source.new)) }
     ensures later { S.source_faults source.old ≤ S.source_faults source.new }
     ensures beside { S.beside_source source.new ≡ S.beside_source source.old }
 {
@@ -120,7 +123,8 @@ fn take_at<S: Source>(
         (λ _. S.left source.new ≡ S.left source.old) }
     ensures not_full { IfErr result (λ end. end ≢ ReadEnd.Full) }
     ensures end { IfErr result (λ end. OnReadEnd end (IsAtEnd (S.left source.old))) }
-    ensures failed { IfErr result (λ end. OnReadFailed end (Rose (S.source_faults source.old) (S.source_faults source.new))) }
+    ensures failed { IfErr result (λ end. OnReadFailed end
+        (Rose (S.source_faults source.old) (S.source_faults source.new))) }
     ensures later { S.source_faults source.old ≤ S.source_faults source.new }
     ensures beside { S.beside_source source.new ≡ S.beside_source source.old }
 {

@@ -3,6 +3,7 @@ ghost use Rattle.std.specs.Prelude.{◌≡◌, [], None};
 ghost use Rattle.sm_model.specs.Fails.{is_told};
 
 use crate::list::List;
+use crate::memory::{Copied, NoMemory};
 use std::alloc::Global;
 
 /// The calls that are told to fail: those whose numbers, counted from 1, are listed, and where `from` is
@@ -33,5 +34,14 @@ impl Fails {
             Some(from) => listed || from <= call,
             None => listed,
         }
+    }
+}
+
+impl Copied for Fails {
+    fn copy(&self, alloc: Global) -> Result<Fails, NoMemory> {
+        Ok(Fails {
+            calls: self.calls.copy(alloc)?,
+            from: self.from,
+        })
     }
 }

@@ -1,9 +1,11 @@
 //! Replies to accepted requests: one variant for each operation, with the members of its JSON body in snake case.
 use crate::bytes::Bytes;
 use crate::list::List;
+use crate::memory::{Copied, NoMemory};
 use crate::moment::Moment;
 use crate::spelling::{Label, Token};
 use crate::text::Text;
+use std::alloc::Global;
 
 /// The reply to CreateSecret.
 #[derive(Drop)]
@@ -50,4 +52,61 @@ pub enum Reply {
     GetSecretValue(GotSecret),
     PutSecretValue(PutValue),
     UpdateSecretVersionStage(NamedSecret),
+}
+
+impl Copied for CreatedSecret {
+    fn copy(&self, alloc: Global) -> Result<CreatedSecret, NoMemory> {
+        Ok(CreatedSecret {
+            arn: self.arn.copy(alloc)?,
+            name: self.name.copy(alloc)?,
+            version_id: self.version_id.copy(alloc)?,
+        })
+    }
+}
+
+impl Copied for GotSecret {
+    fn copy(&self, alloc: Global) -> Result<GotSecret, NoMemory> {
+        Ok(GotSecret {
+            arn: self.arn.copy(alloc)?,
+            created_date: self.created_date,
+            name: self.name.copy(alloc)?,
+            secret_binary: self.secret_binary.copy(alloc)?,
+            secret_string: self.secret_string.copy(alloc)?,
+            version_id: self.version_id.copy(alloc)?,
+            version_stages: self.version_stages.copy(alloc)?,
+        })
+    }
+}
+
+impl Copied for PutValue {
+    fn copy(&self, alloc: Global) -> Result<PutValue, NoMemory> {
+        Ok(PutValue {
+            arn: self.arn.copy(alloc)?,
+            name: self.name.copy(alloc)?,
+            version_id: self.version_id.copy(alloc)?,
+            version_stages: self.version_stages.copy(alloc)?,
+        })
+    }
+}
+
+impl Copied for NamedSecret {
+    fn copy(&self, alloc: Global) -> Result<NamedSecret, NoMemory> {
+        Ok(NamedSecret {
+            arn: self.arn.copy(alloc)?,
+            name: self.name.copy(alloc)?,
+        })
+    }
+}
+
+impl Copied for Reply {
+    fn copy(&self, alloc: Global) -> Result<Reply, NoMemory> {
+        match self {
+            Reply::CreateSecret(created) => Ok(Reply::CreateSecret(created.copy(alloc)?)),
+            Reply::GetSecretValue(got) => Ok(Reply::GetSecretValue(got.copy(alloc)?)),
+            Reply::PutSecretValue(put) => Ok(Reply::PutSecretValue(put.copy(alloc)?)),
+            Reply::UpdateSecretVersionStage(named) => {
+                Ok(Reply::UpdateSecretVersionStage(named.copy(alloc)?))
+            }
+        }
+    }
 }

@@ -4,8 +4,10 @@ ghost use Rattle.sm_model.specs.Needed.{needed, token_bytes};
 
 use crate::bytes::Bytes;
 use crate::list::List;
+use crate::memory::{Copied, NoMemory};
 use crate::text::Text;
 use crate::value::Tag;
+use std::alloc::Global;
 
 /// CreateSecret (AWS Secrets Manager API Reference, CreateSecret).
 #[derive(Drop)]
@@ -77,4 +79,64 @@ fn need_for_token(token: &Option<Text>) -> usize
     ensures { result ≡ token_bytes token.now }
 {
     if token.is_some() { 0 } else { 16 }
+}
+
+impl Copied for CreateSecret {
+    fn copy(&self, alloc: Global) -> Result<CreateSecret, NoMemory> {
+        Ok(CreateSecret {
+            client_request_token: self.client_request_token.copy(alloc)?,
+            description: self.description.copy(alloc)?,
+            kms_key_id: self.kms_key_id.copy(alloc)?,
+            name: self.name.copy(alloc)?,
+            secret_binary: self.secret_binary.copy(alloc)?,
+            secret_string: self.secret_string.copy(alloc)?,
+            tags: self.tags.copy(alloc)?,
+        })
+    }
+}
+
+impl Copied for GetSecretValue {
+    fn copy(&self, alloc: Global) -> Result<GetSecretValue, NoMemory> {
+        Ok(GetSecretValue {
+            secret_id: self.secret_id.copy(alloc)?,
+            version_id: self.version_id.copy(alloc)?,
+            version_stage: self.version_stage.copy(alloc)?,
+        })
+    }
+}
+
+impl Copied for PutSecretValue {
+    fn copy(&self, alloc: Global) -> Result<PutSecretValue, NoMemory> {
+        Ok(PutSecretValue {
+            client_request_token: self.client_request_token.copy(alloc)?,
+            secret_binary: self.secret_binary.copy(alloc)?,
+            secret_id: self.secret_id.copy(alloc)?,
+            secret_string: self.secret_string.copy(alloc)?,
+            version_stages: self.version_stages.copy(alloc)?,
+        })
+    }
+}
+
+impl Copied for UpdateSecretVersionStage {
+    fn copy(&self, alloc: Global) -> Result<UpdateSecretVersionStage, NoMemory> {
+        Ok(UpdateSecretVersionStage {
+            move_to_version_id: self.move_to_version_id.copy(alloc)?,
+            remove_from_version_id: self.remove_from_version_id.copy(alloc)?,
+            secret_id: self.secret_id.copy(alloc)?,
+            version_stage: self.version_stage.copy(alloc)?,
+        })
+    }
+}
+
+impl Copied for Request {
+    fn copy(&self, alloc: Global) -> Result<Request, NoMemory> {
+        match self {
+            Request::CreateSecret(create) => Ok(Request::CreateSecret(create.copy(alloc)?)),
+            Request::GetSecretValue(get) => Ok(Request::GetSecretValue(get.copy(alloc)?)),
+            Request::PutSecretValue(put) => Ok(Request::PutSecretValue(put.copy(alloc)?)),
+            Request::UpdateSecretVersionStage(update) => {
+                Ok(Request::UpdateSecretVersionStage(update.copy(alloc)?))
+            }
+        }
+    }
 }

@@ -1,7 +1,9 @@
 //! Why a request is refused: the cause, with the value that shows it.
+use crate::memory::{Copied, NoMemory};
 use crate::moment::Moment;
 use crate::spelling::Token;
 use crate::text::Text;
+use std::alloc::Global;
 
 /// What a limit counts.
 #[derive(Clone, Copy, Debug, PartialEq, Eq)]
@@ -61,4 +63,29 @@ pub enum Why {
     Memory,
     /// The request names something that is not built yet.
     NotBuilt,
+}
+
+impl Copied for Why {
+    fn copy(&self, alloc: Global) -> Result<Why, NoMemory> {
+        match self {
+            Why::Form(member) => Ok(Why::Form(member.copy(alloc)?)),
+            Why::HeldBy(holder) => Ok(Why::HeldBy(holder.copy(alloc)?)),
+            Why::KeepsCurrent => Ok(Why::KeepsCurrent),
+            Why::Empty(id) => Ok(Why::Empty(id.copy(alloc)?)),
+            Why::Scheduled(deletion) => Ok(Why::Scheduled(*deletion)),
+            Why::Differ => Ok(Why::Differ),
+            Why::NoSecret => Ok(Why::NoSecret),
+            Why::NoVersion => Ok(Why::NoVersion),
+            Why::NotThere(id) => Ok(Why::NotThere(id.copy(alloc)?)),
+            Why::SecretExists(name) => Ok(Why::SecretExists(name.copy(alloc)?)),
+            Why::OtherValue(id) => Ok(Why::OtherValue(id.copy(alloc)?)),
+            Why::Limit(most, what) => Ok(Why::Limit(*most, *what)),
+            Why::UnknownOperation => Ok(Why::UnknownOperation),
+            Why::NotJson => Ok(Why::NotJson),
+            Why::BadMember(member) => Ok(Why::BadMember(member.copy(alloc)?)),
+            Why::RandomFault => Ok(Why::RandomFault),
+            Why::Memory => Ok(Why::Memory),
+            Why::NotBuilt => Ok(Why::NotBuilt),
+        }
+    }
 }

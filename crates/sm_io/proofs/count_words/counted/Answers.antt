@@ -4,4 +4,4 @@ use Rattle.sm_io.proofs.Counting.{count_up-push}
 use Rattle.sm_io.proofs.count_words.counted.Goals as goal
 
 pub loop-k-preserved : goal.loop-k-preserved
-loop-k-preserved c = grind (arith, common_steps, count_up-push c.args.from c.loop-k.k (omega arith))
+loop-k-preserved c = let more = count_up-push c.args.first c.loop-k.k in grind (arith, common_steps)

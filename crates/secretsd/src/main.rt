@@ -1,0 +1,56 @@
+//! A server with the behaviour of AWS Secrets Manager on one's own machine.
+//!
+//! For now it reads one HTTP message from standard input, answers it and ends: `secretsd --mode exec --number 0`.
+#![tactic(auto)]
+
+use sm_io::{CountWords, FixedClock, StreamSink, StreamSource};
+use sm_model::{Fails, Moment};
+use sm_server::{Status, run_once};
+use std::alloc::Global;
+use std::env::Env;
+use std::io::ErrorKind;
+use std::process::ExitCode;
+use std::{env, io};
+
+/// What the clock reads where a number is given.
+const FIXED_MOMENT: Moment = Moment(1_700_000_000);
+
+fn main(rt: HostRuntime) -> ExitCode {
+    let status = match words(&rt, rt.alloc()) {
+        Ok(words) => exec(&rt, words.as_slice()),
+        Err(error) if error.kind() == ErrorKind::OutOfMemory => Status::Memory,
+        // A word that is no text is none of those that are taken.
+        Err(_) => Status::Words,
+    };
+    let code = status.code();
+    if code != 0 {
+        let _ = eprintln!(rt; "secretsd: status {code}");
+    }
+    ExitCode::from(code)
+}
+
+/// The words behind the program's name.
+fn words(rt: &(impl Env + AllocGlobal), alloc: Global) -> io::Result<Vec<String>> {
+    let mut words = Vec::new(alloc);
+    for word in env::args(rt)?.skip(1) {
+        words.push(word)?;
+    }
+    Ok(words)
+}
+
+/// Answers one message from standard input on standard output.
+fn exec(rt: &HostRuntime, words: &[String]) -> Status {
+    let alloc = rt.alloc();
+    let mut source = StreamSource::new(rt.stdin());
+    let mut sink = StreamSink::new(rt.stdout());
+    let mut clock = FixedClock::new(FIXED_MOMENT);
+    let mut random = CountWords::new(alloc, 0, Fails::never(alloc));
+    run_once(
+        alloc,
+        words,
+        &mut source,
+        &mut sink,
+        &mut clock,
+        &mut random,
+    )
+}

@@ -1,0 +1,19 @@
+-- What is drawn for a new secret.
+use Rattle.std.proofs.Common.{◌≡◌, ℕ, ◌+◌, ◌≤◌, List, Bool, true, false, ◌||◌, cond, Option, Some, None, is_some, IsSome, refl, subst}
+use Rattle.sm_model.specs.declared.request.CreateSecret.{CreateSecret}
+use Rattle.sm_model.specs.Needed.{token_bytes}
+use Rattle.sm_core.specs.Create.{value_of, create_needs, HasValue}
+
+-- a value is the text or the bytes
+either : (text binary : Option (List ℕ)) → IsSome (value_of text binary) → (is_some text || is_some binary) ≡ true
+either (Some text) binary h = refl
+either None (Some bytes) h = refl
+either None None h = let f : false ≡ true = h in cc
+
+-- where a value has no token, there are 16 bytes for it behind the six of the ARN
+pub room_for_token : (create : CreateSecret) (n : ℕ) → HasValue create → create_needs create ≤ n → create.client_request_token ≡ None → 22 ≤ n
+room_for_token create n valued room none =
+    let full : 6 + cond true (token_bytes None) 0 ≤ n =
+    subst (λ (t : Option (List ℕ)). 6 + cond true (token_bytes t) 0 ≤ n) none
+    (subst (λ b. 6 + cond b (token_bytes create.client_request_token) 0 ≤ n) (either create.secret_string create.secret_binary valued) room) in
+    full

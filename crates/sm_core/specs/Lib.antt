@@ -1,0 +1,4 @@
+pub mod Forms
+pub mod Create
+pub mod Judging
+pub mod Histories

@@ -1,0 +1,6 @@
+pub mod HeadLemmas
+pub mod MessageLemmas
+pub mod BodyLemmas
+pub mod ReplyLemmas
+pub mod TurnLemmas
+pub mod RunLemmas

@@ -1,0 +1,41 @@
+use Rattle.std.proofs.Common.{[], ◌∙◌, sym, Ok, Err}
+use Rattle.sm_io.proofs.Known.{append_known-nil}
+use Rattle.std.specs.Option.{option_copied}
+use Rattle.sm_server.specs.Answer.{heard_of}
+use Rattle.sm_server.specs.Replies.{reply_made}
+use Rattle.sm_server.specs.Turns.{nothing_told, unavailable}
+use Rattle.sm_server.proofs.TurnLemmas.{heard_turn, refused_turn, unread_turn}
+use Rattle.sm_server.proofs.turn.turn.Goals as goal
+
+pub returns-in-Ok-clause-turn : goal.returns-in-Ok-clause-turn
+returns-in-Ok-clause-turn g c =
+    let m = c.args.message.now in
+    let turn = c.asked.ensures.turn in (
+      turn.0,
+      turn.1,
+      turn.2,
+      heard_turn [] (heard_of m.method.now m.path.now (option_copied m.target) m.body.now) (Ok c.in-Ok.request) turn.0
+          (g.W.Words.faults c.args.random.now) (g.W.Words.faults c.asked.new.random) (reply_made c.asked.result) c.in-Ok.ensures turn.3,
+    )
+
+pub returns-in-Err-Refused-clause-turn : goal.returns-in-Err-Refused-clause-turn
+returns-in-Err-Refused-clause-turn g c =
+    let m = c.args.message.now in
+    let faults = g.W.Words.faults c.args.random.now in (
+      nothing_told,
+      sym (append_known-nil _),
+      sym (append_known-nil _),
+      heard_turn [] (heard_of m.method.now m.path.now (option_copied m.target) m.body.now) (Err c.in-Err-Refused.why) nothing_told
+          faults faults (reply_made c.refusal.result) (rw c.in-Err-Refused.field-0-is at c.in-Err-Refused.ensures)
+          (refused_turn [] c.in-Err-Refused.why faults faults c.refusal.result c.refusal.ensures),
+    )
+
+pub returns-in-Err-Memory-clause-turn : goal.returns-in-Err-Memory-clause-turn
+returns-in-Err-Memory-clause-turn g c =
+    let m = c.args.message.now in
+    let faults = g.W.Words.faults c.args.random.now in (
+      nothing_told,
+      sym (append_known-nil _),
+      sym (append_known-nil _),
+      unread_turn [] (heard_of m.method.now m.path.now (option_copied m.target) m.body.now) faults faults,
+    )

@@ -1,0 +1,123 @@
+-- What a message asks for: AWS JSON 1.1 (the X-Amz-Target field, the JSON object of the body), and the members of the API Reference.
+use Rattle.std.specs.Prelude.{ℕ, Bool, true, false, ◌||◌, ◌&&◌, not, ◌==◌, if◌then◌else◌, List, [], ◌∷◌, length, Option, Some, None, is_some, is_none, option_and_then, Result, Ok, Err, codes}
+use Rattle.std.specs.List.{list_any}
+use Rattle.std.specs.Str.{is_utf8, bytes_eq}
+use Rattle.serde_json.specs.Data.{Data, null, boolean, number, string, array, object, no_members}
+use Rattle.serde_json.specs.Read.{read}
+use Rattle.serde_json.specs.Find.{get, as_str}
+use Rattle.sm_model.specs.declared.request.CreateSecret.{CreateSecret}
+use Rattle.sm_model.specs.declared.request.Request.{Request}
+use Rattle.sm_model.specs.declared.request.Request.TheVariants as requests
+use Rattle.sm_model.specs.declared.why.Why.{Why}
+use Rattle.sm_model.specs.declared.why.Why.TheVariants.{NotJson, NotBuilt, BadMember}
+
+-- the first fault of two steps, or what both give
+infixl 10 ◌>>=◌
+abbrev pub ◌>>=◌ : {A B : Type 0} → Result A Why → (A → Result B Why) → Result B Why
+(Ok x) >>= f = f x
+(Err why) >>= f = Err why
+
+-- the names of the operations
+abbrev pub operations : List (List ℕ)
+operations =
+    codes "BatchGetSecretValue" ∷ codes "CancelRotateSecret" ∷ codes "CreateSecret" ∷ codes "DeleteResourcePolicy"
+    ∷ codes "DeleteSecret" ∷ codes "DescribeSecret" ∷ codes "GetRandomPassword" ∷ codes "GetResourcePolicy"
+    ∷ codes "GetSecretValue" ∷ codes "ListSecretVersionIds" ∷ codes "ListSecrets" ∷ codes "PutResourcePolicy"
+    ∷ codes "PutSecretValue" ∷ codes "RestoreSecret" ∷ codes "RotateSecret" ∷ codes "TagResource"
+    ∷ codes "UntagResource" ∷ codes "UpdateSecret" ∷ codes "UpdateSecretVersionStage" ∷ codes "ValidateResourcePolicy" ∷ []
+
+-- the text is the name of an operation
+unfoldable pub is_operation : List ℕ → Bool
+is_operation name = list_any (λ operation. bytes_eq operation name) operations
+
+-- what a text is as JSON
+abbrev pub json_of : List ℕ → Option Data
+json_of text = if is_utf8 text then read text else None
+
+-- a value, if it is an object
+abbrev pub object_only : Data → Result Data Why
+object_only null = Err NotJson
+object_only (boolean b) = Err NotJson
+object_only (number n) = Err NotJson
+object_only (string s) = Err NotJson
+object_only (array items) = Err NotJson
+object_only (object members) = Ok (object members)
+
+-- what a body is as JSON, or its refusal
+abbrev pub read_or_refused : Option Data → Result Data Why
+read_or_refused None = Err NotJson
+read_or_refused (Some json) = Ok json
+
+-- the object of a body; an empty body is one without members
+abbrev pub object_of : List ℕ → Result Data Why
+object_of body = if length body == 0 then Ok (object no_members) else (read_or_refused (json_of body) >>= object_only)
+
+-- a value, unless it is null
+abbrev pub unless_null : Data → Option Data
+unless_null null = None
+unless_null (boolean b) = Some (boolean b)
+unless_null (number n) = Some (number n)
+unless_null (string s) = Some (string s)
+unless_null (array items) = Some (array items)
+unless_null (object members) = Some (object members)
+
+-- a member of an object; null is as good as absent
+abbrev pub member_of : List ℕ → Data → Option Data
+member_of name json = option_and_then unless_null (get name json)
+
+abbrev pub is_there : List ℕ → Data → Bool
+is_there name json = is_some (member_of name json)
+
+-- a member that is text where it is there
+abbrev pub text_or_bad : List ℕ → Option (List ℕ) → Result (Option (List ℕ)) Why
+text_or_bad name (Some text) = Ok (Some text)
+text_or_bad name None = Err (BadMember name)
+
+abbrev pub optional_text : List ℕ → Option Data → Result (Option (List ℕ)) Why
+optional_text name None = Ok None
+optional_text name (Some json) = text_or_bad name (as_str json)
+
+abbrev pub text_member : List ℕ → Data → Result (Option (List ℕ)) Why
+text_member name json = optional_text name (member_of name json)
+
+-- a member that must be there
+abbrev pub required : List ℕ → Option (List ℕ) → Result (List ℕ) Why
+required name (Some text) = Ok text
+required name None = Err (BadMember name)
+
+abbrev pub required_text : List ℕ → Data → Result (List ℕ) Why
+required_text name json = text_member name json >>= required name
+
+-- CreateSecret asks for something that is not built: it lacks a member that it still needs, or has one that it may not have yet
+unfoldable pub is_more_than_built : Data → Bool
+is_more_than_built json =
+    not (is_there (codes "SecretString") json) || not (is_there (codes "ClientRequestToken") json)
+    || is_there (codes "AddReplicaRegions") json || is_there (codes "Description") json || is_there (codes "KmsKeyId") json
+    || is_there (codes "SecretBinary") json || is_there (codes "Tags") json
+
+-- the members of CreateSecret, in ascending byte order of their names
+unfoldable pub create_secret : Data → Result CreateSecret Why
+create_secret json = do
+  token ← text_member (codes "ClientRequestToken") json
+  name ← required_text (codes "Name") json
+  text ← text_member (codes "SecretString") json
+  Ok (record {
+    client_request_token = token;
+    description = None;
+    kms_key_id = None;
+    name = name;
+    secret_binary = None;
+    secret_string = text;
+    tags = None;
+  })
+
+-- what an operation asks for by the object of its body
+abbrev pub asked : List ℕ → Data → Result Request Why
+asked operation json =
+    if bytes_eq operation (codes "CreateSecret") && not (is_more_than_built json)
+    then create_secret json >>= (λ request. Ok (requests.CreateSecret request))
+    else Err NotBuilt
+
+-- the request of an operation's body, or the first refusal
+abbrev pub asks : List ℕ → List ℕ → Result Request Why
+asks operation body = object_of body >>= asked operation

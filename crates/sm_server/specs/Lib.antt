@@ -1,0 +1,12 @@
+pub mod Heads
+pub mod Messages
+pub mod Fronts
+pub mod Asks
+pub mod Gives
+pub mod Shown
+pub mod Framed
+pub mod Answer
+pub mod Turns
+pub mod Replies
+pub mod Status
+pub mod Ran

@@ -1,0 +1,17 @@
+//! The top calls of the server: from the bytes of requests to the bytes of replies.
+#![tactic(auto)]
+
+mod body;
+mod fault;
+mod head;
+mod hear;
+mod message;
+mod refusal;
+mod reply;
+mod run;
+mod status;
+mod turn;
+mod write;
+
+pub use run::run_once;
+pub use status::Status;

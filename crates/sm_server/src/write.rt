@@ -1,0 +1,95 @@
+//! Writing replies (RFC 9112): head and body in one piece where they fit, and without memory.
+ghost use Rattle.std.specs.Prelude.{◌≡◌, ◌<◌, ◌≤◌, ◌+◌, ◌++◌, [], length, decimal};
+ghost use Rattle.arrayvec.specs.ArrayVec.{array_vec_len};
+ghost use Rattle.sm_io.specs.Faults.{Rose};
+ghost use Rattle.sm_io.specs.Transfer.{IfFault, Writes};
+ghost use Rattle.sm_server.specs.Framed.{reason_of, head_text, framed};
+
+use arrayvec::ArrayVec;
+use itoa::Buffer;
+use sm_io::{Sink, Wrote, put_all};
+
+/// The first piece of a reply: its head, and as much of the body as fits.
+type Piece = ArrayVec<u8, 4096>;
+
+/// Writes a reply. It takes no memory.
+pub fn write<K: Sink>(sink: &mut K, status: u16, body: &[u8]) -> Wrote
+    ensures bytes { Writes result (framed status body.now) (K.taken sink.old) (K.taken sink.new) }
+    ensures short { IfFault result (λ n. n < length (framed status body.now)) }
+    ensures failed { IfFault result (λ _. Rose (K.sink_faults sink.old) (K.sink_faults sink.new)) }
+    ensures later { K.sink_faults sink.old ≤ K.sink_faults sink.new }
+    ensures beside { K.beside_sink sink.new ≡ K.beside_sink sink.old }
+{
+    let mut piece = head(status, body.len());
+    let (front, back) = body.split_at(body.len().min(piece.remaining_capacity()));
+    extend(&mut piece, front);
+    put_both(sink, piece.as_slice(), back)
+}
+
+/// Puts two pieces, one after the other.
+fn put_both<K: Sink>(sink: &mut K, front: &[u8], back: &[u8]) -> Wrote
+    ensures bytes { Writes result (front.now ++ back.now) (K.taken sink.old) (K.taken sink.new) }
+    ensures short { IfFault result (λ n. n < length front.now + length back.now) }
+    ensures failed { IfFault result (λ _. Rose (K.sink_faults sink.old) (K.sink_faults sink.new)) }
+    ensures later { K.sink_faults sink.old ≤ K.sink_faults sink.new }
+    ensures beside { K.beside_sink sink.new ≡ K.beside_sink sink.old }
+{
+    match put_all(sink, front) {
+        Wrote::Ok => match put_all(sink, back) {
+            Wrote::Ok => Wrote::Ok,
+            Wrote::Fault(taken) => Wrote::Fault(front.len() as u64 + taken),
+        },
+        Wrote::Fault(taken) => Wrote::Fault(taken),
+    }
+}
+
+/// Adds bytes to a piece that has room for them.
+fn extend(piece: &mut Piece, bytes: &[u8])
+    requires { array_vec_len piece.old + length bytes.now ≤ 4096 }
+    ensures items { piece.new.items ≡ piece.old.items ++ bytes.now }
+    ensures len { array_vec_len piece.new ≡ array_vec_len piece.old + length bytes.now }
+{
+    let _ = piece.try_extend_from_slice(bytes);
+}
+
+/// Adds a number in decimal.
+fn extend_decimal(piece: &mut Piece, number: u64)
+    requires { array_vec_len piece.old + 20 ≤ 4096 }
+    ensures items { piece.new.items ≡ piece.old.items ++ decimal number }
+    ensures len { array_vec_len piece.new ≤ array_vec_len piece.old + 20 }
+{
+    let mut buffer = Buffer::new();
+    extend(piece, buffer.format(number).as_bytes());
+}
+
+/// The reason of a status.
+fn reason(status: u16) -> &'static str
+    ensures value { result.now ≡ reason_of status }
+    ensures short { length result.now ≤ 21 }
+{
+    match status {
+        200 => "OK",
+        413 => "Content Too Large",
+        500 => "Internal Server Error",
+        503 => "Service Unavailable",
+        _ => "Bad Request",
+    }
+}
+
+/// What stands before a body of this length.
+fn head(status: u16, size: usize) -> Piece
+    ensures items { result.items ≡ head_text status size }
+{
+    let mut piece = Piece::new();
+    extend(&mut piece, b"HTTP/1.1 ");
+    extend_decimal(&mut piece, u64::from(status));
+    extend(&mut piece, b" ");
+    extend(&mut piece, reason(status).as_bytes());
+    extend(
+        &mut piece,
+        b"\r\nContent-Type: application/x-amz-json-1.1\r\nContent-Length: ",
+    );
+    extend_decimal(&mut piece, size as u64);
+    extend(&mut piece, b"\r\n\r\n");
+    piece
+}
