@@ -99,7 +99,7 @@ replaced_arns (r ∷ rs) row old found e f each = by (eqb r.serial row.serial) f
 -- ---- a row that is still there is the one that was there
 
 -- no row has a serial below those of the rows
-below_lacks : (rows : List SecretRow) (low next serial : ℕ) → rises low (row_serials rows) next ≡ true → serial < low → row_with rows serial ≡ None
+pub below_lacks : (rows : List SecretRow) (low next serial : ℕ) → rises low (row_serials rows) next ≡ true → serial < low → row_with rows serial ≡ None
 below_lacks [] low next serial h below = refl
 below_lacks (r ∷ rs) low next serial h below = grind (arith, nat_tests, below_lacks rs (r.serial + 1) next serial)
 

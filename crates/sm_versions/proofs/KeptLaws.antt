@@ -1,5 +1,5 @@
 -- What put, move_label and settle keep of a secret.
-use Rattle.std.proofs.Common.{◌≡◌, ℕ, Bool, true, false, not, ◌&&◌, ◌||◌, cond, List, [], ◌∷◌, ◌++◌, Option, Some, None, is_some, IsTrue, IfSome, refl, sym, subst, ◌∙◌, arith}
+use Rattle.std.proofs.Common.{◌≡◌, ℕ, Bool, true, false, not, ◌&&◌, ◌||◌, cond, List, [], ◌∷◌, ◌++◌, Option, Some, None, is_some, IsTrue, IfSome, refl, sym, ap, subst, ◌∙◌, arith}
 use Rattle.std.proofs.lemmas.Bool.{and_parts, or_right, false≢true}
 use Rattle.std.proofs.lemmas.Option.{IfSome_then}
 use Rattle.sm_model.specs.declared.value.Value.{Value}
@@ -266,6 +266,21 @@ unsettled_from_kept row kept = record {
   versions = kept.versions;
   job = IfSome_then row.job kept.job (λ job k. record { first = k.first; last = k.last; tested = k.tested; valued = at_job (is_create job.stage) (has_version row.versions job.token) (has_value row.versions job.token) k.valued });
 }
+
+not_advanced : (row : SecretRow) (job : Job) → JobKept row job → settled_job row (Some job) ≡ Some job
+not_advanced row job kept = rw kept.live (ap Some (by (is_create job.stage) (has_value row.versions job.token) kept.valued))
+  where
+    by : (create valued : Bool) → valued ≡ not create → cond (create && valued) (record job { stage = Set; attempt = 1 }) job ≡ job
+    by true valued e = rw e
+    by false valued e = refl
+
+-- settling leaves a secret that is kept
+pub settle_stays : (row : SecretRow) → CurrentKept row → settle row ≡ row
+settle_stays row kept = by row.job refl kept.job
+  where
+    by : (job : Option Job) → job ≡ row.job → IfSome job (JobKept row) → record row { job = settled_job row job } ≡ row
+    by None e k = ap (λ (j : Option Job). record row { job = j }) e
+    by (Some job) e k = ap (λ (j : Option Job). record row { job = j }) (not_advanced row job k ∙ e)
 
 -- ---- the same of the row that a call leaves
 
