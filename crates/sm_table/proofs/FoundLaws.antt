@@ -102,7 +102,7 @@ row_at_is_row rows moment i row kept e stays =
     record {
       there = row_with_own rows.secrets 0 rows.next row kept.serials here;
       stands = row_with_own (swept rows.secrets moment) 0 rows.next row after.serials (in_swept rows.secrets moment row stays here);
-      kept = in_kept rows.secrets row kept.each here
+      kept = in_kept rows.secrets row kept.each here;
     }
 
 -- the row that was found is the one with its serial, and it is kept
@@ -113,7 +113,7 @@ found_is_row rows moment id row kept e =
     record {
       there = row_with_own rows.secrets 0 rows.next row kept.serials (unswept_in rows.secrets moment row still);
       stands = row_with_own (swept rows.secrets moment) 0 rows.next row after.serials still;
-      kept = in_kept (swept rows.secrets moment) row after.each still
+      kept = in_kept (swept rows.secrets moment) row after.each still;
     }
 
 pub found_are_rows : (rows : Rows) (moment : Moment) (id : SecretId) (result : Option SecretRow) → result ≡ found rows moment id → RowsKept rows → IfSome result (IsRowOf rows moment)

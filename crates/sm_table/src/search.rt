@@ -1,5 +1,5 @@
 //! Look-ups in a list of rows.
-ghost use Rattle.std.specs.Prelude.{◌≡◌, ◌&&◌, not, nat_eq, option_copied};
+ghost use Rattle.std.specs.Prelude.{◌≡◌, ◌&&◌, not, nat_eq, IfSome, option_copied};
 ghost use Rattle.std.specs.List.{find};
 ghost use Rattle.sm_versions.specs.Texts.{same_text};
 ghost use Rattle.sm_table.specs.Sweep.{is_gone, swept};
@@ -52,7 +52,11 @@ fn first_with_arn<'a>(rows: &'a [SecretRow], moment: Moment, arn: &Arn) -> Optio
 }
 
 /// The first row that is there at the moment and has the ARN without what was drawn.
-fn first_with_short_arn<'a>(rows: &'a [SecretRow], moment: Moment, arn: &Arn) -> Option<&'a SecretRow>
+fn first_with_short_arn<'a>(
+    rows: &'a [SecretRow],
+    moment: Moment,
+    arn: &Arn,
+) -> Option<&'a SecretRow>
     ensures { option_copied result ≡ find (λ r. not (is_gone r moment) && same_text (short_arn r.arn) arn.now) rows.now }
 {
     rows.iter()
@@ -104,7 +108,8 @@ fn first_with<'a>(rows: &'a [SecretRow], serial: u64) -> Option<&'a SecretRow>
 /// The row with this serial.
 #[tactic(auto, using(crate::proofs::FoundLemmas::row_with_is_find))]
 pub fn row_with<'a>(rows: &'a [SecretRow], serial: u64) -> Option<&'a SecretRow>
-    ensures { option_copied result ≡ row_with rows.now serial }
+    ensures row { option_copied result ≡ row_with rows.now serial }
+    ensures serial { IfSome (option_copied result) (λ row. row.serial ≡ serial) }
 {
     first_with(rows, serial)
 }

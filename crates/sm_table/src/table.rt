@@ -6,8 +6,8 @@ ghost use Rattle.sm_table.specs.Changes.{changed, CanMake, StandsAt, room_for, r
 ghost use Rattle.sm_table.specs.Kept.{RowsKept, ChangeKept, NamesKept, IsRowOf};
 
 use crate::{edits, search};
-use sm_model::{Change, Copied, List, Moment, NoMemory, RowList, Rows, SecretId, SecretRow};
 use sm_model::list::copies;
+use sm_model::{Change, Copied, List, Moment, NoMemory, RowList, Rows, SecretId, SecretRow};
 use std::alloc::Global;
 use std::marker::Model;
 use std::snapshot::Snapshot;
@@ -99,7 +99,8 @@ impl Table {
 
     /// The row with this serial. It takes no memory.
     pub fn row(&self, serial: u64) -> Option<&SecretRow>
-        ensures { option_copied result ≡ row_with self.now.secrets serial }
+        ensures row { option_copied result ≡ row_with self.now.secrets serial }
+        ensures serial { IfSome (option_copied result) (λ row. row.serial ≡ serial) }
     {
         search::row_with(self.secrets.as_slice(), serial)
     }
