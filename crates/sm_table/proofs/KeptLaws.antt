@@ -98,9 +98,9 @@ push_each (r ∷ rs) row kept each = (each.0, push_each rs row kept each.1)
 -- a sweep keeps what holds of the rows
 pub sweep_keeps : (rows : Rows) (moment : Moment) → RowsKept rows → RowsKept (sweep rows moment)
 sweep_keeps rows moment kept = record {
-    serials = swept_rises rows.secrets moment 0 rows.next kept.serials;
-    each = swept_each rows.secrets moment kept.each
-  }
+  serials = swept_rises rows.secrets moment 0 rows.next kept.serials;
+  each = swept_each rows.secrets moment kept.each;
+}
 
 -- an added row has the next serial
 abbrev pub IsNext : Rows → Change → Type 0
@@ -112,17 +112,17 @@ IsNext rows Nothing = Unit {0}
 -- a change keeps it, where its row is kept and an added row has the next serial
 pub change_keeps : (rows : Rows) (change : Change) → IsNext rows change → ChangeKept change → RowsKept rows → RowsKept (changed rows change)
 change_keeps rows (Add row) next new kept = record {
-    serials = rw (serials_push rows.secrets row) (rw next (rises_push 0 (row_serials rows.secrets) rows.next kept.serials));
-    each = push_each rows.secrets row new kept.each
-  }
+  serials = rw (serials_push rows.secrets row) (rw next (rises_push 0 (row_serials rows.secrets) rows.next kept.serials));
+  each = push_each rows.secrets row new kept.each;
+}
 change_keeps rows (Replace row) next new kept = record {
-    serials = rw (replaced_serials rows.secrets row) kept.serials;
-    each = replaced_each rows.secrets row new kept.each
-  }
+  serials = rw (replaced_serials rows.secrets row) kept.serials;
+  each = replaced_each rows.secrets row new kept.each;
+}
 change_keeps rows (Drop serial) next new kept = record {
-    serials = dropped_rises rows.secrets serial 0 rows.next kept.serials;
-    each = dropped_each rows.secrets serial kept.each
-  }
+  serials = dropped_rises rows.secrets serial 0 rows.next kept.serials;
+  each = dropped_each rows.secrets serial kept.each;
+}
 change_keeps rows Nothing next new kept = kept
 
 next_from : (rows : Rows) (moment : Moment) (change : Change) → CanMake rows change → IsNext (sweep rows moment) change

@@ -2,3 +2,4 @@ pub mod RowLemmas
 pub mod FoundLemmas
 pub mod KeptLaws
 pub mod NameLaws
+pub mod FoundLaws

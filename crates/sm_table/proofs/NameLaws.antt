@@ -99,7 +99,7 @@ replaced_arns (r ∷ rs) row old found e f each = by (eqb r.serial row.serial) f
 -- ---- a row that is still there is the one that was there
 
 -- no row has a serial below those of the rows
-below_lacks : (rows : List SecretRow) (low next serial : ℕ) → rises low (row_serials rows) next ≡ true → serial < low → row_with rows serial ≡ None
+pub below_lacks : (rows : List SecretRow) (low next serial : ℕ) → rises low (row_serials rows) next ≡ true → serial < low → row_with rows serial ≡ None
 below_lacks [] low next serial h below = refl
 below_lacks (r ∷ rs) low next serial h below = grind (arith, nat_tests, below_lacks rs (r.serial + 1) next serial)
 
@@ -127,27 +127,27 @@ still_there (r ∷ rs) moment low next serial old now h found there =
 
 pub sweep_names : (rows : Rows) (moment : Moment) → NamesKept rows → NamesKept (sweep rows moment)
 sweep_names rows moment kept = record {
-    once = swept_once rows.secrets moment kept.once;
-    arns = swept_arns rows.secrets moment kept.arns
-  }
+  once = swept_once rows.secrets moment kept.once;
+  arns = swept_arns rows.secrets moment kept.arns;
+}
 
 add_names : (rows : Rows) (row : SecretRow) → IsArnOf row.arn row.name → row_named rows.secrets row.name ≡ None → NamesKept rows → NamesKept (changed rows (Add row))
 add_names rows row own free kept = record {
-    once = rw (names_push rows.secrets row) (push_once (row_names rows.secrets) row.name kept.once (named_lacks rows.secrets row.name free));
-    arns = push_arns rows.secrets row own kept.arns
-  }
+  once = rw (names_push rows.secrets row) (push_once (row_names rows.secrets) row.name kept.once (named_lacks rows.secrets row.name free));
+  arns = push_arns rows.secrets row own kept.arns;
+}
 
 replace_names : (rows : Rows) (row old : SecretRow) → row_with rows.secrets row.serial ≡ Some old → row.name ≡ old.name → row.arn ≡ old.arn → NamesKept rows → NamesKept (changed rows (Replace row))
 replace_names rows row old found e f kept = record {
-    once = rw (replaced_names rows.secrets row old found e) kept.once;
-    arns = replaced_arns rows.secrets row old found e f kept.arns
-  }
+  once = rw (replaced_names rows.secrets row old found e) kept.once;
+  arns = replaced_arns rows.secrets row old found e f kept.arns;
+}
 
 drop_names : (rows : Rows) (serial : ℕ) → NamesKept rows → NamesKept (changed rows (Drop serial))
 drop_names rows serial kept = record {
-    once = dropped_once rows.secrets serial kept.once;
-    arns = dropped_arns rows.secrets serial kept.arns
-  }
+  once = dropped_once rows.secrets serial kept.once;
+  arns = dropped_arns rows.secrets serial kept.arns;
+}
 
 none_from : (o : Option SecretRow) → IsNone o → o ≡ None
 none_from None h = refl

@@ -1,5 +1,6 @@
 -- What holds of all rows between any two changes.
-use Rattle.std.specs.Prelude.{ℕ, Bool, true, ◌&&◌, List, [], ◌∷◌, not, IsTrue}
+use Rattle.std.specs.Prelude.{◌≡◌, ℕ, Bool, true, ◌&&◌, List, [], ◌∷◌, Some, not, IsTrue}
+use Rattle.sm_model.specs.declared.moment.Moment.{Moment}
 use Rattle.sm_model.specs.declared.entry.Change.{Change}
 use Rattle.sm_model.specs.declared.entry.Change.TheVariants.{Add, Replace, Drop, Nothing}
 use Rattle.sm_model.specs.declared.rows.SecretRow.{SecretRow}
@@ -7,7 +8,8 @@ use Rattle.sm_model.specs.declared.rows.Rows.{Rows}
 use Rattle.sm_versions.specs.Texts.{is_among}
 use Rattle.sm_versions.specs.Serials.{rises}
 use Rattle.sm_versions.specs.Kept.{CurrentKept}
-use Rattle.sm_table.specs.Changes.{IsArnOf}
+use Rattle.sm_table.specs.Sweep.{swept}
+use Rattle.sm_table.specs.Changes.{row_with, IsArnOf}
 
 abbrev pub row_serials : List SecretRow → List ℕ
 row_serials [] = []
@@ -48,3 +50,9 @@ EachArn (r ∷ rs) = IsArnOf r.arn r.name × EachArn rs
 pub record NamesKept (rows : Rows) : Type 0 where
   pub once : IsTrue (once (row_names rows.secrets))
   pub arns : EachArn rows.secrets
+
+-- a row that a look-up at the moment gave: it is the one with its serial, it is still there, and it is kept
+pub record IsRowOf (rows : Rows) (moment : Moment) (row : SecretRow) : Type 0 where
+  pub there : row_with rows.secrets row.serial ≡ Some row
+  pub stands : row_with (swept rows.secrets moment) row.serial ≡ Some row
+  pub kept : CurrentKept row

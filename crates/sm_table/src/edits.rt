@@ -26,7 +26,7 @@ pub fn sweep(rows: &mut Vec<SecretRow>, moment: Moment)
 }
 
 /// Whether the row has this serial.
-fn has_serial(row: &SecretRow, serial: u64) -> bool
+pub fn has_serial(row: &SecretRow, serial: u64) -> bool
     ensures { result ≡ nat_eq row.now.serial serial }
 {
     row.serial == serial

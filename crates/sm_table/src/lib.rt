@@ -7,3 +7,6 @@ pub mod search;
 pub mod table;
 
 pub use table::{Prepared, Table};
+
+#[cfg(test)]
+mod tests;

@@ -1,11 +1,12 @@
 //! Look-ups in a list of rows.
-ghost use Rattle.std.specs.Prelude.{◌≡◌, ◌&&◌, not, option_copied};
+ghost use Rattle.std.specs.Prelude.{◌≡◌, ◌&&◌, not, nat_eq, IfSome, option_copied};
 ghost use Rattle.std.specs.List.{find};
 ghost use Rattle.sm_versions.specs.Texts.{same_text};
 ghost use Rattle.sm_table.specs.Sweep.{is_gone, swept};
 ghost use Rattle.sm_table.specs.Found.{row_named, row_with_arn, row_with_short_arn, row_by_arn, short_arn};
+ghost use Rattle.sm_table.specs.Changes.{row_with};
 
-use crate::edits::is_gone;
+use crate::edits::{has_serial, is_gone};
 use sm_model::{Arn, Moment, Name, SecretRow};
 
 /// How many characters of an ARN are drawn when the secret is made, with the hyphen before them.
@@ -51,7 +52,11 @@ fn first_with_arn<'a>(rows: &'a [SecretRow], moment: Moment, arn: &Arn) -> Optio
 }
 
 /// The first row that is there at the moment and has the ARN without what was drawn.
-fn first_with_short_arn<'a>(rows: &'a [SecretRow], moment: Moment, arn: &Arn) -> Option<&'a SecretRow>
+fn first_with_short_arn<'a>(
+    rows: &'a [SecretRow],
+    moment: Moment,
+    arn: &Arn,
+) -> Option<&'a SecretRow>
     ensures { option_copied result ≡ find (λ r. not (is_gone r moment) && same_text (short_arn r.arn) arn.now) rows.now }
 {
     rows.iter()
@@ -91,4 +96,20 @@ pub fn row_by_arn<'a>(rows: &'a [SecretRow], moment: Moment, arn: &Arn) -> Optio
         Some(row) => Some(row),
         None => row_with_short_arn(rows, moment, arn),
     }
+}
+
+/// The first row with this serial.
+fn first_with<'a>(rows: &'a [SecretRow], serial: u64) -> Option<&'a SecretRow>
+    ensures { option_copied result ≡ find (λ r. nat_eq r.serial serial) rows.now }
+{
+    rows.iter().find(|row| has_serial(row, serial))
+}
+
+/// The row with this serial.
+#[tactic(auto, using(crate::proofs::FoundLemmas::row_with_is_find))]
+pub fn row_with<'a>(rows: &'a [SecretRow], serial: u64) -> Option<&'a SecretRow>
+    ensures row { option_copied result ≡ row_with rows.now serial }
+    ensures serial { IfSome (option_copied result) (λ row. row.serial ≡ serial) }
+{
+    first_with(rows, serial)
 }

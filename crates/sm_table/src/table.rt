@@ -1,13 +1,13 @@
 //! The table of all secrets.
-ghost use Rattle.std.specs.Prelude.{◌≡◌, ℕ, [], IfOk, ◌^◌, ◌<◌, ◌≤◌, vec_capacity, option_copied};
+ghost use Rattle.std.specs.Prelude.{◌≡◌, ℕ, [], IfOk, IfSome, ◌^◌, ◌<◌, ◌≤◌, vec_capacity, option_copied};
 ghost use Rattle.sm_table.specs.Sweep.{sweep};
 ghost use Rattle.sm_table.specs.Found.{found};
-ghost use Rattle.sm_table.specs.Changes.{changed, CanMake, StandsAt, room_for, PreparedChange};
-ghost use Rattle.sm_table.specs.Kept.{RowsKept, ChangeKept, NamesKept};
+ghost use Rattle.sm_table.specs.Changes.{changed, CanMake, StandsAt, room_for, row_with, PreparedChange};
+ghost use Rattle.sm_table.specs.Kept.{RowsKept, ChangeKept, NamesKept, IsRowOf};
 
 use crate::{edits, search};
-use sm_model::{Change, Copied, List, Moment, NoMemory, RowList, Rows, SecretId, SecretRow};
 use sm_model::list::copies;
+use sm_model::{Change, Copied, List, Moment, NoMemory, RowList, Rows, SecretId, SecretRow};
 use std::alloc::Global;
 use std::marker::Model;
 use std::snapshot::Snapshot;
@@ -81,12 +81,28 @@ impl Table {
     /// The row that the SecretId names, of those whose deletion date is not reached: by its name, or by the whole
     /// ARN before an ARN without the hyphen and the six characters at its end. It takes no memory.
     pub fn find(&self, id: &SecretId, moment: Moment) -> Option<&SecretRow>
+        ensures found { option_copied result ≡ found self.now moment id.now }
+        ensures kept { RowsKept self.now → IfSome (option_copied result) (IsRowOf self.now moment) }
+    {
+        self.named(id, moment)
+    }
+
+    /// The same as `find`.
+    fn named(&self, id: &SecretId, moment: Moment) -> Option<&SecretRow>
         ensures { option_copied result ≡ found self.now moment id.now }
     {
         match id {
             SecretId::Name(name) => search::row_named(self.secrets.as_slice(), moment, name),
             SecretId::Arn(arn) => search::row_by_arn(self.secrets.as_slice(), moment, arn),
         }
+    }
+
+    /// The row with this serial. It takes no memory.
+    pub fn row(&self, serial: u64) -> Option<&SecretRow>
+        ensures row { option_copied result ≡ row_with self.now.secrets serial }
+        ensures serial { IfSome (option_copied result) (λ row. row.serial ≡ serial) }
+    {
+        search::row_with(self.secrets.as_slice(), serial)
     }
 
     /// Takes all the memory that the change needs. The rows stay.

@@ -1,6 +1,5 @@
 -- What put, move_label and settle keep of a secret.
-use Rattle.std.proofs.Common.{◌≡◌, ◌≢◌, ◌⊎◌, ℕ, ◌+◌, ◌≤◌, Bool, true, false, not, ◌&&◌, ◌||◌, cond, List, [], ◌∷◌, ◌++◌, Option, Some, None, is_some, is_none, IsTrue, IfSome, refl, sym, ap, subst, ◌∙◌, arith}
-use Rattle.std.proofs.lemmas.Grind.{common_steps}
+use Rattle.std.proofs.Common.{◌≡◌, ℕ, Bool, true, false, not, ◌&&◌, ◌||◌, cond, List, [], ◌∷◌, ◌++◌, Option, Some, None, is_some, IsTrue, IfSome, refl, sym, ap, subst, ◌∙◌, arith}
 use Rattle.std.proofs.lemmas.Bool.{and_parts, or_right, false≢true}
 use Rattle.std.proofs.lemmas.Option.{IfSome_then}
 use Rattle.sm_model.specs.declared.value.Value.{Value}
@@ -15,13 +14,12 @@ use Rattle.sm_versions.specs.declared.moving.Moved.{Moved}
 use Rattle.sm_versions.specs.declared.moving.Moved.TheVariants.{Ok as Placed, NotThere, HeldBy, KeepsCurrent, Empty, TooManyLabels, Memory}
 use Rattle.sm_versions.specs.Texts.{same_text, is_among, aws_current}
 use Rattle.sm_versions.specs.Labels.{holder, place, place_all, without}
-use Rattle.sm_versions.specs.Versions.{has_version, has_value, value_of, version_of, filled}
-use Rattle.sm_versions.specs.Serials.{rises, version_serials}
+use Rattle.sm_versions.specs.Versions.{has_version, has_value, version_of, filled}
 use Rattle.sm_versions.specs.Settle.{is_live, is_create, advanced, settled_job, settle}
 use Rattle.sm_versions.specs.Put.{new_version, added_row, filled_row, put_row, put_row_by}
-use Rattle.sm_versions.specs.Move.{missing, move_placed, move_onto, move_to, move_held, unless_missing, move_answer, move_row, is_moved}
-use Rattle.sm_versions.specs.Kept.{VersionsKept, JobFits, JobKept, KeptUnsettled, CurrentKept, has_none, holder_has_value, has_current_value, is_finish, will_have_current}
-use Rattle.sm_versions.proofs.TextLemmas.{same_text_tells, same_text_itself}
+use Rattle.sm_versions.specs.Move.{missing, move_placed, move_to, move_held, unless_missing, move_answer, move_row, is_moved}
+use Rattle.sm_versions.specs.Kept.{VersionsKept, JobFits, JobKept, KeptUnsettled, CurrentKept, has_none, holder_has_value, is_finish, will_have_current}
+use Rattle.sm_versions.proofs.TextLemmas.{same_text_itself}
 use Rattle.sm_versions.proofs.PlaceLemmas.{Sound, sound_place_all, sound_place, sound_without, holder_named, holder_place_all, holder_place, holder_without_other}
 use Rattle.sm_versions.proofs.ValueLemmas.{has_version_filled, ids_filled, serials_filled, has_value_filled, has_value_there, has_version_push, ids_push, value_of_push, has_value_named, serials_added, named_more, version_of_none, version_of_some, not_none}
 
@@ -56,9 +54,9 @@ added_there row token value moment =
 
 added_sound : (row : SecretRow) (token : List ℕ) (value : Value) (moment : Moment) → VersionsKept row → Sound (row.versions ++ new_version row token value moment ∷ []) row.labels
 added_sound row token value moment kept = record {
-    once = kept.once;
-    named = named_more row.versions (row.versions ++ w ∷ []) row.labels (λ x h. rw (has_version_push row.versions w x) (grind arith)) kept.named
-  }
+  once = kept.once;
+  named = named_more row.versions (row.versions ++ w ∷ []) row.labels (λ x h. rw (has_version_push row.versions w x) (grind arith)) kept.named;
+}
   where
     w : VersionRow
     w = new_version row token value moment
@@ -78,7 +76,7 @@ versions_kept_added row token value labels moment none will kept =
       named = after.named;
       ids = ids_push row.versions w kept.ids none;
       serials = serials_added row.versions w row.next_version refl kept.serials;
-      current = or_right (has_none ws) _ (current_kept row.versions ws row.labels labels token (added_keeps_values row.versions w) (added_value row token value moment none) before kept.current will)
+      current = or_right (has_none ws) _ (current_kept row.versions ws row.labels labels token (added_keeps_values row.versions w) (added_value row token value moment none) before kept.current will);
     }
 
 versions_kept_filled : (row : SecretRow) (token : List ℕ) (value : Value) (labels : List (List ℕ)) → has_version row.versions token ≡ true → will_have_current row labels ≡ true → VersionsKept row → VersionsKept (filled_row row token value labels)
@@ -92,7 +90,7 @@ versions_kept_filled row token value labels there will kept =
       named = after.named;
       ids = ids_filled row.versions token value ∙ kept.ids;
       serials = rw (serials_filled row.versions token value) kept.serials;
-      current = or_right (has_none ws) _ (current_kept row.versions ws row.labels labels token (has_value_filled row.versions token value) (has_value_there row.versions token value there) before kept.current will)
+      current = or_right (has_none ws) _ (current_kept row.versions ws row.labels labels token (has_value_filled row.versions token value) (has_value_there row.versions token value there) before kept.current will);
     }
 
 job_fits_added : (row : SecretRow) (token : List ℕ) (value : Value) (labels : List (List ℕ)) (moment : Moment) (job : Job) → JobFits row job → JobFits (added_row row token value labels moment) job
@@ -102,16 +100,16 @@ job_fits_added row token value labels moment job fits =
       first = fits.first;
       last = fits.last;
       tested = fits.tested;
-      valued = rw (has_version_push row.versions w job.token, value_of_push row.versions w job.token) (grind (arith, fits.valued))
+      valued = rw (has_version_push row.versions w job.token, value_of_push row.versions w job.token) (grind (arith, fits.valued));
     }
 
 job_fits_filled : (row : SecretRow) (token : List ℕ) (value : Value) (labels : List (List ℕ)) (job : Job) → JobFits row job → JobFits (filled_row row token value labels) job
 job_fits_filled row token value labels job fits = record {
-    first = fits.first;
-    last = fits.last;
-    tested = fits.tested;
-    valued = rw (has_version_filled row.versions token value job.token) (grind (arith, fits.valued, has_value_filled row.versions token value job.token))
-  }
+  first = fits.first;
+  last = fits.last;
+  tested = fits.tested;
+  valued = rw (has_version_filled row.versions token value job.token) (grind (arith, fits.valued, has_value_filled row.versions token value job.token));
+}
 
 -- a put keeps what stands before settling, where AWSCURRENT has a holder or is placed
 pub put_keeps : (row : SecretRow) (token : List ℕ) (value : Value) (labels : List (List ℕ)) (moment : Moment) → IsTrue (will_have_current row labels) → KeptUnsettled row → KeptUnsettled (put_row row token value labels moment)
@@ -119,13 +117,13 @@ put_keeps row token value labels moment will kept = by (version_of row.versions 
   where
     by : (found : Option VersionRow) → version_of row.versions token ≡ found → KeptUnsettled (put_row_by row token value labels moment found)
     by None e = record {
-        versions = versions_kept_added row token value labels moment (version_of_none row.versions token e) will kept.versions;
-        job = IfSome_then row.job kept.job (λ job. job_fits_added row token value labels moment job)
-      }
+      versions = versions_kept_added row token value labels moment (version_of_none row.versions token e) will kept.versions;
+      job = IfSome_then row.job kept.job (λ job. job_fits_added row token value labels moment job);
+    }
     by (Some v) e = record {
-        versions = versions_kept_filled row token value labels (version_of_some row.versions token v e).0 will kept.versions;
-        job = IfSome_then row.job kept.job (λ job. job_fits_filled row token value labels job)
-      }
+      versions = versions_kept_filled row token value labels (version_of_some row.versions token v e).0 will kept.versions;
+      job = IfSome_then row.job kept.job (λ job. job_fits_filled row token value labels job);
+    }
 
 -- ---- a move
 
@@ -184,7 +182,7 @@ versions_kept_move row label None other kept =
       named = after.named;
       ids = kept.ids;
       serials = kept.serials;
-      current = rw (holder_without_other row.labels label aws_current other) kept.current
+      current = rw (holder_without_other row.labels label aws_current other) kept.current;
     }
 versions_kept_move row label (Some to) accepted kept =
     let before : Sound row.versions row.labels = record { once = kept.once; named = kept.named } in
@@ -194,7 +192,7 @@ versions_kept_move row label (Some to) accepted kept =
       named = after.named;
       ids = kept.ids;
       serials = kept.serials;
-      current = rw (holder_place row.labels label to) (moved_current (same_text label aws_current) (has_value row.versions to) (has_none row.versions) row.versions to (holder row.labels aws_current) refl accepted.1 kept.current)
+      current = rw (holder_place row.labels label to) (moved_current (same_text label aws_current) (has_value row.versions to) (has_none row.versions) row.versions to (holder row.labels aws_current) refl accepted.1 kept.current);
     }
 
 job_fits_move : (row : SecretRow) (label : List ℕ) (to : Option (List ℕ)) (job : Job) → JobFits row job → JobFits (move_row row label to) job
@@ -203,9 +201,9 @@ job_fits_move row label to job fits = record { first = fits.first; last = fits.l
 -- an accepted move keeps what stands before settling
 pub move_keeps : (row : SecretRow) (label : List ℕ) (to from : Option (List ℕ)) → move_answer row label to from ≡ Placed → KeptUnsettled row → KeptUnsettled (move_row row label to)
 move_keeps row label to from accepted kept = record {
-    versions = versions_kept_move row label to (accepts_from_answer row label to from accepted) kept.versions;
-    job = IfSome_then row.job kept.job (λ job. job_fits_move row label to job)
-  }
+  versions = versions_kept_move row label to (accepts_from_answer row label to from accepted) kept.versions;
+  job = IfSome_then row.job kept.job (λ job. job_fits_move row label to job);
+}
 
 -- ---- settling
 
@@ -233,19 +231,19 @@ job_kept_advanced row job live fits = by (is_create job.stage && has_value row.v
   where
     by : (b : Bool) → b ≡ (is_create job.stage && has_value row.versions job.token) → JobKept (settle row) (cond b (record job { stage = Set; attempt = 1 }) job)
     by true e = record {
-        live = live;
-        first = omega arith;
-        last = omega arith;
-        tested = fits.tested ∙ create_is_no_finish job.stage (and_parts (is_create job.stage) (has_value row.versions job.token) (sym e)).0;
-        valued = (and_parts (is_create job.stage) (has_value row.versions job.token) (sym e)).1
-      }
+      live = live;
+      first = omega arith;
+      last = omega arith;
+      tested = fits.tested ∙ create_is_no_finish job.stage (and_parts (is_create job.stage) (has_value row.versions job.token) (sym e)).0;
+      valued = (and_parts (is_create job.stage) (has_value row.versions job.token) (sym e)).1;
+    }
     by false e = record {
-        live = live;
-        first = fits.first;
-        last = fits.last;
-        tested = fits.tested;
-        valued = past_create (is_create job.stage) (has_version row.versions job.token) (has_value row.versions job.token) (live_there row job live) (sym e) fits.valued
-      }
+      live = live;
+      first = fits.first;
+      last = fits.last;
+      tested = fits.tested;
+      valued = past_create (is_create job.stage) (has_version row.versions job.token) (has_value row.versions job.token) (live_there row job live) (sym e) fits.valued;
+    }
 
 job_settled : (row : SecretRow) (job : Option Job) → IfSome job (JobFits row) → IfSome (settled_job row job) (JobKept (settle row))
 job_settled row None fits = tt
@@ -258,16 +256,31 @@ job_settled row (Some job) fits = by (is_live row job) refl
 -- what stands before settling, settled, is what holds between changes
 pub settle_keeps : (row : SecretRow) → KeptUnsettled row → CurrentKept (settle row)
 settle_keeps row kept = record {
-    versions = record { once = kept.versions.once; named = kept.versions.named; ids = kept.versions.ids; serials = kept.versions.serials; current = kept.versions.current };
-    job = job_settled row row.job kept.job
-  }
+  versions = record { once = kept.versions.once; named = kept.versions.named; ids = kept.versions.ids; serials = kept.versions.serials; current = kept.versions.current };
+  job = job_settled row row.job kept.job;
+}
 
 -- what holds between changes stands before settling too
 pub unsettled_from_kept : (row : SecretRow) → CurrentKept row → KeptUnsettled row
 unsettled_from_kept row kept = record {
-    versions = kept.versions;
-    job = IfSome_then row.job kept.job (λ job k. record { first = k.first; last = k.last; tested = k.tested; valued = at_job (is_create job.stage) (has_version row.versions job.token) (has_value row.versions job.token) k.valued })
-  }
+  versions = kept.versions;
+  job = IfSome_then row.job kept.job (λ job k. record { first = k.first; last = k.last; tested = k.tested; valued = at_job (is_create job.stage) (has_version row.versions job.token) (has_value row.versions job.token) k.valued });
+}
+
+not_advanced : (row : SecretRow) (job : Job) → JobKept row job → settled_job row (Some job) ≡ Some job
+not_advanced row job kept = rw kept.live (ap Some (by (is_create job.stage) (has_value row.versions job.token) kept.valued))
+  where
+    by : (create valued : Bool) → valued ≡ not create → cond (create && valued) (record job { stage = Set; attempt = 1 }) job ≡ job
+    by true valued e = rw e
+    by false valued e = refl
+
+-- settling leaves a secret that is kept
+pub settle_stays : (row : SecretRow) → CurrentKept row → settle row ≡ row
+settle_stays row kept = by row.job refl kept.job
+  where
+    by : (job : Option Job) → job ≡ row.job → IfSome job (JobKept row) → record row { job = settled_job row job } ≡ row
+    by None e k = ap (λ (j : Option Job). record row { job = j }) e
+    by (Some job) e k = ap (λ (j : Option Job). record row { job = j }) (not_advanced row job k ∙ e)
 
 -- ---- the same of the row that a call leaves
 

@@ -1,5 +1,5 @@
 -- What placing labels does to holders, and that each label stays in one pair and each pair names a version.
-use Rattle.std.proofs.Common.{◌≡◌, ◌≢◌, ◌⊎◌, ℕ, Bool, true, false, not, ◌&&◌, ◌||◌, cond, List, [], ◌∷◌, ◌++◌, Option, Some, None, is_some, is_none, refl, sym, ap, ◌∙◌, arith}
+use Rattle.std.proofs.Common.{◌≡◌, ℕ, Bool, true, false, cond, List, [], ◌∷◌, ◌++◌, Option, Some, None, refl, ap, ◌∙◌, arith}
 use Rattle.std.proofs.lemmas.Grind.{common_steps}
 use Rattle.std.proofs.lemmas.Bool.{or_parts}
 use Rattle.sm_model.specs.declared.rows.Pair.{Pair}
@@ -9,7 +9,7 @@ use Rattle.sm_versions.specs.Labels.{holder, without, moved, with_previous, with
 use Rattle.sm_versions.specs.Versions.{has_version}
 use Rattle.sm_versions.specs.Kept.{labels_once, pairs_named}
 use Rattle.sm_versions.proofs.TextLemmas.{same_text_tells, same_text_itself}
-use Rattle.sm_versions.proofs.LabelLemmas.{place_all_is, place_each-append}
+use Rattle.sm_versions.proofs.LabelLemmas.{place_all_is}
 
 -- ---- holders
 
@@ -138,6 +138,7 @@ holder_place_all ps labels id = rw (place_all_is ps labels id) (by (is_among lab
   where
     before : List (List ℕ)
     before = others (firsts labels) aws_current
+
     by : (b : Bool) → holder (cond b (with_current (place_each ps before id) id) (place_each ps before id)) aws_current ≡ cond b (Some id) (holder ps aws_current)
     by true = holder_current (place_each ps before id) id
     by false = holder_place_each ps before id (others_lack (firsts labels) aws_current)

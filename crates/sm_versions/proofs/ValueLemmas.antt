@@ -1,5 +1,5 @@
 -- What filling and adding a version does to ids, serials and values.
-use Rattle.std.proofs.Common.{◌≡◌, ◌≢◌, ◌⊎◌, ℕ, ◌+◌, ◌≤◌, leb, Bool, true, false, not, ◌&&◌, ◌||◌, cond, List, [], ◌∷◌, ◌++◌, Option, Some, None, is_some, is_none, refl, sym, ap, ◌∙◌, arith}
+use Rattle.std.proofs.Common.{◌≡◌, ℕ, ◌+◌, true, false, ◌||◌, cond, List, [], ◌∷◌, ◌++◌, Some, None, refl, sym, ap, arith}
 use Rattle.std.proofs.lemmas.Grind.{common_steps}
 use Rattle.std.proofs.lemmas.Bool.Decides.{nat_tests}
 use Rattle.sm_model.specs.declared.value.Value.{Value}
@@ -9,7 +9,7 @@ use Rattle.sm_versions.specs.Texts.{same_text}
 use Rattle.sm_versions.specs.Versions.{has_version, has_value, value_of, version_of, filled}
 use Rattle.sm_versions.specs.Serials.{rises, version_serials}
 use Rattle.sm_versions.specs.Kept.{ids_once, pairs_named, has_none}
-use Rattle.sm_versions.proofs.TextLemmas.{same_text_tells, same_text_itself}
+use Rattle.sm_versions.proofs.TextLemmas.{same_text_tells}
 
 -- ---- a version filled
 

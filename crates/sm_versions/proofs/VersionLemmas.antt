@@ -1,16 +1,20 @@
 -- Versions of one secret.
-use Rattle.std.proofs.Common.{◌≡◌, ◌≢◌, ◌↔◌, ◌⊎◌, ℕ, zero, suc, ◌+◌, ◌<◌, ◌≤◌, Bool, true, false, not, ◌||◌, cond, List, [], ◌∷◌, ◌++◌, length, get_or, set, Option, Some, None, is_some, IsTrue, Decides, refl, sym, ap, ◌∙◌, arith}
+use Rattle.std.proofs.Common.{◌≡◌, ◌↔◌, ℕ, zero, suc, ◌+◌, ◌<◌, ◌≤◌, Bool, true, false, not, cond, List, [], ◌∷◌, length, get_or, set, Option, Some, None, is_some, IsTrue, Decides, refl, sym, ap, ◌∙◌, arith}
 use Rattle.std.specs.List.{find, position, position_or_len}
 use Rattle.std.specs.Option.{option_and_then}
-use Rattle.std.proofs.lemmas.Grind.{common_steps}
+use Rattle.std.proofs.lemmas.Bool.{false≢true}
 use Rattle.std.proofs.lemmas.Bool.Decides.{same_from_decides, nat_tests}
 use Rattle.std.proofs.lemmas.List.Quantifiers.{position-Some}
 use Rattle.sm_model.specs.declared.value.Value.{Value}
 use Rattle.sm_model.specs.declared.value.Value.TheVariants.{Text, Bytes}
 use Rattle.sm_model.specs.declared.rows.VersionRow.{VersionRow}
 use Rattle.sm_versions.specs.Texts.{same_text}
-use Rattle.sm_versions.specs.Versions.{same_value, has_version, version_of, value_of, filled}
-use Rattle.sm_versions.proofs.TextLemmas.{same_text_decides, same_text_tells}
+use Rattle.sm_model.specs.declared.rows.SecretRow.{SecretRow}
+use Rattle.sm_versions.specs.declared.values.PutDone.TheVariants.{Same}
+use Rattle.sm_versions.specs.Labels.{labels_on}
+use Rattle.sm_versions.specs.Versions.{same_value, has_version, version_of, value_of, is_value, same, filled}
+use Rattle.sm_versions.specs.Put.{put_held, put_by, put_answer}
+use Rattle.sm_versions.proofs.TextLemmas.{same_text_decides}
 
 pub same_value_decides : (a b : Value) → Decides (same_value a b) (a ≡ b)
 same_value_decides (Text a) (Text b) = ((λ h. ap Text ((same_text_decides a b).0 h)), (λ e. (same_text_decides a b).1 (cc)))
@@ -65,3 +69,15 @@ pub filled_not_found : (vs : List VersionRow) (id : List ℕ) (value : Value) �
 filled_not_found vs id value none =
     let past : length vs ≤ position_or_len (λ w. same_text w.id id) vs = grind (arith, nat_tests) in
     sym (filled_past vs id value past)
+
+held_repeats : (row : SecretRow) (token : List ℕ) (value : Value) (labels : List (List ℕ)) (kept : Option Value) → is_value kept value ≡ true → put_held row token value labels kept ≡ Same (labels_on row.labels token)
+held_repeats row token value labels None h = absurd (false≢true h)
+held_repeats row token value labels (Some kept) h = rw h
+
+-- a put of exactly the value that the version has is a repeat, and answers the labels
+pub put_repeats : (row : SecretRow) (token : List ℕ) (value : Value) (labels : List (List ℕ)) → same row token value ≡ true → put_answer row token value labels ≡ Same (labels_on row.labels token)
+put_repeats row token value labels h = by (version_of row.versions token) (sym (value_of_is row.versions token))
+  where
+    by : (found : Option VersionRow) → option_and_then (λ v. v.value) found ≡ value_of row.versions token → put_by row token value labels found ≡ Same (labels_on row.labels token)
+    by None e = absurd (false≢true (ap (λ o. is_value o value) e ∙ h))
+    by (Some v) e = held_repeats row token value labels v.value (ap (λ o. is_value o value) e ∙ h)

@@ -1,6 +1,6 @@
 -- The end of every change of a secret: its rotation under way, if there is one, is settled.
 -- AWS Secrets Manager User Guide: "Rotation by Lambda function" (createSecret, setSecret, AWSPENDING).
-use Rattle.std.specs.Prelude.{ℕ, Bool, true, false, not, ◌&&◌, List, Option, Some, None, is_none, IsTrue, if◌then◌else◌}
+use Rattle.std.specs.Prelude.{Bool, true, false, not, ◌&&◌, Option, Some, None, is_none, IsTrue, if◌then◌else◌}
 use Rattle.sm_model.specs.declared.rows.Job.{Job}
 use Rattle.sm_model.specs.declared.rows.Stage.{Stage}
 use Rattle.sm_model.specs.declared.rows.Stage.TheVariants.{Create, Set, Test, Finish}

@@ -2,10 +2,10 @@
 ghost use Rattle.std.specs.Prelude.{◌≡◌, option_copied};
 ghost use Rattle.std.specs.List.{find, position};
 ghost use Rattle.sm_versions.specs.Texts.{same_text};
-ghost use Rattle.sm_versions.specs.Versions.{same_value, version_of, has_version, has_value, filled};
+ghost use Rattle.sm_versions.specs.Versions.{same_value, version_of, has_version, has_value, is_value, same, filled};
 
 use crate::labels::is_same_id;
-use sm_model::{Token, Value, VersionRow};
+use sm_model::{SecretRow, Token, Value, VersionRow};
 
 /// Whether both are the same text, or the same bytes.
 pub fn is_same_value(value: &Value, other: &Value) -> bool
@@ -44,6 +44,27 @@ pub fn has_value(versions: &[VersionRow], id: &Token) -> bool
 {
     match version_of(versions, id) {
         Some(version) => version.value.is_some(),
+        None => false,
+    }
+}
+
+/// Whether the version with this id has exactly this value.
+#[tactic(auto, using(crate::proofs::VersionLemmas::value_of_is))]
+pub fn same(row: &SecretRow, token: &Token, value: &Value) -> bool
+    ensures { result ≡ same row.now token.now value.now }
+{
+    match version_of(row.versions.as_slice(), token) {
+        Some(version) => is_value(&version.value, value),
+        None => false,
+    }
+}
+
+/// Whether the value is there, and is this one.
+fn is_value(kept: &Option<Value>, value: &Value) -> bool
+    ensures { result ≡ is_value kept.now value.now }
+{
+    match kept {
+        Some(kept) => is_same_value(kept, value),
         None => false,
     }
 }

@@ -1,5 +1,4 @@
 use Rattle.std.proofs.Common.{refl}
-use Rattle.sm_versions.specs.Texts.{aws_current}
 use Rattle.sm_versions.proofs.TextLemmas.{ascii_label}
 use Rattle.sm_versions.proofs.labels.current.Goals as goal
 

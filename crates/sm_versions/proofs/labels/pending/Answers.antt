@@ -1,5 +1,4 @@
 use Rattle.std.proofs.Common.{refl}
-use Rattle.sm_versions.specs.Texts.{aws_pending}
 use Rattle.sm_versions.proofs.TextLemmas.{ascii_label}
 use Rattle.sm_versions.proofs.labels.pending.Goals as goal
 
