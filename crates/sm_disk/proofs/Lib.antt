@@ -1,0 +1,4 @@
+pub mod Syncs
+pub mod Replays
+pub mod Kept
+pub mod Crashes

@@ -1,0 +1,6 @@
+pub mod Sight
+pub mod Steps
+pub mod Faults
+pub mod Calls
+pub mod Memory
+pub mod Laws
