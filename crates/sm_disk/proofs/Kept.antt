@@ -11,7 +11,8 @@ use Rattle.sm_disk.specs.declared.call.Act.{Act}
 use Rattle.sm_disk.specs.declared.call.Act.TheVariants.{Write, Cut, Sync}
 use Rattle.sm_disk.specs.declared.call.Call.{Call}
 use Rattle.sm_disk.specs.declared.memory.MemoryDisk.{MemoryDisk}
-use Rattle.sm_disk.proofs.Replays.{goes_on, goes_nowhere, goes_weaker, all_same, keeps_reads, synced_after, reads_on, read_done, read_failed, unsure, May, reading}
+use Rattle.sm_disk.proofs.Runs.{goes_nowhere, goes_weaker, all_same}
+use Rattle.sm_disk.proofs.Replays.{goes_on, keeps_reads, synced_after, reads_on, read_done, read_failed, unsure, May, reading}
 
 -- an act may leave the file
 pub may_not : (act : Act) (bytes : List ℕ) → MayAct act bytes bytes

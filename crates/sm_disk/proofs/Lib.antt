@@ -2,3 +2,4 @@ pub mod Syncs
 pub mod Replays
 pub mod Kept
 pub mod Crashes
+pub mod Runs

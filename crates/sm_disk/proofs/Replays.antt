@@ -2,7 +2,8 @@
 use Rattle.std.proofs.Common.{◌≡◌, ◌≢◌, inl, inr, ⊎_elim, ℕ, ◌+◌, ◌<◌, ◌≤◌, ◌&&◌, Bool, true, false, MatchBool, if◌then◌else◌, ◌==◌, eqb, List, [], ◌∷◌, ◌++◌, length, take, refl, sym, ◌∙◌, ap, subst, arith, length-append}
 use Rattle.std.proofs.lemmas.Bool.{cases_eq, cases_lt, cases_Bool, eq-eqb, ne_eqb, cond-true, cond-false, and_from, and_left, and_right, MatchBool-at_true, MatchBool-at_false}
 use Rattle.std.proofs.lemmas.List.{take-append-le, take_all}
-use Rattle.sm_disk.specs.Sight.{Image, Sight}
+use Rattle.sm_disk.specs.Sight.{Image}
+use Rattle.sm_disk.proofs.Runs.{goes_weaker, all_same}
 use Rattle.sm_disk.specs.Steps.{OnFile, Same, Follows, Goes, Keeps, Synced}
 use Rattle.sm_disk.specs.Calls.{acted, read_after, replayed, LeftByAct, LeftByCall, LeftByCalls, IsImage, sight_of}
 use Rattle.sm_disk.specs.Laws.{replayed_left}
@@ -20,27 +21,6 @@ module _ (c : Image) (file : ℕ) (bytes : List ℕ) where
 
   pub with_file_other : (other : ℕ) → other ≢ file → with_file c file bytes other ≡ c other
   with_file_other other ne = cond-false (eqb other file) bytes (c other) (ne_eqb other file ne)
-
--- nothing happens
-pub goes_nowhere : (step : Image → Image → Type 0) (now : Sight) → ((c : Image) → step c c) → Goes step now now
-goes_nowhere step now stays = record {
-  crash = λ c image. (c, image, stays c);
-  later = omega arith;
-  nothing_else = λ t c le left. inl left;
-  keeps = λ t c le left. left;
-}
-
-pub goes_weaker : (step wider : Image → Image → Type 0) (old new : Sight) → ((d c : Image) → step d c → wider d c) → Goes step old new → Goes wider old new
-goes_weaker step wider old new weaker goes = record {
-  crash = λ c image. let from = goes.crash c image in (from.0, from.1, weaker from.0 c from.2);
-  later = goes.later;
-  nothing_else = goes.nothing_else;
-  keeps = goes.keeps;
-}
-
--- a file that stays beside files that stay
-pub all_same : (file : ℕ) (d c : Image) → OnFile file (λ old new. new ≡ old) d c → Same d c
-all_same file d c on other = ⊎_elim (λ is. subst (λ (f : ℕ). c f ≡ d f) (sym is) on.changed) (λ ne. on.others other ne) (cases_eq other file)
 
 pub replayed_push : (file : ℕ) (calls : List Call) (call : Call) (bytes : List ℕ) → replayed file (calls ++ call ∷ []) bytes ≡ read_after file call (replayed file calls bytes)
 replayed_push file [] call bytes = refl

@@ -1,5 +1,6 @@
 pub mod Sight
 pub mod Steps
+pub mod OneFile
 pub mod Faults
 pub mod Calls
 pub mod Memory

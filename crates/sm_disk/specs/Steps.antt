@@ -14,6 +14,10 @@ pub record Torn (at n : ℕ) (old new : List ℕ) : Type 0 where
   pub no_shorter : length old ≤ length new
   pub no_longer : length new ≤ max (length old) (at + n)
 
+-- new is old up to this end
+abbrev pub IsCut : ℕ → List ℕ → List ℕ → Type 0
+IsCut end old new = new ≡ take end old
+
 -- a cut that a crash may undo: the new end or the old one
 abbrev pub CutOrNot : ℕ → List ℕ → List ℕ → Type 0
 CutOrNot end old new = (new ≡ take end old) ⊎ (new ≡ old)
@@ -30,6 +34,10 @@ Same old new = (file : ℕ) → new file ≡ old file
 -- each of the new ones is one of the old after a step
 abbrev pub Follows : (Image → Image → Type 0) → (Image → Type 0) → (Image → Type 0) → Type 0
 Follows step old new = (c : Image) → new c → (d : Image) × old d × step d c
+
+-- what a read gives now is what it gave, after a step
+abbrev pub ReadsFollow : (Image → Image → Type 0) → Sight → Sight → Type 0
+ReadsFollow step old new = Follows step old.reads new.reads
 
 -- A call, and the time that it takes: a crash now may leave what it might have left before, after a step. A crash since
 -- some earlier moment might have left what it might have left before the call, or what it may leave now.

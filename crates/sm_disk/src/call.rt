@@ -27,7 +27,8 @@ pub struct Call {
 
 /// Writes a piece over what is there, and past the end.
 fn write(bytes: &mut Vec<u8>, at: u64, piece: &[u8]) -> Result<(), NoMemory>
-    ensures { OnOk result (bytes.new.items ≡ take at bytes.old.items ++ piece.now ++ drop (at + length piece.now) bytes.old.items) }
+    ensures { OnOk result (bytes.new.items
+        ≡ take at bytes.old.items ++ piece.now ++ drop (at + length piece.now) bytes.old.items) }
 {
     let at = at as usize;
     if at < bytes.len() && piece.len() <= bytes.len() - at {
@@ -101,7 +102,8 @@ fn replay_filled(
     calls: &[Call],
     fill: u8,
 ) -> Result<(), NoMemory>
-    ensures { OnOk result (bytes.new.items ≡ replayed file (map (filled fill) calls.now) bytes.old.items) }
+    ensures { OnOk result (bytes.new.items
+        ≡ replayed file (map (filled fill) calls.now) bytes.old.items) }
 {
     for call in calls {
         apply_filled(alloc, bytes, file, call, fill)?;

@@ -1,7 +1,7 @@
 //! The disk as the crates above see it.
 ghost use Rattle.std.specs.Prelude.{◌≡◌, ◌<◌, ◌≤◌, ◌+◌, ℕ, length, take, drop, IfOk, OnOk, OnErr};
 ghost use Rattle.sm_disk.specs.Sight.{Sight, Image};
-ghost use Rattle.sm_disk.specs.Steps.{Holds, Torn, CutOrNot, OnFile, Same, Follows, Goes, Keeps, Synced};
+ghost use Rattle.sm_disk.specs.Steps.{Holds, Torn, IsCut, CutOrNot, OnFile, Same, ReadsFollow, Goes, Keeps, Synced};
 ghost use Rattle.sm_disk.specs.Faults.{HasCause};
 
 use std::error::Error;
@@ -35,7 +35,8 @@ pub trait Disk {
     /// The length of a file.
     fn length(&mut self, file: u8) -> Result<u64, DiskFailed>
         requires { file < 3 }
-        ensures length { IfOk result (λ n. (s : Image) → (sight self.old).reads s → n ≡ length (s file)) }
+        ensures length { IfOk result (λ n. (s : Image) → (sight self.old).reads s →
+            n ≡ length (s file)) }
         ensures reads { Keeps (sight self.old) (sight self.new) }
         ensures crash { Goes Same (sight self.old) (sight self.new) }
         ensures cause { HasCause (faults self.old) (faults self.new) result };
@@ -43,8 +44,10 @@ pub trait Disk {
     /// Fills the buffer with the bytes of a file from a place on. After a failure the buffer may hold anything.
     fn read(&mut self, file: u8, at: u64, buf: &mut [u8]) -> Result<(), DiskFailed>
         requires file { file < 3 }
-        requires place { (s : Image) → (sight self.old).reads s → at + length buf.old ≤ length (s file) }
-        ensures bytes { OnOk result ((s : Image) → (sight self.old).reads s → buf.new ≡ take (length buf.old) (drop at (s file))) }
+        requires place { (s : Image) → (sight self.old).reads s →
+            at + length buf.old ≤ length (s file) }
+        ensures bytes { OnOk result ((s : Image) → (sight self.old).reads s →
+            buf.new ≡ take (length buf.old) (drop at (s file))) }
         ensures reads { Keeps (sight self.old) (sight self.new) }
         ensures crash { Goes Same (sight self.old) (sight self.new) }
         ensures cause { HasCause (faults self.old) (faults self.new) result };
@@ -53,8 +56,10 @@ pub trait Disk {
     fn write_at(&mut self, file: u8, at: u64, piece: &[u8]) -> Result<(), DiskFailed>
         requires file { file < 3 }
         requires place { (s : Image) → (sight self.old).reads s → at ≤ length (s file) }
-        ensures written { OnOk result (Follows (OnFile file (Holds at piece.now)) (sight self.old).reads (sight self.new).reads) }
-        ensures tried { OnErr result (Follows (OnFile file (Torn at (length piece.now))) (sight self.old).reads (sight self.new).reads) }
+        ensures written { OnOk result
+            (ReadsFollow (OnFile file (Holds at piece.now)) (sight self.old) (sight self.new)) }
+        ensures tried { OnErr result
+            (ReadsFollow (OnFile file (Torn at (length piece.now))) (sight self.old) (sight self.new)) }
         ensures crash { Goes (OnFile file (Torn at (length piece.now))) (sight self.old) (sight self.new) }
         ensures cause { HasCause (faults self.old) (faults self.new) result };
 
@@ -62,8 +67,10 @@ pub trait Disk {
     fn cut(&mut self, file: u8, end: u64) -> Result<(), DiskFailed>
         requires file { file < 3 }
         requires place { (s : Image) → (sight self.old).reads s → end ≤ length (s file) }
-        ensures cut { OnOk result (Follows (OnFile file (λ old new. new ≡ take end old)) (sight self.old).reads (sight self.new).reads) }
-        ensures tried { OnErr result (Follows (OnFile file (CutOrNot end)) (sight self.old).reads (sight self.new).reads) }
+        ensures cut { OnOk result
+            (ReadsFollow (OnFile file (IsCut end)) (sight self.old) (sight self.new)) }
+        ensures tried { OnErr result
+            (ReadsFollow (OnFile file (CutOrNot end)) (sight self.old) (sight self.new)) }
         ensures crash { Goes (OnFile file (CutOrNot end)) (sight self.old) (sight self.new) }
         ensures cause { HasCause (faults self.old) (faults self.new) result };
 
@@ -79,8 +86,10 @@ pub trait Disk {
     ghost reads_image: { (disk : Self) (s : Image) → (sight disk).reads s → (sight disk).images s };
 
     /// This moment is one of those since an earlier one.
-    ghost counts_now: { (disk : Self) (t : ℕ) (c : Image) → t ≤ (sight disk).moment → (sight disk).images c → (sight disk).left_since t c };
+    ghost counts_now: { (disk : Self) (t : ℕ) (c : Image) →
+        t ≤ (sight disk).moment → (sight disk).images c → (sight disk).left_since t c };
 
     /// Since this moment there is no other.
-    ghost only_now: { (disk : Self) (c : Image) → (sight disk).left_since (sight disk).moment c → (sight disk).images c };
+    ghost only_now: { (disk : Self) (c : Image) →
+        (sight disk).left_since (sight disk).moment c → (sight disk).images c };
 }

@@ -3,7 +3,14 @@
 
 pub mod call;
 pub mod disk;
+pub mod folder;
 pub mod memory;
+pub mod quiet;
 
 pub use disk::{Disk, DiskFailed};
+pub use folder::FileDisk;
 pub use memory::MemoryDisk;
+pub use quiet::QuietDisk;
+
+#[cfg(test)]
+mod tests;

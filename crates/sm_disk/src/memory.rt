@@ -1,5 +1,5 @@
 //! A disk in memory.
-ghost use Rattle.std.specs.Prelude.{◌≡◌, ◌<◌, ◌≤◌, ◌+◌, ◌-◌, ◌^◌, ℕ, min, List, [], None, length, take, drop, IfOk, OnOk, OnErr};
+ghost use Rattle.std.specs.Prelude.{◌≡◌, ◌<◌, ◌≤◌, ◌+◌, ◌-◌, ◌^◌, ℕ, min, [], None, length, take, drop, IfOk, OnOk, OnErr};
 ghost use Rattle.sm_disk.specs.Sight.{Image};
 ghost use Rattle.sm_disk.specs.Calls.{replayed, crashed};
 
@@ -37,7 +37,7 @@ fn copy_from(bytes: &[u8], at: u64, buf: &mut [u8])
 impl MemoryDisk {
     ghost use Rattle.sm_disk.specs.Memory.{start_of, memory_sight, next_call, is_told_now, Counts, IsKept, IsMade};
     ghost use Rattle.sm_disk.specs.Calls.{acted, MayAct};
-    ghost use Rattle.sm_disk.specs.Steps.{OnFile, Same, Follows, Goes, Keeps};
+    ghost use Rattle.sm_disk.specs.Steps.{OnFile, Same, ReadsFollow, Goes, Keeps};
     ghost use Rattle.sm_disk.specs.Faults.{HasCause};
 
     /// A disk whose files hold these bytes, all of them synced.
@@ -82,7 +82,8 @@ impl MemoryDisk {
     /// What a crash leaves of a file with this fill.
     fn crashed(&self, alloc: Global, file: u8, fill: u8) -> Result<Bytes, NoMemory>
         requires { file < 3 }
-        ensures { IfOk result (λ bytes. bytes ≡ crashed fill file self.now.calls.items (start_of self.now file)) }
+        ensures { IfOk result (λ bytes.
+            bytes ≡ crashed fill file self.now.calls.items (start_of self.now file)) }
     {
         let mut bytes = self.started(alloc, file)?;
         let calls = self.calls.as_slice();
@@ -128,8 +129,11 @@ impl MemoryDisk {
     fn act(&mut self, file: u8, act: Act) -> Result<(), DiskFailed>
         ensures counts { Counts self.old self.new result }
         ensures kept { IsKept file act self.old self.new result }
-        ensures done { OnOk result (Follows (OnFile file (λ old new. new ≡ acted act old)) (memory_sight self.old).reads (memory_sight self.new).reads) }
-        ensures tried { OnErr result (Follows (OnFile file (MayAct act)) (memory_sight self.old).reads (memory_sight self.new).reads) }
+        ensures done { OnOk result
+            (ReadsFollow (OnFile file (λ old new. new ≡ acted act old)) (memory_sight self.old)
+            (memory_sight self.new)) }
+        ensures tried { OnErr result
+            (ReadsFollow (OnFile file (MayAct act)) (memory_sight self.old) (memory_sight self.new)) }
         ensures crash { Goes (OnFile file (MayAct act)) (memory_sight self.old) (memory_sight self.new) }
         ensures cause { HasCause self.old.faults self.new.faults result }
     {
@@ -152,7 +156,8 @@ impl MemoryDisk {
     /// What a file reads as now.
     fn content(&self, file: u8) -> Result<Vec<u8>, NoMemory>
         requires { file < 3 }
-        ensures { IfOk result (λ bytes. bytes.items ≡ replayed file self.now.calls.items (start_of self.now file)) }
+        ensures { IfOk result (λ bytes.
+            bytes.items ≡ replayed file self.now.calls.items (start_of self.now file)) }
     {
         let mut bytes = self.started(self.alloc, file)?;
         replay(&mut bytes, file, self.calls.as_slice())?;
@@ -167,7 +172,8 @@ impl MemoryDisk {
         ensures reads { Keeps (memory_sight self.old) (memory_sight self.new) }
         ensures crash { Goes Same (memory_sight self.old) (memory_sight self.new) }
         ensures cause { HasCause self.old.faults self.new.faults result }
-        ensures content { IfOk result (λ bytes. bytes.items ≡ replayed file self.old.calls.items (start_of self.old file)) }
+        ensures content { IfOk result (λ bytes.
+            bytes.items ≡ replayed file self.old.calls.items (start_of self.old file)) }
     {
         if self.begin() {
             return Err(self.fail());
@@ -182,7 +188,7 @@ impl MemoryDisk {
 impl Disk for MemoryDisk {
     ghost use Rattle.sm_disk.specs.Memory.{start_of, memory_sight, Counts, IsKept};
     ghost use Rattle.sm_disk.specs.declared.call.Act.TheVariants.{Write, Cut, Sync};
-    ghost use Rattle.sm_disk.specs.Steps.{Holds, Torn, CutOrNot, OnFile, Same, Follows, Goes, Keeps, Synced};
+    ghost use Rattle.sm_disk.specs.Steps.{Holds, Torn, IsCut, CutOrNot, OnFile, Same, ReadsFollow, Goes, Keeps, Synced};
     ghost use Rattle.sm_disk.specs.Faults.{HasCause};
     ghost use Rattle.sm_disk.specs.Laws as laws;
 
@@ -192,7 +198,8 @@ impl Disk for MemoryDisk {
 
     fn length(&mut self, file: u8) -> Result<u64, DiskFailed>
         requires { file < 3 }
-        ensures length { IfOk result (λ n. (s : Image) → (memory_sight self.old).reads s → n ≡ length (s file)) }
+        ensures length { IfOk result (λ n. (s : Image) → (memory_sight self.old).reads s →
+            n ≡ length (s file)) }
         ensures reads { Keeps (memory_sight self.old) (memory_sight self.new) }
         ensures crash { Goes Same (memory_sight self.old) (memory_sight self.new) }
         ensures cause { HasCause self.old.faults self.new.faults result }
@@ -206,8 +213,10 @@ impl Disk for MemoryDisk {
 
     fn read(&mut self, file: u8, at: u64, buf: &mut [u8]) -> Result<(), DiskFailed>
         requires file { file < 3 }
-        requires place { (s : Image) → (memory_sight self.old).reads s → at + length buf.old ≤ length (s file) }
-        ensures bytes { OnOk result ((s : Image) → (memory_sight self.old).reads s → buf.new ≡ take (length buf.old) (drop at (s file))) }
+        requires place { (s : Image) → (memory_sight self.old).reads s →
+            at + length buf.old ≤ length (s file) }
+        ensures bytes { OnOk result ((s : Image) → (memory_sight self.old).reads s →
+            buf.new ≡ take (length buf.old) (drop at (s file))) }
         ensures reads { Keeps (memory_sight self.old) (memory_sight self.new) }
         ensures crash { Goes Same (memory_sight self.old) (memory_sight self.new) }
         ensures cause { HasCause self.old.faults self.new.faults result }
@@ -223,9 +232,13 @@ impl Disk for MemoryDisk {
     fn write_at(&mut self, file: u8, at: u64, piece: &[u8]) -> Result<(), DiskFailed>
         requires file { file < 3 }
         requires place { (s : Image) → (memory_sight self.old).reads s → at ≤ length (s file) }
-        ensures written { OnOk result (Follows (OnFile file (Holds at piece.now)) (memory_sight self.old).reads (memory_sight self.new).reads) }
-        ensures tried { OnErr result (Follows (OnFile file (Torn at (length piece.now))) (memory_sight self.old).reads (memory_sight self.new).reads) }
-        ensures crash { Goes (OnFile file (Torn at (length piece.now))) (memory_sight self.old) (memory_sight self.new) }
+        ensures written { OnOk result
+            (ReadsFollow (OnFile file (Holds at piece.now)) (memory_sight self.old) (memory_sight self.new)) }
+        ensures tried { OnErr result
+            (ReadsFollow (OnFile file (Torn at (length piece.now))) (memory_sight self.old)
+            (memory_sight self.new)) }
+        ensures crash { Goes (OnFile file (Torn at (length piece.now)))
+            (memory_sight self.old) (memory_sight self.new) }
         ensures cause { HasCause self.old.faults self.new.faults result }
 
         ensures counts { Counts self.old self.new result }
@@ -243,8 +256,10 @@ impl Disk for MemoryDisk {
     fn cut(&mut self, file: u8, end: u64) -> Result<(), DiskFailed>
         requires file { file < 3 }
         requires place { (s : Image) → (memory_sight self.old).reads s → end ≤ length (s file) }
-        ensures cut { OnOk result (Follows (OnFile file (λ old new. new ≡ take end old)) (memory_sight self.old).reads (memory_sight self.new).reads) }
-        ensures tried { OnErr result (Follows (OnFile file (CutOrNot end)) (memory_sight self.old).reads (memory_sight self.new).reads) }
+        ensures cut { OnOk result
+            (ReadsFollow (OnFile file (IsCut end)) (memory_sight self.old) (memory_sight self.new)) }
+        ensures tried { OnErr result
+            (ReadsFollow (OnFile file (CutOrNot end)) (memory_sight self.old) (memory_sight self.new)) }
         ensures crash { Goes (OnFile file (CutOrNot end)) (memory_sight self.old) (memory_sight self.new) }
         ensures cause { HasCause self.old.faults self.new.faults result }
 
