@@ -1,5 +1,5 @@
 //! A disk over a folder: the trusted edge, of which no clause says what it holds.
-ghost use Rattle.std.specs.Prelude.{◌≡◌, Ok, IsErr, MatchResult};
+ghost use Rattle.std.specs.Prelude.{◌≡◌, Ok, IsErr, IfOk, MatchResult};
 ghost use Rattle.sm_disk.specs.Faults.{HasCause};
 
 use crate::disk::{Disk, DiskFailed};
