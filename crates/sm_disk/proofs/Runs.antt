@@ -3,7 +3,7 @@ use Rattle.std.proofs.Common.{◌≡◌, inl, inr, ⊎_elim, ℕ, List, refl, sy
 use Rattle.std.proofs.lemmas.Bool.{cases_eq}
 use Rattle.sm_disk.specs.Sight.{Image, Sight}
 use Rattle.sm_disk.specs.Steps.{OnFile, Same, Follows, Goes, Keeps, Synced}
-use Rattle.sm_disk.specs.OneFile.{LeavesOnly, Beside, Anyhow, Leaves}
+use Rattle.sm_disk.specs.OneFile.{LeavesOnly, EachHas, Beside, Anyhow, Leaves}
 
 -- nothing happens
 pub goes_nowhere : (step : Image → Image → Type 0) (now : Sight) → ((c : Image) → step c c) → Goes step now now
@@ -133,20 +133,29 @@ module _ (file : ℕ) (P : List ℕ → List ℕ → Type 0) where
       through : (c : Image) → Beside file P' mid.images c → Beside file P old.images c
       through c (m, image, on) = let was = first.images m image in (was.0, was.1, on_file_then file Q P' P ever was.0 m c was.2 on)
 
+  -- what each image now has
+  pub narrowed : (Q : List ℕ → List ℕ → Type 0) (R : List ℕ → Type 0) (old now : Sight) → Leaves file P Q old now → EachHas file R now.images → Leaves file P (λ x y. Q x y × R y) old now
+  narrowed Q R old now leaves has = record {
+    ever = leaves.ever;
+    images = λ c image. let from = leaves.images c image in (from.0, from.1, record { changed = (from.2.changed, has c image); others = from.2.others });
+    reads = leaves.reads;
+  }
+
   -- less is said of the images
-  pub weakened : (Q P' Q' : List ℕ → List ℕ → Type 0) (old now : Sight) → ((x y : List ℕ) → P x y → P' x y) → ((x y : List ℕ) → Q x y → Q' x y) → Leaves file P Q old now → Leaves file P' Q' old now
+  pub weakened : (Q P' Q' : List ℕ → List ℕ → Type 0) (old now : Sight) → ((d : Image) → old.images d → (y : List ℕ) → P (d file) y → P' (d file) y)
+      → ((d : Image) → old.images d → (y : List ℕ) → Q (d file) y → Q' (d file) y) → Leaves file P Q old now → Leaves file P' Q' old now
   weakened Q P' Q' old now ever images leaves = record {
     ever = record {
       later = leaves.ever.later;
       each = λ c left. less c (leaves.ever.each c left);
       before = λ t c le left. ⊎_elim inl (λ beside. inr (less c beside)) (leaves.ever.before t c le left);
     };
-    images = λ c image. let from = leaves.images c image in (from.0, from.1, on_file_weaker file Q Q' images from.0 c from.2);
+    images = λ c image. let from = leaves.images c image in (from.0, from.1, record { changed = images from.0 from.1 (c file) from.2.changed; others = from.2.others });
     reads = leaves.reads;
   }
     where
       less : (c : Image) → Beside file P old.images c → Beside file P' old.images c
-      less c (d, was, on) = (d, was, on_file_weaker file P P' ever d c on)
+      less c (d, was, on) = (d, was, record { changed = ever d was (c file) on.changed; others = on.others })
 
 -- an image that follows has what each such step makes of what the images had
 pub followed : (file : ℕ) (Q : List ℕ → List ℕ → Type 0) (old now : Image → Type 0) (P P' : Image → Type 0) → Follows (OnFile file Q) old now

@@ -10,6 +10,10 @@ pub record LeavesOnly (P : Image → Type 0) (old now : Sight) : Type 0 where
   -- for a run that began earlier
   pub before : (t : ℕ) (c : Image) → t ≤ old.moment → now.left_since t c → old.left_since t c ⊎ P c
 
+-- each of these images has P of the file
+abbrev pub EachHas : ℕ → (List ℕ → Type 0) → (Image → Type 0) → Type 0
+EachHas file P images = (c : Image) → images c → P (c file)
+
 -- the image is one of these but for one file, which went by a step
 abbrev pub Beside : ℕ → (List ℕ → List ℕ → Type 0) → (Image → Type 0) → Image → Type 0
 Beside file step images c = (d : Image) × images d × OnFile file step d c
