@@ -1,0 +1,5 @@
+pub mod Syncs
+pub mod Replays
+pub mod Kept
+pub mod Crashes
+pub mod Runs

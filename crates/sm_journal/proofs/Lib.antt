@@ -1,0 +1,6 @@
+pub mod Front
+pub mod Tears
+pub mod Settings
+pub mod Readings
+pub mod Standing
+pub mod OpeningRuns

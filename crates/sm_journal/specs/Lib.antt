@@ -1,0 +1,5 @@
+pub mod Records
+pub mod Lengths
+pub mod Tails
+pub mod Journals
+pub mod Openings

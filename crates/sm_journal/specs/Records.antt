@@ -1,0 +1,90 @@
+-- A journal's file: the header, records whose gates are open, a gate that isn't, and whatever stands behind it.
+use Rattle.std.specs.Prelude.{◌≡◌, ◌≢◌, ◌⊎◌, ℕ, ◌+◌, ◌<◌, ◌≤◌, List, [], ◌∷◌, ◌++◌, length, take, codes, Option, None, Some}
+use Rattle.std.specs.List.{flat_map}
+use Rattle.std.specs.Int.{w32, to_be_bytes, from_be_bytes}
+
+-- the greatest length of a body
+abbrev pub body_limit : ℕ
+body_limit = 1048576
+
+abbrev pub header : List ℕ
+header = codes "SMJRNL01"
+
+-- what stands behind a gate: the body's length in four bytes, high first, and the body
+abbrev pub entry_of : List ℕ → List ℕ
+entry_of body = to_be_bytes w32 (length body) ++ body
+
+-- a record with its gate open
+abbrev pub record_of : List ℕ → List ℕ
+record_of body = 1 ∷ entry_of body
+
+-- the header and the records of these bodies: what stands before the last gate
+unfoldable pub front : List (List ℕ) → List ℕ
+front bodies = header ++ flat_map record_of bodies
+
+-- how many bytes the records of these bodies have
+abbrev pub size : List (List ℕ) → ℕ
+size [] = 0
+size (body ∷ bodies) = 5 + length body + size bodies
+
+-- none of these bodies is too long
+abbrev pub AreWithin : List (List ℕ) → Type 0
+AreWithin [] = Unit {0}
+AreWithin (body ∷ bodies) = (length body ≤ body_limit) × AreWithin bodies
+
+-- the body, if there is one, isn't too long
+abbrev pub IsWithin : Option (List ℕ) → Type 0
+IsWithin None = Unit {0}
+IsWithin (Some body) = length body ≤ body_limit
+
+-- behind this front a gate that isn't open, and this behind it
+pub record Closed (before behind bytes : List ℕ) : Type 0 where
+  pub gate : ℕ
+  pub closed : gate ≢ 1
+  pub split : bytes ≡ before ++ gate ∷ behind
+
+-- behind this front a gate that isn't open, and nothing behind it
+abbrev pub AtRest : List ℕ → List ℕ → Type 0
+AtRest before bytes = Closed before [] bytes
+
+-- behind this front a gate that isn't open, and anything behind it
+pub record Loose (before bytes : List ℕ) : Type 0 where
+  pub rest : List ℕ
+  pub is : Closed before rest bytes
+
+-- behind this front any gate, and this behind it
+pub record Gated (before behind bytes : List ℕ) : Type 0 where
+  pub gate : ℕ
+  pub split : bytes ≡ before ++ gate ∷ behind
+
+-- a file of at most nine bytes has no records, whatever it holds
+abbrev pub Short : List ℕ → Type 0
+Short bytes = length bytes ≤ 9
+
+-- the file's counted records have these bodies
+abbrev pub Recovers : List ℕ → List (List ℕ) → Type 0
+Recovers bytes bodies = (Short bytes × (bodies ≡ [])) ⊎ (AreWithin bodies × Loose (front bodies) bytes)
+
+-- behind an open gate: the length is too large, or it, the body or the next gate isn't in the file
+abbrev pub IsBroken : List ℕ → Type 0
+IsBroken rest = let len = from_be_bytes w32 (take 4 rest) in (length rest < 4) ⊎ (body_limit < len) ⊎ (length rest < 4 + len + 1)
+
+-- The file is longer than nine bytes and outside the grammar, at the byte of this gate or at 0 for the header, behind so
+-- many records.
+abbrev pub IsDamaged : List ℕ → ℕ → ℕ → Type 0
+IsDamaged bytes at entry = (9 < length bytes) × (IsWrong ⊎ IsCutShort)
+  where
+    IsWrong : Type 0
+    IsWrong = (take 8 bytes ≢ header) × (at ≡ 0) × (entry ≡ 0)
+
+    IsCutShort : Type 0
+    IsCutShort = (bodies : List (List ℕ)) × (rest : List ℕ) × AreWithin bodies × (bytes ≡ front bodies ++ 1 ∷ rest) × IsBroken rest × (at ≡ 8 + size bodies) × (entry ≡ length bodies)
+
+-- the file recovers to this list, or to it and one body more, if there is one
+abbrev pub RecoversEither : List (List ℕ) → Option (List ℕ) → List ℕ → Type 0
+RecoversEither bodies None bytes = Recovers bytes bodies
+RecoversEither bodies (Some body) bytes = Recovers bytes bodies ⊎ Recovers bytes (bodies ++ body ∷ [])
+
+-- what a file recovers to, the other recovers to
+abbrev pub SameList : List ℕ → List ℕ → Type 0
+SameList old new = (bodies : List (List ℕ)) → Recovers old bodies → Recovers new bodies

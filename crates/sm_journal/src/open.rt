@@ -1,0 +1,178 @@
+//! The opening of a journal.
+ghost use Rattle.std.specs.Prelude.{◌≡◌, ◌<◌, ◌≤◌, ◌+◌, ◌^◌, ℕ, List, [], length, IfOk, IfErr};
+ghost use Rattle.sm_disk.specs.OneFile.{EachHas, Leaves};
+ghost use Rattle.sm_disk.specs.Faults.{Rose};
+ghost use Rattle.sm_journal.specs.Records.{header, Loose, AtRest, Short, Recovers, SameList};
+ghost use Rattle.sm_journal.specs.Lengths.{ReadsLength};
+ghost use Rattle.sm_journal.specs.Journals.{disk_of, IsOpened};
+ghost use Rattle.sm_journal.specs.Openings.{ReadsAs, FailsFrom, IsRefusedAs, IsRefused};
+
+use crate::answers::OpenRefused;
+use crate::device::{LoadRefused, cut_behind, load, make};
+use crate::journal::Journal;
+use crate::parse::{ParseRefused, Parsed, parse};
+use sm_disk::Disk;
+use sm_model::{Bytes, List};
+use std::alloc::Global;
+
+/// Cuts what stands behind the gate, if anything does. An error hands the disk back.
+fn settle<D: Disk>(mut disk: D, file: u8, gate: u64, bytes: &[u8]) -> Result<D, D>
+    requires file { file < 3 }
+    requires fits { gate < 2 ^ 63 }
+    requires within { gate + 1 ≤ length bytes.now }
+    requires place { ReadsLength file (length bytes.now) (D.sight disk) }
+    ensures length { IfOk result (λ now. ReadsLength file (gate + 1) (D.sight now)) }
+    ensures rest { IfOk result (λ now. (before : List ℕ) → gate ≡ length before → Loose before bytes.now →
+        EachHas file (λ b. b ≡ bytes.now) (D.sight disk).images →
+        EachHas file (AtRest before) (D.sight now).images) }
+    ensures run { IfOk result (λ now. (before : List ℕ) → gate ≡ length before → Loose before bytes.now →
+        EachHas file (λ b. b ≡ bytes.now) (D.sight disk).images →
+        Leaves file (λ _. Loose before) (λ _. Loose before) (D.sight disk) (D.sight now)) }
+    ensures run_err { IfErr result (λ now. (before : List ℕ) → gate ≡ length before → Loose before bytes.now →
+        EachHas file (λ b. b ≡ bytes.now) (D.sight disk).images →
+        Leaves file (λ _. Loose before) (λ _. Loose before) (D.sight disk) (D.sight now)) }
+    ensures later { IfOk result (λ now. D.faults disk ≤ D.faults now) }
+    ensures failed { IfErr result (λ now. (D.faults disk ≤ D.faults now) × Rose (D.faults disk) (D.faults now)) }
+{
+    if bytes.len() as u64 == gate + 1 {
+        return Ok(disk);
+    }
+    match cut_behind(&mut disk, file, gate) {
+        Ok(()) => Ok(disk),
+        Err(_) => Err(disk),
+    }
+}
+
+/// The file as a journal without records. An error hands the disk back.
+fn fresh<D: Disk>(mut disk: D, file: u8) -> Result<D, D>
+    requires { file < 3 }
+    ensures length { IfOk result (λ now. ReadsLength file 9 (D.sight now)) }
+    ensures rest { IfOk result (λ now. EachHas file Short (D.sight disk).images →
+        EachHas file (AtRest header) (D.sight now).images) }
+    ensures run { IfOk result (λ now. EachHas file Short (D.sight disk).images →
+        Leaves file (λ _. Short) (λ _. Short) (D.sight disk) (D.sight now)) }
+    ensures run_err { IfErr result (λ now. EachHas file Short (D.sight disk).images →
+        Leaves file (λ _. Short) (λ _. Short) (D.sight disk) (D.sight now)) }
+    ensures later { IfOk result (λ now. D.faults disk ≤ D.faults now) }
+    ensures failed { IfErr result (λ now. (D.faults disk ≤ D.faults now) × Rose (D.faults disk) (D.faults now)) }
+{
+    match make(&mut disk, file) {
+        Ok(()) => Ok(disk),
+        Err(_) => Err(disk),
+    }
+}
+
+/// The journal of a file of at most nine bytes, which is made new.
+fn open_new<D: Disk>(
+    alloc: Global,
+    disk: D,
+    file: u8,
+    limit: u64,
+) -> Result<(Journal<D>, List<Bytes>), OpenRefused<D>>
+    requires file { file < 3 }
+    requires limit { limit < 2 ^ 62 }
+    ensures opened { IfOk result (λ opened. EachHas file Short (D.sight disk).images →
+        IsOpened file limit opened.1 opened.0) }
+    ensures none { IfOk result (λ opened. opened.1 ≡ []) }
+    ensures run { IfOk result (λ opened. EachHas file Short (D.sight disk).images →
+        Leaves file (λ _. Short) (λ _. Short) (D.sight disk) (D.sight (disk_of opened.0))) }
+    ensures later { IfOk result (λ opened. D.faults disk ≤ D.faults (disk_of opened.0)) }
+    ensures failed { IfErr result (FailsFrom D.Disk file Short (λ _. Short) disk) }
+{
+    match fresh(disk, file) {
+        Ok(disk) => {
+            let journal = Journal::at_rest(disk, file, limit, 8);
+            Ok((journal, List::empty(alloc)))
+        }
+        Err(disk) => Err(OpenRefused::Failed(disk)),
+    }
+}
+
+/// The journal of a file of these bytes, of which each image has them.
+fn open_old<D: Disk>(
+    alloc: Global,
+    disk: D,
+    file: u8,
+    limit: u64,
+    bytes: &[u8],
+) -> Result<(Journal<D>, List<Bytes>), OpenRefused<D>>
+    requires file { file < 3 }
+    requires limit { limit < 2 ^ 62 }
+    requires long { 9 < length bytes.now }
+    requires fits { length bytes.now < 2 ^ 63 }
+    requires place { ReadsLength file (length bytes.now) (D.sight disk) }
+    ensures opened { IfOk result (λ opened. EachHas file (λ b. b ≡ bytes.now) (D.sight disk).images →
+        IsOpened file limit opened.1 opened.0) }
+    ensures list { IfOk result (λ opened. Recovers bytes.now opened.1) }
+    ensures run { IfOk result (λ opened. EachHas file (λ b. b ≡ bytes.now) (D.sight disk).images →
+        Leaves file SameList SameList (D.sight disk) (D.sight (disk_of opened.0))) }
+    ensures later { IfOk result (λ opened. D.faults disk ≤ D.faults (disk_of opened.0)) }
+    ensures refused { IfErr result (IsRefusedAs D.Disk file bytes.now disk) }
+{
+    match parse(alloc, bytes) {
+        Ok(Parsed { bodies, gate }) => match settle(disk, file, gate, bytes) {
+            Ok(disk) => Ok((Journal::at_rest(disk, file, limit, gate), bodies)),
+            Err(disk) => Err(OpenRefused::Failed(disk)),
+        },
+        Err(ParseRefused::Damaged(damage)) => Err(OpenRefused::Damaged(disk, damage)),
+        Err(ParseRefused::Memory) => Err(OpenRefused::Memory(disk)),
+    }
+}
+
+/// The journal of a file of these bytes, of which each image has them.
+fn open_loaded<D: Disk>(
+    alloc: Global,
+    disk: D,
+    file: u8,
+    limit: u64,
+    bytes: &[u8],
+) -> Result<(Journal<D>, List<Bytes>), OpenRefused<D>>
+    requires file { file < 3 }
+    requires limit { limit < 2 ^ 62 }
+    requires fits { length bytes.now < 2 ^ 63 }
+    requires place { ReadsLength file (length bytes.now) (D.sight disk) }
+    ensures opened { IfOk result (λ opened. EachHas file (λ b. b ≡ bytes.now) (D.sight disk).images →
+        IsOpened file limit opened.1 opened.0) }
+    ensures list { IfOk result (λ opened. Recovers bytes.now opened.1) }
+    ensures run { IfOk result (λ opened. EachHas file (λ b. b ≡ bytes.now) (D.sight disk).images →
+        Leaves file SameList SameList (D.sight disk) (D.sight (disk_of opened.0))) }
+    ensures later { IfOk result (λ opened. D.faults disk ≤ D.faults (disk_of opened.0)) }
+    ensures refused { IfErr result (IsRefusedAs D.Disk file bytes.now disk) }
+{
+    if bytes.len() <= 9 {
+        open_new(alloc, disk, file, limit)
+    } else {
+        open_old(alloc, disk, file, limit, bytes)
+    }
+}
+
+impl<D: Disk> Journal<D> {
+    /// Opens the journal in a file of the disk, and gives the bodies of its records. It syncs the file first, mends what
+    /// follows the records, and makes a file of at most nine bytes new. A file that is longer and outside the grammar is
+    /// damaged. An error hands the disk back.
+    pub fn open(
+        alloc: Global,
+        mut disk: D,
+        file: u8,
+        limit: u64,
+    ) -> Result<(Journal<D>, List<Bytes>), OpenRefused<D>>
+        requires file { file < 3 }
+        requires limit { (9 ≤ limit) × (limit ≤ 268435456) }
+        ensures opened { IfOk result (λ opened. IsOpened file limit opened.1 opened.0) }
+        ensures list { IfOk result (λ opened.
+            ReadsAs file (λ bytes. Recovers bytes opened.1) (D.sight disk)) }
+
+        // A crash at any moment of the call leaves each image with the list that it had, and the other files.
+        ensures any_moment { IfOk result (λ opened.
+            Leaves file SameList SameList (D.sight disk) (D.sight (disk_of opened.0))) }
+
+        ensures later { IfOk result (λ opened. D.faults disk ≤ D.faults (disk_of opened.0)) }
+        ensures refused { IfErr result (IsRefused D.Disk file disk) }
+    {
+        match load(alloc, &mut disk, file) {
+            Ok(bytes) => open_loaded(alloc, disk, file, limit, bytes.as_slice()),
+            Err(LoadRefused::Failed) => Err(OpenRefused::Failed(disk)),
+            Err(LoadRefused::Memory) => Err(OpenRefused::Memory(disk)),
+        }
+    }
+}

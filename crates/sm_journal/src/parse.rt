@@ -1,0 +1,119 @@
+//! What the bytes of a journal's file say, without the disk.
+ghost use Rattle.std.specs.Prelude.{◌≡◌, ◌≢◌, ◌<◌, ◌≤◌, ◌+◌, ◌∷◌, ◌++◌, ◌↔◌, ℕ, List, length, take, IsTrue, IfSome, IfNone, IfOk, Err};
+ghost use Rattle.sm_journal.specs.Records.{header, entry_of, body_limit, front, size, AreWithin, Loose, IsBroken, IsDamaged};
+ghost use Rattle.sm_journal.specs.declared.parse.Damage.{Damage};
+ghost use Rattle.sm_journal.specs.declared.parse.ParseRefused.TheVariants.{Memory};
+
+use sm_model::{Bytes, List, NoMemory};
+use std::alloc::{AllocFailed, Global};
+
+/// The greatest length of a body.
+pub const BODY_LIMIT: usize = 1_048_576;
+
+/// What stands at the beginning of a file.
+const HEADER: [u8; 8] = *b"SMJRNL01";
+
+/// Where a file is outside the grammar: the place of the record's gate, or 0 for the header, and the number of records
+/// before it.
+#[derive(Clone, Copy, Debug, PartialEq, Eq)]
+pub struct Damage {
+    pub at: u64,
+    pub entry: u64,
+}
+
+/// The bodies of a file's records, and the place of the gate behind them.
+#[derive(Drop)]
+pub struct Parsed {
+    pub bodies: List<Bytes>,
+    pub gate: u64,
+}
+
+/// Why a file is not parsed.
+#[derive(Clone, Copy, Debug, PartialEq, Eq)]
+pub enum ParseRefused {
+    Damaged(Damage),
+    Memory,
+}
+
+/// Whether the header stands at the beginning.
+fn has_header(bytes: &[u8]) -> bool
+    requires { 8 ≤ length bytes.now }
+    ensures { IsTrue result ↔ (take 8 bytes.now ≡ header) }
+{
+    &bytes[..8] == HEADER.as_slice()
+}
+
+/// What stands behind a gate, if it is open.
+fn behind_open(rest: &[u8]) -> Option<&[u8]>
+    requires { 0 < length rest.now }
+    ensures open { IfSome result (λ behind. rest.now ≡ 1 ∷ behind.now) }
+    ensures closed { IfNone result ((gate : ℕ) × (behind : List ℕ) × (gate ≢ 1) ×
+        (rest.now ≡ gate ∷ behind)) }
+{
+    match rest {
+        [1, behind @ ..] => Some(behind),
+        _ => None,
+    }
+}
+
+/// The body behind an open gate, and what stands behind the body.
+fn split_record(rest: &[u8]) -> Option<(&[u8], &[u8])>
+    ensures split { IfSome result (λ parts. rest.now ≡ entry_of parts.0.now ++ parts.1.now) }
+    ensures within { IfSome result (λ parts. length parts.0.now ≤ body_limit) }
+    ensures gate { IfSome result (λ parts. 0 < length parts.1.now) }
+    ensures broken { IfNone result (IsBroken rest.now) }
+{
+    if rest.len() < 4 {
+        return None;
+    }
+    let (head, behind) = rest.split_at(4);
+    let length = u32::from_be_bytes([head[0], head[1], head[2], head[3]]) as usize;
+    if length > BODY_LIMIT || behind.len() <= length {
+        return None;
+    }
+    Some(behind.split_at(length))
+}
+
+impl From<NoMemory> for ParseRefused {
+    ghost from_gives = { λ _ refused. refused ≡ Memory };
+
+    fn from(_error: NoMemory) -> ParseRefused {
+        ParseRefused::Memory
+    }
+}
+
+impl<T: Drop> From<AllocFailed<T>> for ParseRefused {
+    ghost from_gives = { λ _ refused. refused ≡ Memory };
+
+    fn from(_error: AllocFailed<T>) -> ParseRefused {
+        ParseRefused::Memory
+    }
+}
+
+/// The records of a file of more than nine bytes.
+pub fn parse(alloc: Global, bytes: &[u8]) -> Result<Parsed, ParseRefused>
+    requires { 9 < length bytes.now }
+    ensures list { IfOk result (λ parsed. AreWithin parsed.bodies × Loose (front parsed.bodies) bytes.now) }
+    ensures gate { IfOk result (λ parsed. parsed.gate ≡ 8 + size parsed.bodies) }
+    ensures within { IfOk result (λ parsed. parsed.gate + 1 ≤ length bytes.now) }
+    ensures damaged { (damage : Damage) → result ≡ Err (ParseRefused.Damaged damage) →
+        IsDamaged bytes.now damage.at damage.entry }
+{
+    if !has_header(bytes) {
+        return Err(ParseRefused::Damaged(Damage { at: 0, entry: 0 }));
+    }
+    let mut bodies = Vec::new(alloc);
+    let mut rest = &bytes[8..];
+    while let Some(behind) = behind_open(rest) {
+        let Some((body, next)) = split_record(behind) else {
+            let at = (bytes.len() - rest.len()) as u64;
+            let entry = bodies.len() as u64;
+            return Err(ParseRefused::Damaged(Damage { at, entry }));
+        };
+        bodies.push(Bytes::from_slice(alloc, body)?)?;
+        rest = next;
+    }
+    let gate = (bytes.len() - rest.len()) as u64;
+    let bodies = List::new(bodies);
+    Ok(Parsed { bodies, gate })
+}
