@@ -1,5 +1,5 @@
 -- What a look-up shows of the row that it gives.
-use Rattle.std.proofs.Common.{◌≡◌, ◌≢◌, ◌⊎◌, ℕ, zero, suc, slice_get, ◌+◌, ◌≤◌, ◌<◌, eqb, leb, Bool, true, false, not, ◌&&◌, cond, List, [], ◌∷◌, Option, Some, None, IsTrue, IfSome, refl, sym, ap, subst, ◌∙◌, inl, inr, arith}
+use Rattle.std.proofs.Common.{◌≡◌, ◌⊎◌, ℕ, zero, suc, slice_get, ◌+◌, ◌≤◌, leb, Bool, true, false, cond, List, [], ◌∷◌, Option, Some, None, IfSome, sym, ap, subst, ◌∙◌, inl, inr, arith}
 use Rattle.std.proofs.lemmas.Bool.{and_parts, eq-eqb}
 use Rattle.std.proofs.lemmas.Bool.Decides.{nat_tests}
 use Rattle.sm_model.specs.declared.moment.Moment.{Moment}
@@ -10,11 +10,10 @@ use Rattle.sm_model.specs.declared.secret_id.SecretId.TheVariants.{Name, Arn}
 use Rattle.sm_versions.specs.Texts.{same_text}
 use Rattle.sm_versions.specs.Serials.{rises}
 use Rattle.sm_versions.specs.Kept.{CurrentKept}
-use Rattle.sm_table.specs.Sweep.{is_gone, swept, sweep}
-use Rattle.sm_table.specs.Found.{row_named, row_with_arn, row_with_short_arn, row_by_arn, short_arn, or_else, named_by, found}
+use Rattle.sm_table.specs.Sweep.{is_gone, swept}
+use Rattle.sm_table.specs.Found.{row_named, row_with_arn, row_with_short_arn, short_arn, or_else, named_by, found}
 use Rattle.sm_table.specs.Changes.{row_with}
 use Rattle.sm_table.specs.Kept.{row_serials, EachKept, RowsKept, IsRowOf}
-use Rattle.sm_table.proofs.NameLaws.{below_lacks}
 use Rattle.sm_table.proofs.KeptLaws.{sweep_keeps}
 
 -- the row is one of these

@@ -1,6 +1,5 @@
 -- What a change keeps of the rows.
-use Rattle.std.proofs.Common.{◌≡◌, ◌≢◌, ◌⊎◌, ℕ, ◌+◌, ◌≤◌, eqb, leb, Bool, true, false, not, ◌&&◌, ◌||◌, cond, List, [], ◌∷◌, ◌++◌, Option, Some, None, is_some, is_none, IsTrue, IsNone, IsSomeAnd, refl, sym, ap, subst, ◌∙◌, arith}
-use Rattle.std.proofs.lemmas.Grind.{common_steps}
+use Rattle.std.proofs.Common.{◌≡◌, ℕ, ◌+◌, ◌≤◌, eqb, leb, Bool, true, false, cond, List, [], ◌∷◌, ◌++◌, refl, sym, ap, arith}
 use Rattle.std.proofs.lemmas.Bool.{and_parts, and_from, eqb-true}
 use Rattle.std.proofs.lemmas.Bool.Decides.{nat_tests}
 use Rattle.sm_model.specs.declared.moment.Moment.{Moment}
@@ -8,14 +7,11 @@ use Rattle.sm_model.specs.declared.entry.Change.{Change}
 use Rattle.sm_model.specs.declared.entry.Change.TheVariants.{Add, Replace, Drop, Nothing}
 use Rattle.sm_model.specs.declared.rows.SecretRow.{SecretRow}
 use Rattle.sm_model.specs.declared.rows.Rows.{Rows}
-use Rattle.sm_versions.specs.Texts.{same_text}
 use Rattle.sm_versions.specs.Serials.{rises}
 use Rattle.sm_versions.specs.Kept.{CurrentKept}
-use Rattle.sm_versions.proofs.TextLemmas.{same_text_tells}
 use Rattle.sm_versions.proofs.ValueLemmas.{rises_push}
 use Rattle.sm_table.specs.Sweep.{is_gone, swept, sweep}
-use Rattle.sm_table.specs.Found.{row_named}
-use Rattle.sm_table.specs.Changes.{row_with, replaced, dropped, changed, IsArnOf, CanMake, StandsAt}
+use Rattle.sm_table.specs.Changes.{replaced, dropped, changed, CanMake}
 use Rattle.sm_table.specs.Kept.{row_serials, EachKept, RowsKept, ChangeKept}
 
 -- ---- serials

@@ -1,5 +1,5 @@
 -- Changes of the rows.
-use Rattle.std.specs.Prelude.{◌≡◌, ℕ, ◌+◌, ◌-◌, ◌^◌, ◌<◌, Bool, nat_eq, ⊤, List, [], ◌∷◌, ◌++◌, length, Option, Some, None, IsSome, IsNone, IsSomeAnd, if◌then◌else◌}
+use Rattle.std.specs.Prelude.{◌≡◌, ℕ, ◌+◌, ◌-◌, ◌^◌, ◌<◌, nat_eq, ⊤, List, [], ◌∷◌, ◌++◌, length, Option, Some, None, IsSome, IsNone, IsSomeAnd, if◌then◌else◌}
 use Rattle.sm_model.specs.declared.moment.Moment.{Moment}
 use Rattle.sm_model.specs.declared.entry.Change.{Change}
 use Rattle.sm_model.specs.declared.entry.Change.TheVariants.{Add, Replace, Drop, Nothing}

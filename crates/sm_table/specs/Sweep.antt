@@ -1,6 +1,6 @@
 -- The rows that are still there at a moment.
 -- AWS Secrets Manager API Reference: DeleteSecret (DeletionDate).
-use Rattle.std.specs.Prelude.{ℕ, Bool, false, nat_le, List, [], ◌∷◌, Option, Some, None, if◌then◌else◌}
+use Rattle.std.specs.Prelude.{Bool, false, nat_le, List, [], ◌∷◌, Option, Some, None, if◌then◌else◌}
 use Rattle.sm_model.specs.declared.moment.Moment.{Moment}
 use Rattle.sm_model.specs.declared.rows.SecretRow.{SecretRow}
 use Rattle.sm_model.specs.declared.rows.Rows.{Rows}

@@ -1,4 +1,4 @@
-use Rattle.std.proofs.Common.{◌≡◌, ℕ, Bool, false, List, Option, Some, is_some, refl, sym, subst, ap, ◌∙◌}
+use Rattle.std.proofs.Common.{◌≡◌, ℕ, false, List, Some, is_some, refl, sym, subst, ap, ◌∙◌}
 use Rattle.sm_model.specs.declared.moment.Moment.{Moment}
 use Rattle.sm_model.specs.declared.entry.Change.{Change}
 use Rattle.sm_model.specs.declared.entry.Change.TheVariants.{Replace}
