@@ -1,3 +1,4 @@
+pub mod KnownLemmas
 pub mod HeadLemmas
 pub mod MessageLemmas
 pub mod BodyLemmas

@@ -1,6 +1,6 @@
 -- What one message brings.
 use Rattle.std.proofs.Common.{◌≡◌, ℕ, ◌<◌, ◌⊎◌, List, [], ◌∷◌, length, Option, Result, Ok, Err, IfOk, refl, sym, ap, ◌∙◌, inl, inr, subst}
-use Rattle.sm_io.proofs.Known.{append_known-nil}
+use Rattle.sm_server.proofs.KnownLemmas.{append_known-nil}
 use Rattle.std.specs.Io.KnownBytes.{append_known}
 use Rattle.sm_io.specs.Faults.{Rose}
 use Rattle.sm_model.specs.declared.entry.Entry.{Entry}

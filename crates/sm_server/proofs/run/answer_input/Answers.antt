@@ -1,7 +1,7 @@
 use Rattle.std.proofs.Common.{[], length, sym, refl, inl}
 use Rattle.std.proofs.lemmas.Bool.{eqb-true}
 use Rattle.std.proofs.lemmas.List.{nil_from_length}
-use Rattle.sm_io.proofs.Known.{append_known-nil}
+use Rattle.sm_server.proofs.KnownLemmas.{append_known-nil}
 use Rattle.sm_server.specs.Turns.{nothing_told}
 use Rattle.sm_server.proofs.run.answer_input.Goals as goal
 

@@ -1,5 +1,5 @@
 use Rattle.std.proofs.Common.{[], ◌∷◌, ◌∙◌, sym, subst, ◌<◌, Ok}
-use Rattle.sm_io.proofs.Known.{append_known-nil}
+use Rattle.sm_server.proofs.KnownLemmas.{append_known-nil}
 use Rattle.sm_server.specs.Turns.{nothing_told}
 use Rattle.sm_server.proofs.TurnLemmas.{answered_turn, faulty_turn, unread_turn}
 use Rattle.sm_server.proofs.turn.asked.Goals as goal

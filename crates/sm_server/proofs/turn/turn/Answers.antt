@@ -1,5 +1,5 @@
 use Rattle.std.proofs.Common.{[], ◌∙◌, sym, Ok, Err}
-use Rattle.sm_io.proofs.Known.{append_known-nil}
+use Rattle.sm_server.proofs.KnownLemmas.{append_known-nil}
 use Rattle.std.specs.Option.{option_copied}
 use Rattle.sm_server.specs.Answer.{heard_of}
 use Rattle.sm_server.specs.Replies.{reply_made}
