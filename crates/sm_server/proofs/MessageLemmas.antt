@@ -1,5 +1,5 @@
 -- What the bytes begin with, where a head begins them; and that bytes begin in one way only.
-use Rattle.std.proofs.Common.{◌≡◌, ◌≢◌, IsSome, true, false, All, min, subst, ℕ, ◌+◌, ◌-◌, ◌<◌, ◌≤◌, List, [], ◌∷◌, ◌++◌, length, drop, take, map, Option, Some, None, refl, ap, sym, ◌∙◌, arith, inl, inr, append_assoc, length-append, add-zero, codes}
+use Rattle.std.proofs.Common.{◌≡◌, ◌≢◌, IsSome, true, false, All, min, subst, ℕ, ◌+◌, ◌<◌, ◌≤◌, List, [], ◌++◌, length, drop, take, map, Some, None, refl, ap, sym, ◌∙◌, arith, inl, inr, append_assoc, length-append, add-zero, codes}
 use Rattle.std.proofs.lemmas.List.{take-append-drop, length-drop, length-take, take_all, drop-drop, length-map, take_at, drop_at}
 use Rattle.std.proofs.Math.ListN.{drop_of_length-le}
 use Rattle.std.proofs.lemmas.Bool.{cases_lt}

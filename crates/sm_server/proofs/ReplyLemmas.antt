@@ -1,15 +1,13 @@
 -- The objects of replies: lists of labels, and that no reply has a float.
-use Rattle.std.proofs.Common.{◌≡◌, ℕ, ◌+◌, ◌<◌, List, [], ◌∷◌, ◌++◌, length, take, map, get_or, Bool, false, ◌||◌, Option, Some, None, refl, ap, sym, ◌∙◌}
+use Rattle.std.proofs.Common.{◌≡◌, ℕ, ◌+◌, ◌<◌, List, [], ◌∷◌, ◌++◌, length, take, get_or, false, ◌||◌, Option, Some, None, refl, ap, sym, ◌∙◌}
 use Rattle.std.proofs.lemmas.List.{take_more}
 use Rattle.serde_json.specs.Data.{Data, string, Items, no_items, item}
 use Rattle.serde_json.specs.declared.value.Value.{Value}
-use Rattle.serde_json.specs.View.{view, items_of, items_view}
+use Rattle.serde_json.specs.View.{view, items_view}
 use Rattle.serde_json.specs.Written.{has_float, items_have_float}
-use Rattle.sm_model.specs.declared.reply.CreatedSecret.{CreatedSecret}
-use Rattle.sm_model.specs.declared.reply.GotSecret.{GotSecret}
 use Rattle.sm_model.specs.declared.reply.Reply.{Reply}
 use Rattle.sm_model.specs.declared.reply.Reply.TheVariants as replies
-use Rattle.sm_server.specs.Shown.{text_items, put_if, created_object, got_object, reply_object}
+use Rattle.sm_server.specs.Shown.{text_items, created_object, got_object, reply_object}
 
 -- the items and one more
 one_more : Items → Data → Items

@@ -9,7 +9,7 @@ use Rattle.sm_io.specs.Transfer.{OnReadEnd}
 use Rattle.sm_server.specs.declared.status.Status.{Status}
 use Rattle.sm_server.specs.declared.status.Status.TheVariants.{Done, Words, Memory, SinkFault, SourceFault, NotBuilt}
 use Rattle.sm_server.specs.Ran.{Outside, IsWhole, Answers, Ended, WordsDecide, read_limit}
-use Rattle.sm_server.specs.Shown.{Answered, refused}
+use Rattle.sm_server.specs.Shown.{refused}
 use Rattle.sm_server.specs.Framed.{framed, framed_answer}
 use Rattle.sm_server.specs.Turns.{Told, unavailable}
 

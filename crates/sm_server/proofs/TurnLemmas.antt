@@ -1,7 +1,5 @@
 -- What one message brings.
-use Rattle.std.proofs.Common.{◌≡◌, ℕ, ◌<◌, ◌⊎◌, List, [], ◌∷◌, length, Option, Result, Ok, Err, IfOk, refl, sym, ap, ◌∙◌, inl, inr, subst}
-use Rattle.sm_server.proofs.KnownLemmas.{append_known-nil}
-use Rattle.std.specs.Io.KnownBytes.{append_known}
+use Rattle.std.proofs.Common.{◌≡◌, ℕ, ◌<◌, ◌⊎◌, List, [], ◌∷◌, length, Result, Ok, Err, IfOk, refl, sym, ap, ◌∙◌, inl, inr, subst}
 use Rattle.sm_io.specs.Faults.{Rose}
 use Rattle.sm_model.specs.declared.entry.Entry.{Entry}
 use Rattle.sm_model.specs.declared.memory.NoMemory.{NoMemory}
@@ -13,7 +11,7 @@ use Rattle.sm_server.specs.declared.reply.Answered as code
 use Rattle.sm_server.specs.Answer.{answer_request}
 use Rattle.sm_server.specs.Replies.{IsReply, reply_made}
 use Rattle.sm_server.specs.Shown.{Answered, refused}
-use Rattle.sm_server.specs.Turns.{Told, nothing_told, unavailable, AnsweredAt, RandomFailed, TurnOf}
+use Rattle.sm_server.specs.Turns.{Told, nothing_told, unavailable, TurnOf}
 
 -- a reply that was made is the model's, or it stands for want of memory
 pub made : (result : Result code.Answered NoMemory) (answer : Answered) → IfOk result (λ reply. IsReply reply answer)

@@ -1,5 +1,5 @@
 -- What a run of the program over one stream does.
-use Rattle.std.specs.Prelude.{◌≡◌, ◌≢◌, ℕ, ◌<◌, ◌≤◌, ◌⊎◌, Bool, ◌&&◌, false, true, List, [], ◌∷◌, length, take, Option, IsTrue, codes}
+use Rattle.std.specs.Prelude.{◌≡◌, ◌≢◌, ℕ, ◌<◌, ◌≤◌, ◌⊎◌, Bool, ◌&&◌, false, true, List, [], ◌∷◌, length, take, Option, codes}
 use Rattle.std.specs.Io.KnownBytes.{prepend_known, append_known, IsAtEnd}
 use Rattle.std.specs.Str.{bytes_eq}
 use Rattle.sm_io.specs.Faults.{Rose}

@@ -1,4 +1,4 @@
-use Rattle.std.proofs.Common.{◌≡◌, ◌+◌, ◌≤◌, ◌==◌, ◌||◌, map, length, take, drop, arith, ap, sym, ◌∙◌, codes}
+use Rattle.std.proofs.Common.{◌==◌, ◌||◌, map, length, take, drop, arith, ap, ◌∙◌, codes}
 use Rattle.httparse.specs.Spans.{header_bytes}
 use Rattle.sm_server.specs.Heads.{field_of}
 use Rattle.sm_server.specs.Messages.{message_of, asks_to_close}

@@ -1,4 +1,4 @@
-use Rattle.std.proofs.Common.{◌≡◌, List, ℕ, length, true, ap, subst, sym, ◌∙◌}
+use Rattle.std.proofs.Common.{List, ℕ, subst}
 use Rattle.sm_server.specs.Ran.{WordsDecide, Answers}
 use Rattle.sm_server.proofs.RunLemmas.{words_taken, ended_whole, is_whole}
 use Rattle.sm_server.proofs.run.run_once.Goals as goal

@@ -1,5 +1,4 @@
-use Rattle.std.proofs.Common.{ℕ, List, ◌≡◌, sym, subst}
-use Rattle.std.specs.Io.KnownBytes.{append_known}
+use Rattle.std.proofs.Common.{ℕ, List, sym, subst}
 use Rattle.sm_server.specs.Ran.{Sent}
 use Rattle.sm_server.proofs.RunLemmas.{unavailable_text}
 use Rattle.sm_server.proofs.run.send_unavailable.Goals as goal

@@ -1,9 +1,9 @@
-use Rattle.std.proofs.Common.{[], ◌∙◌, sym, Ok, Err}
+use Rattle.std.proofs.Common.{[], sym, Ok, Err}
 use Rattle.sm_server.proofs.KnownLemmas.{append_known-nil}
 use Rattle.std.specs.Option.{option_copied}
 use Rattle.sm_server.specs.Answer.{heard_of}
 use Rattle.sm_server.specs.Replies.{reply_made}
-use Rattle.sm_server.specs.Turns.{nothing_told, unavailable}
+use Rattle.sm_server.specs.Turns.{nothing_told}
 use Rattle.sm_server.proofs.TurnLemmas.{heard_turn, refused_turn, unread_turn}
 use Rattle.sm_server.proofs.turn.turn.Goals as goal
 

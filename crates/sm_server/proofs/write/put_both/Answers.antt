@@ -1,4 +1,4 @@
-use Rattle.std.proofs.Common.{◌++◌, ap, sym, ◌∙◌, take, length}
+use Rattle.std.proofs.Common.{ap, sym, ◌∙◌, take}
 use Rattle.std.specs.Io.KnownBytes.{append_known}
 use Rattle.sm_io.proofs.Known.{append_known-append}
 use Rattle.std.proofs.Math.Seq.{take-append-add}
