@@ -7,3 +7,4 @@ pub mod LabelLemmas
 pub mod PartLemmas
 pub mod RunLemmas
 pub mod SecretIdLemmas
+pub mod SpelledLemmas

@@ -105,7 +105,7 @@ impl Progress {
 
 /// The place at which bytes are no front of a text with so many characters, or their length where they are such a
 /// front alone; none where they are such a text.
-fn label_fault(text: &[u8]) -> Option<usize>
+pub(crate) fn label_fault(text: &[u8]) -> Option<usize>
     ensures { result ≡ fault_after no_progress 0 text.now }
 {
     let mut progress = Progress {

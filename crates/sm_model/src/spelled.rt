@@ -1,9 +1,10 @@
-//! Whether a text is spelled as a name or a token is. These tests take no memory.
+//! Whether a text is spelled as a name, a token, a label, an ARN or a SecretId is. These tests take no memory.
 ghost use Rattle.std.specs.Prelude.{◌≡◌};
 ghost use Rattle.std.specs.List.{list_all};
-ghost use Rattle.sm_model.specs.Spelling.{is_name, is_name_byte, is_token, is_token_byte};
+ghost use Rattle.sm_model.specs.Spelling.{is_name, is_name_byte, is_token, is_token_byte, is_label, is_arn, is_secret_id};
 
-use crate::parts::{is_name_byte, is_token_byte};
+use crate::characters::label_fault;
+use crate::parts::{ARN, first_fault, is_name_byte, is_token_byte};
 
 fn are_name_bytes(text: &[u8]) -> bool
     ensures { result ≡ list_all is_name_byte text.now }
@@ -31,4 +32,36 @@ pub fn is_token(text: &[u8]) -> bool
     ensures { result ≡ is_token text.now }
 {
     32 <= text.len() && text.len() <= 64 && are_token_bytes(text)
+}
+
+/// Whether the text is a label.
+pub fn is_label(text: &[u8]) -> bool
+    ensures { result ≡ is_label text.now }
+{
+    match label_fault(text) {
+        Some(_) => false,
+        None => true,
+    }
+}
+
+/// Whether the text is an ARN.
+pub fn is_arn(text: &[u8]) -> bool
+    ensures { result ≡ is_arn text.now }
+{
+    match first_fault(&ARN, text) {
+        Some(_) => false,
+        None => true,
+    }
+}
+
+/// Whether the text is a SecretId: an ARN where it begins with `arn:`, and else a name.
+#[tactic(auto, unfolding(crate::specs::Spelling::is_secret_id))]
+pub fn is_secret_id(text: &[u8]) -> bool
+    ensures { result ≡ is_secret_id text.now }
+{
+    if text.starts_with(b"arn:") {
+        is_arn(text)
+    } else {
+        is_name(text)
+    }
 }

@@ -1,5 +1,5 @@
 //! Look-ups in a list of rows.
-ghost use Rattle.std.specs.Prelude.{◌≡◌, ◌&&◌, not, nat_eq, IfSome, option_copied};
+ghost use Rattle.std.specs.Prelude.{◌≡◌, ◌&&◌, not, nat_eq, length, IfSome, option_copied};
 ghost use Rattle.std.specs.List.{find};
 ghost use Rattle.sm_versions.specs.Texts.{same_text};
 ghost use Rattle.sm_table.specs.Sweep.{is_gone, swept};
@@ -69,6 +69,14 @@ pub fn row_named<'a>(rows: &'a [SecretRow], moment: Moment, name: &Name) -> Opti
     ensures { option_copied result ≡ row_named (swept rows.now moment) name.now }
 {
     first_named(rows, moment, name)
+}
+
+/// How many rows are there at the moment.
+#[tactic(auto, using(crate::proofs::FoundLemmas::swept_count))]
+pub fn count(rows: &[SecretRow], moment: Moment) -> usize
+    ensures { result ≡ length (swept rows.now moment) }
+{
+    rows.iter().filter(|row| !is_gone(row, moment)).count()
 }
 
 /// The row with the ARN at the moment.

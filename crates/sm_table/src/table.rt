@@ -1,13 +1,13 @@
 //! The table of all secrets.
-ghost use Rattle.std.specs.Prelude.{◌≡◌, ℕ, [], IfOk, IfSome, ◌^◌, ◌<◌, ◌≤◌, vec_capacity, option_copied};
-ghost use Rattle.sm_table.specs.Sweep.{sweep};
-ghost use Rattle.sm_table.specs.Found.{found};
+ghost use Rattle.std.specs.Prelude.{◌≡◌, ℕ, [], IfOk, IfSome, ◌^◌, ◌<◌, ◌≤◌, length, vec_capacity, option_copied};
+ghost use Rattle.sm_table.specs.Sweep.{sweep, swept};
+ghost use Rattle.sm_table.specs.Found.{found, row_named};
 ghost use Rattle.sm_table.specs.Changes.{changed, CanMake, StandsAt, room_for, row_with, PreparedChange};
 ghost use Rattle.sm_table.specs.Kept.{RowsKept, ChangeKept, NamesKept, IsRowOf};
 
 use crate::{edits, search};
 use sm_model::list::copies;
-use sm_model::{Change, Copied, List, Moment, NoMemory, RowList, Rows, SecretId, SecretRow};
+use sm_model::{Change, Copied, List, Moment, Name, NoMemory, RowList, Rows, SecretId, SecretRow};
 use std::alloc::Global;
 use std::marker::Model;
 use std::snapshot::Snapshot;
@@ -95,6 +95,20 @@ impl Table {
             SecretId::Name(name) => search::row_named(self.secrets.as_slice(), moment, name),
             SecretId::Arn(arn) => search::row_by_arn(self.secrets.as_slice(), moment, arn),
         }
+    }
+
+    /// The row that holds the name at the moment. It takes no memory.
+    pub fn held(&self, name: &Name, moment: Moment) -> Option<&SecretRow>
+        ensures { option_copied result ≡ row_named (swept self.now.secrets moment) name.now }
+    {
+        search::row_named(self.secrets.as_slice(), moment, name)
+    }
+
+    /// How many rows are still there at the moment. It takes no memory.
+    pub fn count_at(&self, moment: Moment) -> usize
+        ensures { result ≡ length (swept self.now.secrets moment) }
+    {
+        search::count(self.secrets.as_slice(), moment)
     }
 
     /// The row with this serial. It takes no memory.
