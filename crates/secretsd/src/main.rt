@@ -1,6 +1,6 @@
 //! A server with the behaviour of AWS Secrets Manager on one's own machine.
 //!
-//! For now it reads one HTTP message from standard input, answers it and ends: `secretsd --mode exec --number 0`.
+//! For now it reads HTTP messages from standard input, answers them and ends: `secretsd --mode exec --number 0`.
 #![tactic(auto)]
 
 use sm_io::{CountWords, FixedClock, StreamSink, StreamSource};
@@ -38,7 +38,7 @@ fn words(rt: &(impl Env + AllocGlobal), alloc: Global) -> io::Result<Vec<String>
     Ok(words)
 }
 
-/// Answers one message from standard input on standard output.
+/// Answers the messages of standard input on standard output.
 fn exec(rt: &HostRuntime, words: &[String]) -> Status {
     let alloc = rt.alloc();
     let mut source = StreamSource::new(rt.stdin());

@@ -1,13 +1,11 @@
 -- What CreateSecret makes: AWS Secrets Manager API Reference, CreateSecret; User Guide, "What's in a Secrets Manager secret?".
-use Rattle.std.specs.Prelude.{ℕ, ◌+◌, Bool, true, false, List, [], ◌∷◌, take, drop, Option, Some, None, IsSome, unwrap_or}
+use Rattle.std.specs.Prelude.{ℕ, false, List, [], ◌∷◌, take, drop, Option, Some, None, IsSome, unwrap_or}
 use Rattle.sm_model.specs.declared.moment.Moment.{Moment}
 use Rattle.sm_model.specs.declared.request.CreateSecret.{CreateSecret}
 use Rattle.sm_model.specs.declared.reply.CreatedSecret.{CreatedSecret}
 use Rattle.sm_model.specs.declared.rows.VersionRow.{VersionRow}
-use Rattle.sm_model.specs.declared.rows.Pair.{Pair}
 use Rattle.sm_model.specs.declared.rows.Rotation.{Rotation}
 use Rattle.sm_model.specs.declared.rows.SecretRow.{SecretRow}
-use Rattle.sm_model.specs.declared.value.Tag.{Tag}
 use Rattle.sm_model.specs.declared.value.Value.{Value}
 use Rattle.sm_model.specs.declared.value.Value.TheVariants as values
 use Rattle.sm_model.specs.declared.request.Request.TheVariants as requests
@@ -43,11 +41,11 @@ abbrev pub create_needs : CreateSecret → ℕ
 create_needs create = needed (requests.CreateSecret create)
 
 -- a secret's first version
-abbrev pub first_version : List ℕ → ℕ → Value → VersionRow
+abbrev pub first_version : List ℕ → Moment → Value → VersionRow
 first_version token moment value = record {
   id = token;
   serial = 0;
-  made = record { 0 = moment };
+  made = moment;
   value = Some value;
   rotated = None;
   by_rotation = false;
@@ -58,13 +56,13 @@ abbrev pub no_rotation : Rotation
 no_rotation = record { enabled = false; lambda = None; days = None; next = None; last = None }
 
 -- the row of a new secret, without a version
-abbrev pub empty_row : ℕ → ℕ → List ℕ → List ℕ → CreateSecret → SecretRow
+abbrev pub empty_row : ℕ → Moment → List ℕ → List ℕ → CreateSecret → SecretRow
 empty_row serial moment arn name create = record {
   serial = serial;
   arn = arn;
   name = name;
-  created = record { 0 = moment };
-  changed = record { 0 = moment };
+  created = moment;
+  changed = moment;
   description = create.description;
   kms = create.kms_key_id;
   tags = unwrap_or create.tags [];
@@ -78,7 +76,7 @@ empty_row serial moment arn name create = record {
 }
 
 -- the row with its first version, which is the current one, where there is a value
-abbrev pub with_first : SecretRow → List ℕ → ℕ → Option Value → SecretRow
+abbrev pub with_first : SecretRow → List ℕ → Moment → Option Value → SecretRow
 with_first row token moment None = row
 with_first row token moment (Some value) = record row {
   versions = first_version token moment value ∷ [];
@@ -87,16 +85,19 @@ with_first row token moment (Some value) = record row {
 }
 
 -- the row of a new secret
-abbrev pub created_row : ℕ → ℕ → List ℕ → CreateSecret → SecretRow
+abbrev pub created_row : ℕ → Moment → List ℕ → CreateSecret → SecretRow
 created_row serial moment drawn create =
     with_first (empty_row serial moment (created_arn drawn create) create.name create)
     (created_token drawn create) moment (value_of create.secret_string create.secret_binary)
 
--- the id of the first version, if there is one
-abbrev pub first_id : List VersionRow → Option (List ℕ)
-first_id [] = None
-first_id (version ∷ versions) = Some version.id
+-- the reply to an accepted CreateSecret: it names the version where a value was given
+abbrev pub version_named : List ℕ → Option Value → Option (List ℕ)
+version_named token None = None
+version_named token (Some value) = Some token
 
--- the reply to an accepted CreateSecret that made this row
-abbrev pub created_reply : SecretRow → CreatedSecret
-created_reply row = record { arn = row.arn; name = row.name; version_id = first_id row.versions }
+abbrev pub created_reply : SecretRow → List ℕ → CreateSecret → CreatedSecret
+created_reply row drawn create = record {
+  arn = row.arn;
+  name = row.name;
+  version_id = version_named (created_token drawn create) (value_of create.secret_string create.secret_binary);
+}

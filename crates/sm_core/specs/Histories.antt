@@ -1,8 +1,16 @@
 -- Histories: the accepted changes of an account in order, and the rows that they make.
-use Rattle.std.specs.Prelude.{ℕ, max, List, [], ◌∷◌}
+use Rattle.std.specs.Prelude.{◌≡◌, ℕ, ◌≤◌, max, List, [], ◌∷◌, length, None, IsSome}
+use Rattle.sm_model.specs.declared.entry.Act.{Act}
+use Rattle.sm_model.specs.declared.entry.Act.TheVariants.{Asked}
 use Rattle.sm_model.specs.declared.entry.Entry.{Entry}
+use Rattle.sm_model.specs.declared.moment.Moment.{Moment}
 use Rattle.sm_model.specs.declared.rows.Rows.{Rows}
-use Rattle.sm_core.specs.Judging.{effect}
+use Rattle.sm_model.specs.Needed.{needed}
+use Rattle.sm_core.specs.declared.judging.Judged.{Judged}
+use Rattle.sm_core.specs.declared.judging.Judged.TheVariants.{Accept, Refuse, Memory}
+use Rattle.sm_core.specs.Forms.{forms_of}
+use Rattle.sm_core.specs.Judging.{judgement}
+use Rattle.sm_core.specs.Effects.{effect}
 
 -- no secrets
 abbrev pub no_rows : Rows
@@ -14,10 +22,30 @@ replay rows [] = rows
 replay rows (entry ∷ entries) = replay (effect rows entry) entries
 
 -- the moment of the last entry, or one that was before it
-abbrev pub last_moment : ℕ → List Entry → ℕ
+abbrev pub last_moment : Moment → List Entry → Moment
 last_moment before [] = before
-last_moment before (entry ∷ entries) = last_moment entry.moment.0 entries
+last_moment before (entry ∷ entries) = last_moment entry.moment entries
+
+abbrev pub later : Moment → Moment → Moment
+later a b = record { 0 = max a.0 b.0 }
 
 -- an operation's moment: the greater of the last entry's moment and the clock's reading
-abbrev pub moment_of : List Entry → ℕ → ℕ
-moment_of history now = max (last_moment 0 history) now
+abbrev pub moment_of : List Entry → Moment → Moment
+moment_of history now = later (last_moment (record { 0 = 0 }) history) now
+
+-- the request is accepted and makes an entry
+abbrev pub IsDue : Judged → Type 0
+IsDue (Accept reply change) = IsSome change
+IsDue (Refuse why) = ⊥
+IsDue Memory = ⊥
+
+-- an entry is legal at rows where its request has as many random bytes as it needs, its forms and all tests pass, and it is no repeat
+abbrev pub LegalAct : Rows → Moment → List ℕ → Act → Type 0
+LegalAct rows moment drawn (Asked request) =
+    (length drawn ≡ needed request) × (forms_of request ≡ None) × IsDue (judgement rows moment drawn request)
+
+-- each entry's moment is at least that of the one before it, and each is legal at the rows of those before it
+abbrev pub Legal : Rows → Moment → List Entry → Type 0
+Legal rows before [] = Unit {0}
+Legal rows before (entry ∷ entries) =
+    (before.0 ≤ entry.moment.0) × LegalAct rows entry.moment entry.drawn entry.act × Legal (effect rows entry) entry.moment entries

@@ -1,4 +1,5 @@
 pub mod Forms
 pub mod Create
 pub mod Judging
+pub mod Effects
 pub mod Histories

@@ -1,6 +1,6 @@
 //! What CreateSecret makes.
-ghost use Rattle.std.specs.Prelude.{◌≡◌, ◌≤◌, ◌∷◌, [], IfOk, IfSome, IfNone, IsTrue, Some, length, take, unwrap_or};
-ghost use Rattle.sm_core.specs.Create.{token_or_drawn, value_of, first_version, no_rotation, empty_row, with_first, created_row, created_token, create_needs, HasValue};
+ghost use Rattle.std.specs.Prelude.{◌≡◌, ◌≤◌, ◌∷◌, [], IfOk, IfSome, IfNone, IsTrue, Some, is_some, length, take, unwrap_or};
+ghost use Rattle.sm_core.specs.Create.{token_or_drawn, value_of, first_version, no_rotation, empty_row, with_first, created_row, created_token, created_reply, version_named, create_needs, HasValue};
 ghost use Rattle.sm_model.specs.Spelling.{is_name, is_token};
 ghost use Rattle.sm_model.specs.Drawn.{drawn_arn};
 
@@ -38,7 +38,7 @@ pub fn created_arn(alloc: Global, name: &Name, drawn: &[u8]) -> Result<Arn, NoMe
 }
 
 /// The value that two members give, of which one at most is there.
-fn value_of(
+pub fn value_of(
     alloc: Global,
     text: &Option<Text>,
     binary: &Option<Bytes>,
@@ -65,7 +65,7 @@ fn only<T: Drop>(alloc: Global, item: T) -> Result<List<T>, NoMemory>
 
 /// The first version of a secret, under its token.
 fn first_version(token: Token, moment: Moment, value: Value) -> VersionRow
-    ensures { result ≡ first_version token moment.0 value }
+    ensures { result ≡ first_version token moment value }
 {
     VersionRow {
         id: token,
@@ -109,7 +109,7 @@ fn empty_row(
     name: Name,
     create: &CreateSecret,
 ) -> Result<SecretRow, NoMemory>
-    ensures { IfOk result (λ row. row ≡ empty_row serial moment.0 arn name create.now) }
+    ensures { IfOk result (λ row. row ≡ empty_row serial moment arn name create.now) }
 {
     Ok(SecretRow {
         serial,
@@ -138,7 +138,7 @@ fn with_first(
     moment: Moment,
     value: Value,
 ) -> Result<SecretRow, NoMemory>
-    ensures { IfOk result (λ made. made ≡ with_first row token moment.0 (Some value)) }
+    ensures { IfOk result (λ made. made ≡ with_first row token moment (Some value)) }
 {
     let pair = Pair {
         label: current(),
@@ -153,7 +153,7 @@ fn with_first(
 
 /// The token of the first version, where there is a value.
 #[tactic(auto, using(crate::proofs::CreateLemmas::room_for_token))]
-fn created_token(alloc: Global, drawn: &[u8], create: &CreateSecret) -> Result<Token, NoMemory>
+pub fn created_token(alloc: Global, drawn: &[u8], create: &CreateSecret) -> Result<Token, NoMemory>
     requires spelled { IfSome create.now.client_request_token (λ t. IsTrue (is_token t)) }
     requires valued { HasValue create.now }
     requires drawn { create_needs create.now ≤ length drawn.now }
@@ -173,7 +173,7 @@ pub fn created_row(
     requires name { IsTrue (is_name create.now.name) }
     requires token { IfSome create.now.client_request_token (λ t. IsTrue (is_token t)) }
     requires drawn { create_needs create.now ≤ length drawn.now }
-    ensures { IfOk result (λ row. row ≡ created_row serial moment.0 drawn.now create.now) }
+    ensures { IfOk result (λ row. row ≡ created_row serial moment drawn.now create.now) }
 {
     let name = Name::new(create.name.copy(alloc)?);
     let arn = created_arn(alloc, &name, drawn)?;
@@ -185,4 +185,47 @@ pub fn created_row(
         }
         None => Ok(row),
     }
+}
+
+/// Whether a value is given.
+fn has_value(create: &CreateSecret) -> bool
+    ensures { result ≡ is_some (value_of create.now.secret_string create.now.secret_binary) }
+{
+    create.secret_string.is_some() || create.secret_binary.is_some()
+}
+
+/// The version that the reply names.
+#[tactic(auto, using(crate::proofs::CreateLemmas::named_version, crate::proofs::CreateLemmas::no_named_version, crate::proofs::CreateLemmas::is_valued))]
+fn version_named(
+    alloc: Global,
+    drawn: &[u8],
+    create: &CreateSecret,
+) -> Result<Option<Token>, NoMemory>
+    requires token { IfSome create.now.client_request_token (λ t. IsTrue (is_token t)) }
+    requires drawn { create_needs create.now ≤ length drawn.now }
+    ensures { IfOk result (λ id. id ≡ version_named (created_token drawn.now create.now) (value_of create.now.secret_string create.now.secret_binary)) }
+{
+    if has_value(create) {
+        Ok(Some(created_token(alloc, drawn, create)?))
+    } else {
+        Ok(None)
+    }
+}
+
+/// The reply to a CreateSecret that this row answers.
+pub fn created_reply(
+    alloc: Global,
+    row: &SecretRow,
+    drawn: &[u8],
+    create: &CreateSecret,
+) -> Result<CreatedSecret, NoMemory>
+    requires token { IfSome create.now.client_request_token (λ t. IsTrue (is_token t)) }
+    requires drawn { create_needs create.now ≤ length drawn.now }
+    ensures { IfOk result (λ reply. reply ≡ created_reply row.now drawn.now create.now) }
+{
+    Ok(CreatedSecret {
+        arn: row.arn.as_text().copy(alloc)?,
+        name: row.name.as_text().copy(alloc)?,
+        version_id: version_named(alloc, drawn, create)?,
+    })
 }

@@ -2,10 +2,17 @@
 #![tactic(auto)]
 
 pub mod create;
+mod given;
 pub mod judging;
+mod judging_create;
+mod judging_get;
+mod judging_put;
+mod judging_update;
 pub mod member_forms;
-pub mod table;
+mod stages;
 
 pub use judging::{Judged, judge};
 pub use member_forms::forms;
-pub use table::Table;
+
+#[cfg(test)]
+mod tests;

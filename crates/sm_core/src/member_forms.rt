@@ -1,29 +1,41 @@
 //! The forms of a request's members.
-ghost use Rattle.std.specs.Prelude.{◌≡◌, codes};
-ghost use Rattle.sm_core.specs.Forms.{first_why, form_unless, form_of, is_value, has_unbuilt, create_forms, forms_of};
-ghost use Rattle.sm_model.specs.Spelling.{is_token};
+ghost use Rattle.std.specs.Prelude.{◌≡◌, ◌||◌, Some, is_some, if◌then◌else◌, codes};
+ghost use Rattle.std.specs.List.{list_all};
+ghost use Rattle.sm_core.specs.Forms.{first_why, form_unless, form_of, is_value, are_labels, labels_form, has_unbuilt, create_forms, get_forms, put_forms, update_forms, forms_of};
+ghost use Rattle.sm_model.specs.Spelling.{is_token, is_label};
 
-use sm_model::spelled::{is_name, is_token};
-use sm_model::{CreateSecret, Request, Text, Why};
+use sm_model::spelled::{is_label, is_name, is_secret_id, is_token};
+use sm_model::{
+    CreateSecret, GetSecretValue, List, PutSecretValue, Request, Text, UpdateSecretVersionStage,
+    Why,
+};
 
 /// The greatest size of a value, in bytes.
 const VALUE_LIMIT: usize = 65_536;
+
+/// The most labels that a request may give a version.
+const LABELS_LIMIT: usize = 20;
 
 /// The first form or joint test that fails. It takes no memory.
 pub fn forms(request: &Request) -> Option<Why>
     ensures { result ≡ forms_of request.now }
 {
     match request {
-        Request::CreateSecret(create) => {
-            if has_unbuilt(create) {
-                Some(Why::NotBuilt)
-            } else {
-                create_forms(create)
-            }
-        }
-        Request::GetSecretValue(_)
-        | Request::PutSecretValue(_)
-        | Request::UpdateSecretVersionStage(_) => Some(Why::NotBuilt),
+        Request::CreateSecret(create) => built(has_unbuilt(create), create_forms(create)),
+        Request::GetSecretValue(get) => get_forms(get),
+        Request::PutSecretValue(put) => built(put.secret_binary.is_some(), put_forms(put)),
+        Request::UpdateSecretVersionStage(update) => update_forms(update),
+    }
+}
+
+/// The refusal of what is not built, or the one of the forms.
+fn built(is_unbuilt: bool, forms: Option<Why>) -> Option<Why>
+    ensures { result ≡ (if is_unbuilt then Some Why.NotBuilt else forms) }
+{
+    if is_unbuilt {
+        Some(Why::NotBuilt)
+    } else {
+        forms
     }
 }
 
@@ -47,6 +59,68 @@ fn create_forms(create: &CreateSecret) -> Option<Why>
             value_form(&create.secret_string, "SecretString"),
         ),
     )
+}
+
+fn get_forms(get: &GetSecretValue) -> Option<Why>
+    ensures { result ≡ get_forms get.now }
+{
+    first(
+        form_unless(is_secret_id(get.secret_id.as_bytes()), "SecretId"),
+        first(
+            token_form(&get.version_id, "VersionId"),
+            label_form(&get.version_stage, "VersionStage"),
+        ),
+    )
+}
+
+fn put_forms(put: &PutSecretValue) -> Option<Why>
+    ensures { result ≡ put_forms put.now }
+{
+    first(
+        token_form(&put.client_request_token, "ClientRequestToken"),
+        first(
+            form_unless(is_secret_id(put.secret_id.as_bytes()), "SecretId"),
+            first(
+                value_form(&put.secret_string, "SecretString"),
+                first(
+                    labels_form(&put.version_stages),
+                    form_unless(put.secret_string.is_some(), "SecretString"),
+                ),
+            ),
+        ),
+    )
+}
+
+fn update_forms(update: &UpdateSecretVersionStage) -> Option<Why>
+    ensures { result ≡ update_forms update.now }
+{
+    first(
+        token_form(&update.move_to_version_id, "MoveToVersionId"),
+        first(
+            token_form(&update.remove_from_version_id, "RemoveFromVersionId"),
+            first(
+                form_unless(is_secret_id(update.secret_id.as_bytes()), "SecretId"),
+                label_and_version(update),
+            ),
+        ),
+    )
+}
+
+/// The form of the label, and then that a target or a source is there.
+fn label_and_version(update: &UpdateSecretVersionStage) -> Option<Why>
+    ensures { result ≡ first_why (form_unless (is_label update.now.version_stage) (codes "VersionStage")) (form_unless (is_some update.now.move_to_version_id || is_some update.now.remove_from_version_id) (codes "MoveToVersionId")) }
+{
+    first(
+        form_unless(is_label(update.version_stage.as_bytes()), "VersionStage"),
+        form_unless(has_version(update), "MoveToVersionId"),
+    )
+}
+
+/// Whether a target or a source is there.
+fn has_version(update: &UpdateSecretVersionStage) -> bool
+    ensures { result ≡ (is_some update.now.move_to_version_id || is_some update.now.remove_from_version_id) }
+{
+    update.move_to_version_id.is_some() || update.remove_from_version_id.is_some()
 }
 
 /// The first of two refusals.
@@ -86,6 +160,40 @@ fn value_form(text: &Option<Text>, name: &'static str) -> Option<Why>
 {
     match text {
         Some(text) => form_unless(text.len() <= VALUE_LIMIT, name),
+        None => None,
+    }
+}
+
+/// The form of a member that is a label.
+fn label_form(label: &Option<Text>, name: &'static str) -> Option<Why>
+    ensures { result ≡ form_of is_label name.now label.now }
+{
+    match label {
+        Some(label) => form_unless(is_label(label.as_bytes()), name),
+        None => None,
+    }
+}
+
+/// Whether each of the texts is a label.
+fn each_is_label(labels: &[Text]) -> bool
+    ensures { result ≡ list_all is_label labels.now }
+{
+    labels.iter().all(|label| is_label(label.as_bytes()))
+}
+
+/// Whether there are 1 to 20 labels.
+fn are_labels(labels: &[Text]) -> bool
+    ensures { result ≡ are_labels labels.now }
+{
+    1 <= labels.len() && labels.len() <= LABELS_LIMIT && each_is_label(labels)
+}
+
+/// The form of the labels that a new value is to have.
+fn labels_form(labels: &Option<List<Text>>) -> Option<Why>
+    ensures { result ≡ labels_form labels.now }
+{
+    match labels {
+        Some(labels) => form_unless(are_labels(labels.as_slice()), "VersionStages"),
         None => None,
     }
 }

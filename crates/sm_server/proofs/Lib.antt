@@ -4,4 +4,5 @@ pub mod MessageLemmas
 pub mod BodyLemmas
 pub mod ReplyLemmas
 pub mod TurnLemmas
+pub mod StreamLemmas
 pub mod RunLemmas

@@ -1,16 +1,17 @@
 -- The answer to a message at a history: the model of the API that every reply is compared with.
-use Rattle.std.specs.Prelude.{ℕ, ◌&&◌, if◌then◌else◌, nat_eq, List, [], drop, Option, Some, None, Result, Ok, Err, option_and_then, codes}
+use Rattle.std.specs.Prelude.{ℕ, ◌&&◌, if◌then◌else◌, nat_eq, List, drop, Option, Some, None, Result, Ok, Err, option_and_then, codes}
 use Rattle.std.specs.List.{starts_with}
 use Rattle.std.specs.Str.{bytes_eq}
-use Rattle.sm_model.specs.declared.entry.Act.TheVariants.{Asked}
 use Rattle.sm_model.specs.declared.entry.Change.{Change}
 use Rattle.sm_model.specs.declared.entry.Entry.{Entry}
+use Rattle.sm_model.specs.declared.moment.Moment.{Moment}
 use Rattle.sm_model.specs.declared.request.Request.{Request}
 use Rattle.sm_model.specs.declared.rows.Rows.{Rows}
 use Rattle.sm_model.specs.declared.why.Why.{Why}
 use Rattle.sm_model.specs.declared.why.Why.TheVariants as whys
 use Rattle.sm_core.specs.declared.judging.Judged.{Judged}
 use Rattle.sm_core.specs.declared.judging.Judged.TheVariants.{Accept, Refuse, Memory}
+use Rattle.sm_core.specs.Effects.{entry_of}
 use Rattle.sm_core.specs.Forms.{forms_of}
 use Rattle.sm_core.specs.Judging.{judgement}
 use Rattle.sm_core.specs.Histories.{no_rows, replay, moment_of}
@@ -55,12 +56,8 @@ pub record Answer : Type 0 where
 abbrev pub refusing : Why → Answer
 refusing why = record { reply = refused why; entry = None }
 
--- the entry of a request; every caller has the empty key
-abbrev pub entry_of : ℕ → List ℕ → Request → Entry
-entry_of moment drawn request = record { moment = record { 0 = moment }; caller = []; drawn = drawn; act = Asked request }
-
 -- an entry is due where there is a change
-abbrev pub entry_due : ℕ → List ℕ → Request → Option Change → Option Entry
+abbrev pub entry_due : Moment → List ℕ → Request → Option Change → Option Entry
 entry_due moment drawn request None = None
 entry_due moment drawn request (Some change) = Some (entry_of moment drawn request)
 
@@ -71,21 +68,21 @@ reply_of (Refuse why) = refused why
 reply_of Memory = refused whys.Memory
 
 -- the entry of a request that was judged so, if one is due
-abbrev pub entry_made : ℕ → List ℕ → Request → Judged → Option Entry
+abbrev pub entry_made : Moment → List ℕ → Request → Judged → Option Entry
 entry_made moment drawn request (Accept reply change) = entry_due moment drawn request change
 entry_made moment drawn request (Refuse why) = None
 entry_made moment drawn request Memory = None
 
-abbrev pub answer_judged : ℕ → List ℕ → Request → Judged → Answer
+abbrev pub answer_judged : Moment → List ℕ → Request → Judged → Answer
 answer_judged moment drawn request judged = record { reply = reply_of judged; entry = entry_made moment drawn request judged }
 
-abbrev pub answer_unless : Option Why → Rows → ℕ → List ℕ → Request → Answer
+abbrev pub answer_unless : Option Why → Rows → Moment → List ℕ → Request → Answer
 answer_unless (Some why) rows moment drawn request = refusing why
 answer_unless None rows moment drawn request = answer_judged moment drawn request (judgement rows moment drawn request)
 
 -- the answer to a request: first its forms, then the tests on the rows
 abbrev pub answer_request : List Entry → ℕ → List ℕ → Request → Answer
-answer_request history now drawn request = answer_unless (forms_of request) (replay no_rows history) (moment_of history now) drawn request
+answer_request history now drawn request = answer_unless (forms_of request) (replay no_rows history) (moment_of history (record { 0 = now })) drawn request
 
 abbrev pub answer_heard : List Entry → ℕ → List ℕ → Result Request Why → Answer
 answer_heard history now drawn (Err why) = refusing why

@@ -1,13 +1,16 @@
 -- What a message asks for: AWS JSON 1.1 (the X-Amz-Target field, the JSON object of the body), and the members of the API Reference.
-use Rattle.std.specs.Prelude.{ℕ, Bool, ◌||◌, ◌&&◌, not, ◌==◌, if◌then◌else◌, List, [], ◌∷◌, length, Option, Some, None, is_some, option_and_then, Result, Ok, Err, codes}
+use Rattle.std.specs.Prelude.{ℕ, Bool, ◌||◌, ◌==◌, if◌then◌else◌, List, [], ◌∷◌, length, Option, Some, None, is_some, option_and_then, Result, Ok, Err, codes}
 use Rattle.std.specs.List.{list_any}
 use Rattle.std.specs.Str.{is_utf8, bytes_eq}
-use Rattle.serde_json.specs.Data.{Data, null, boolean, number, string, array, object, no_members}
+use Rattle.serde_json.specs.Data.{Data, null, boolean, number, string, array, object, Items, no_items, item, no_members}
 use Rattle.serde_json.specs.Read.{read}
-use Rattle.serde_json.specs.Find.{get, as_str}
+use Rattle.serde_json.specs.Find.{get, as_str, as_array}
 use Rattle.sm_model.specs.declared.request.CreateSecret.{CreateSecret}
+use Rattle.sm_model.specs.declared.request.GetSecretValue.{GetSecretValue}
+use Rattle.sm_model.specs.declared.request.PutSecretValue.{PutSecretValue}
 use Rattle.sm_model.specs.declared.request.Request.{Request}
 use Rattle.sm_model.specs.declared.request.Request.TheVariants as requests
+use Rattle.sm_model.specs.declared.request.UpdateSecretVersionStage.{UpdateSecretVersionStage}
 use Rattle.sm_model.specs.declared.why.Why.{Why}
 use Rattle.sm_model.specs.declared.why.Why.TheVariants.{NotJson, NotBuilt, BadMember}
 
@@ -88,11 +91,32 @@ required name None = Err (BadMember name)
 abbrev pub required_text : List ℕ → Data → Result (List ℕ) Why
 required_text name json = text_member name json >>= required name
 
--- CreateSecret asks for something that is not built: it lacks a member that it still needs, or has one that it may not have yet
-unfoldable pub is_more_than_built : Data → Bool
-is_more_than_built json =
-    not (is_there (codes "SecretString") json) || not (is_there (codes "ClientRequestToken") json)
-    || is_there (codes "AddReplicaRegions") json || is_there (codes "Description") json || is_there (codes "KmsKeyId") json
+-- the texts of a list, if all its items are texts
+abbrev pub text_before : Option (List ℕ) → Option (List (List ℕ)) → Option (List (List ℕ))
+text_before None texts = None
+text_before (Some text) None = None
+text_before (Some text) (Some texts) = Some (text ∷ texts)
+
+abbrev pub all_texts : Items → Option (List (List ℕ))
+all_texts no_items = Some []
+all_texts (item json items) = text_before (as_str json) (all_texts items)
+
+-- a member that is a list of texts where it is there
+abbrev pub texts_or_bad : List ℕ → Option (List (List ℕ)) → Result (Option (List (List ℕ))) Why
+texts_or_bad name (Some texts) = Ok (Some texts)
+texts_or_bad name None = Err (BadMember name)
+
+abbrev pub optional_texts : List ℕ → Option Data → Result (Option (List (List ℕ))) Why
+optional_texts name None = Ok None
+optional_texts name (Some json) = texts_or_bad name (option_and_then all_texts (as_array json))
+
+abbrev pub texts_member : List ℕ → Data → Result (Option (List (List ℕ))) Why
+texts_member name json = optional_texts name (member_of name json)
+
+-- a member of CreateSecret is there that is not built
+unfoldable pub has_unbuilt : Data → Bool
+has_unbuilt json =
+    is_there (codes "AddReplicaRegions") json || is_there (codes "Description") json || is_there (codes "KmsKeyId") json
     || is_there (codes "SecretBinary") json || is_there (codes "Tags") json
 
 -- the members of CreateSecret, in ascending byte order of their names
@@ -111,12 +135,51 @@ create_secret json = do
     tags = None;
   })
 
--- what an operation asks for by the object of its body
-abbrev pub asked : List ℕ → Data → Result Request Why
+-- the members of GetSecretValue
+unfoldable pub get_secret_value : Data → Result GetSecretValue Why
+get_secret_value json = do
+  id ← required_text (codes "SecretId") json
+  version ← text_member (codes "VersionId") json
+  stage ← text_member (codes "VersionStage") json
+  Ok (record { secret_id = id; version_id = version; version_stage = stage })
+
+-- the members of PutSecretValue
+unfoldable pub put_secret_value : Data → Result PutSecretValue Why
+put_secret_value json = do
+  token ← text_member (codes "ClientRequestToken") json
+  id ← required_text (codes "SecretId") json
+  text ← text_member (codes "SecretString") json
+  stages ← texts_member (codes "VersionStages") json
+  Ok (record { client_request_token = token; secret_binary = None; secret_id = id; secret_string = text; version_stages = stages })
+
+-- the members of UpdateSecretVersionStage
+unfoldable pub update_secret_version_stage : Data → Result UpdateSecretVersionStage Why
+update_secret_version_stage json = do
+  to ← text_member (codes "MoveToVersionId") json
+  from ← text_member (codes "RemoveFromVersionId") json
+  id ← required_text (codes "SecretId") json
+  stage ← required_text (codes "VersionStage") json
+  Ok (record { move_to_version_id = to; remove_from_version_id = from; secret_id = id; version_stage = stage })
+
+-- what each operation asks for by the object of its body, unless it or one of its members is not built
+abbrev pub create_asked : Data → Result Request Why
+create_asked json = if has_unbuilt json then Err NotBuilt else (create_secret json >>= (λ r. Ok (requests.CreateSecret r)))
+
+abbrev pub get_asked : Data → Result Request Why
+get_asked json = get_secret_value json >>= (λ r. Ok (requests.GetSecretValue r))
+
+abbrev pub put_asked : Data → Result Request Why
+put_asked json = if is_there (codes "SecretBinary") json then Err NotBuilt else (put_secret_value json >>= (λ r. Ok (requests.PutSecretValue r)))
+
+abbrev pub update_asked : Data → Result Request Why
+update_asked json = update_secret_version_stage json >>= (λ r. Ok (requests.UpdateSecretVersionStage r))
+
+unfoldable pub asked : List ℕ → Data → Result Request Why
 asked operation json =
-    if bytes_eq operation (codes "CreateSecret") && not (is_more_than_built json)
-    then create_secret json >>= (λ request. Ok (requests.CreateSecret request))
-    else Err NotBuilt
+    if bytes_eq operation (codes "CreateSecret") then create_asked json
+    else (if bytes_eq operation (codes "GetSecretValue") then get_asked json
+    else (if bytes_eq operation (codes "PutSecretValue") then put_asked json
+    else (if bytes_eq operation (codes "UpdateSecretVersionStage") then update_asked json else Err NotBuilt)))
 
 -- the request of an operation's body, or the first refusal
 abbrev pub asks : List ℕ → List ℕ → Result Request Why

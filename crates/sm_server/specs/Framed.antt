@@ -1,5 +1,8 @@
 -- A reply's bytes: RFC 9112, sections 4, 5 and 6.2; AWS JSON 1.1.
-use Rattle.std.specs.Prelude.{ℕ, ◌==◌, if◌then◌else◌, List, ◌++◌, length, codes, decimal}
+use Rattle.std.specs.Prelude.{◌≡◌, ◌<◌, MatchBool, Option, take, ℕ, ◌==◌, if◌then◌else◌, List, ◌++◌, length, codes, decimal}
+use Rattle.std.specs.Io.KnownBytes.{append_known}
+use Rattle.sm_io.specs.Faults.{Rose}
+use Rattle.sm_server.specs.declared.write.Sent.{Sent}
 use Rattle.sm_server.specs.Shown.{Answered}
 
 -- the reason of a status
@@ -22,3 +25,8 @@ framed status body = head_text status (length body) ++ body
 
 abbrev pub framed_answer : Answered → List ℕ
 framed_answer answer = framed answer.status answer.body
+
+-- what was sent of a text: all of it, or the sink failed within it
+pub record Sends (sent : Sent) (text : List ℕ) (old new : Option (List ℕ)) (before now : ℕ) : Type 0 where
+  pub bytes : new ≡ append_known old (take sent.taken text)
+  pub whole : MatchBool sent.whole (sent.taken ≡ length text) ((sent.taken < length text) × Rose before now)

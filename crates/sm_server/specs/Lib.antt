@@ -10,3 +10,5 @@ pub mod Turns
 pub mod Replies
 pub mod Status
 pub mod Ran
+pub mod Streams
+pub mod Accounts

@@ -1,6 +1,7 @@
 //! The top calls of the server: from the bytes of requests to the bytes of replies.
 #![tactic(auto)]
 
+mod account;
 mod body;
 mod fault;
 mod head;
@@ -10,8 +11,7 @@ mod refusal;
 mod reply;
 mod run;
 mod status;
-#[cfg(test)]
-mod tests;
+mod stream;
 mod turn;
 mod write;
 

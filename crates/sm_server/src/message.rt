@@ -1,9 +1,9 @@
 //! The message at the front of a stream's bytes (RFC 9112, in the profile of this server).
-ghost use Rattle.std.specs.Prelude.{◌≡◌, ℕ, ◌==◌, ◌||◌, ◌≤◌, List, length, drop, take, map, [], All, IfSome, IfNone, Some, None, codes, option_copied};
+ghost use Rattle.std.specs.Prelude.{◌≡◌, ℕ, ◌==◌, ◌||◌, ◌≤◌, List, length, drop, take, map, All, IfSome, Some, None, codes, option_copied};
 ghost use Rattle.httparse.specs.Spans.{header_bytes, IsHeaderWithin};
 ghost use Rattle.sm_server.specs.Heads.{head_length, values_of, length_of, first_of};
-ghost use Rattle.sm_server.specs.Messages.{Message, IsMessage, asks_to_close};
-ghost use Rattle.sm_server.specs.Fronts.{IsFront, HasHead, Shows};
+ghost use Rattle.sm_server.specs.Messages.{asks_to_close};
+ghost use Rattle.sm_server.specs.Fronts.{IsFront, HasHead};
 
 use crate::head;
 use httparse::Status;
@@ -172,23 +172,5 @@ fn asks_to_close(value: Option<&[u8]>) -> bool
     match value {
         Some(value) => head::is_same_name(value, b"close"),
         None => false,
-    }
-}
-
-/// The message that the bytes are, all of them, where they are one.
-pub fn one_message(bytes: &[u8]) -> Option<MessageView<'_>>
-    ensures found { IfSome result (λ seen. (message : Message) × IsMessage bytes.now message [] × Shows message seen) }
-    ensures none { IfNone result ((message : Message) → IsMessage bytes.now message [] → ⊥) }
-{
-    match front_of(bytes) {
-        Front::Whole(seen, used) => {
-            if used == bytes.len() {
-                Some(seen)
-            } else {
-                None
-            }
-        }
-        Front::Bad(_) => None,
-        Front::Partial => None,
     }
 }

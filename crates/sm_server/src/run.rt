@@ -2,28 +2,32 @@
 ghost use Rattle.std.specs.Prelude.{◌≡◌, ℕ, ◌≤◌, List, map, string_bytes};
 ghost use Rattle.std.specs.Io.KnownBytes.{append_known};
 ghost use Rattle.std.specs.Str.{bytes_eq};
-ghost use Rattle.sm_server.specs.Framed.{framed, framed_answer};
-ghost use Rattle.sm_server.specs.Ran.{Ran, are_words, Answers, Sent};
+ghost use Rattle.sm_server.specs.Framed.{framed, framed_answer, Sends};
+ghost use Rattle.sm_server.specs.Messages.{Message};
+ghost use Rattle.sm_server.specs.Ran.{Ran, are_words, Answers, AnswersAll};
 ghost use Rattle.sm_server.specs.Replies.{reply_made};
+ghost use Rattle.sm_server.specs.Streams.{ShowAll};
 ghost use Rattle.sm_server.specs.Turns.{Told, unavailable};
 
-use crate::message::one_message;
+use crate::account::Account;
+use crate::message::MessageView;
 use crate::reply::Answered;
 use crate::status::Status;
+use crate::stream::{SplitFault, split};
 use crate::turn::turn;
-use crate::write::write;
-use sm_io::{Clock, ReadEnd, Sink, Source, Words, Wrote, read_to};
+use crate::write::{Sent, write};
+use sm_io::{Clock, ReadEnd, Sink, Source, Words, read_to};
 use sm_model::NoMemory;
 use std::alloc::Global;
 
-/// How many bytes are read at most: one more than the longest message has.
-const READ_LIMIT: usize = 540_673;
+/// How many bytes are read at most: one more than is answered.
+const READ_LIMIT: usize = 4_194_305;
 
 /// The body of the reply for want of memory.
 const UNAVAILABLE: &[u8] = b"{\"Message\":\"out of memory\",\"__type\":\"ServiceUnavailable\"}";
 
-/// Reads one message from the source, judges it on an account without secrets, and writes the reply to the
-/// sink. The words are those of the program's command line.
+/// Reads all messages from the source, judges them one after the other on an account without secrets, and writes the
+/// replies to the sink. The words are those of the program's command line.
 pub fn run_once<Q: Source, K: Sink, C: Clock, W: Words>(
     alloc: Global,
     words: &[String],
@@ -60,13 +64,8 @@ pub fn run_once<Q: Source, K: Sink, C: Clock, W: Words>(
     }
     let read = read_to(alloc, source, READ_LIMIT);
     match read.end {
-        ReadEnd::End | ReadEnd::Full => answer_input(
-            alloc,
-            read.bytes.as_slice(),
-            sink,
-            clock,
-            random,
-        ),
+        ReadEnd::End => answer_input(alloc, read.bytes.as_slice(), sink, clock, random),
+        ReadEnd::Full => Status::NotBuilt,
         ReadEnd::Failed => Status::SourceFault,
         ReadEnd::Memory => Status::Memory,
     }
@@ -90,7 +89,7 @@ fn is_word(word: &String, wanted: &str) -> bool
     word.as_str() == wanted
 }
 
-/// Answers the message that the bytes are, and writes the reply.
+/// Answers the messages that the input is.
 fn answer_input<K: Sink, C: Clock, W: Words>(
     alloc: Global,
     input: &[u8],
@@ -106,50 +105,57 @@ fn answer_input<K: Sink, C: Clock, W: Words>(
     ensures sink_later { K.sink_faults sink.old ≤ K.sink_faults sink.new }
     ensures random_later { W.faults random.old ≤ W.faults random.new }
 {
-    if input.is_empty() {
-        return Status::Done;
-    }
-    match one_message(input) {
-        Some(message) => {
-            let reply = turn(alloc, &message, clock, random);
-            send(sink, &reply)
-        }
-        None => Status::NotBuilt,
+    match split(alloc, input) {
+        Ok(messages) => answer_all(alloc, messages.as_slice(), sink, clock, random),
+        Err(SplitFault::NoStream) => Status::NotBuilt,
+        Err(SplitFault::Memory) => Status::Memory,
     }
 }
 
-/// Writes a reply, or the one that stands for want of memory.
-fn send<K: Sink>(sink: &mut K, reply: &Result<Answered, NoMemory>) -> Status
-    ensures sent { (written : List ℕ)
+/// Answers messages one after the other, on one account.
+fn answer_all<K: Sink, C: Clock, W: Words>(
+    alloc: Global,
+    messages: &[MessageView<'_>],
+    sink: &mut K,
+    clock: &mut C,
+    random: &mut W,
+) -> Status
+    ensures answered { (all : List Message) → ShowAll all messages.now → (written : List ℕ) × (told : Told)
         × (K.taken sink.new ≡ append_known (K.taken sink.old) written)
-        × Sent result (framed_answer (reply_made reply.now)) written (K.sink_faults sink.old) (K.sink_faults sink.new) }
+        × (C.readings clock.new ≡ append_known (C.readings clock.old) told.readings)
+        × (W.drawn random.new ≡ append_known (W.drawn random.old) told.drawn)
+        × AnswersAll result all written told (K.sink_faults sink.old) (K.sink_faults sink.new) (W.faults random.old) (W.faults random.new) }
+    ensures sink_later { K.sink_faults sink.old ≤ K.sink_faults sink.new }
+    ensures random_later { W.faults random.old ≤ W.faults random.new }
+{
+    let mut account = Account::new(alloc);
+    let mut count: u64 = 0;
+    for message in messages {
+        let reply = turn(alloc, &mut account, message, clock, random);
+        let sent = send(sink, &reply);
+        count = count.saturating_add(sent.taken);
+        if !sent.whole {
+            return Status::SinkFault(count);
+        }
+    }
+    Status::Done
+}
+
+/// Writes a reply, or the one that stands for want of memory.
+fn send<K: Sink>(sink: &mut K, reply: &Result<Answered, NoMemory>) -> Sent
+    ensures sent { Sends result (framed_answer (reply_made reply.now)) (K.taken sink.old) (K.taken sink.new) (K.sink_faults sink.old) (K.sink_faults sink.new) }
     ensures later { K.sink_faults sink.old ≤ K.sink_faults sink.new }
 {
     match reply {
-        Ok(reply) => send_framed(sink, reply.status, reply.body.as_slice()),
+        Ok(reply) => write(sink, reply.status, reply.body.as_slice()),
         Err(_) => send_unavailable(sink),
     }
 }
 
 /// Writes the reply for want of memory. It takes none.
-fn send_unavailable<K: Sink>(sink: &mut K) -> Status
-    ensures sent { (written : List ℕ)
-        × (K.taken sink.new ≡ append_known (K.taken sink.old) written)
-        × Sent result (framed_answer unavailable) written (K.sink_faults sink.old) (K.sink_faults sink.new) }
+fn send_unavailable<K: Sink>(sink: &mut K) -> Sent
+    ensures sent { Sends result (framed_answer unavailable) (K.taken sink.old) (K.taken sink.new) (K.sink_faults sink.old) (K.sink_faults sink.new) }
     ensures later { K.sink_faults sink.old ≤ K.sink_faults sink.new }
 {
-    send_framed(sink, 503, UNAVAILABLE)
-}
-
-/// Writes a reply of this status and body.
-fn send_framed<K: Sink>(sink: &mut K, status: u16, body: &[u8]) -> Status
-    ensures sent { (written : List ℕ)
-        × (K.taken sink.new ≡ append_known (K.taken sink.old) written)
-        × Sent result (framed status body.now) written (K.sink_faults sink.old) (K.sink_faults sink.new) }
-    ensures later { K.sink_faults sink.old ≤ K.sink_faults sink.new }
-{
-    match write(sink, status, body) {
-        Wrote::Ok => Status::Done,
-        Wrote::Fault(taken) => Status::SinkFault(taken),
-    }
+    write(sink, 503, UNAVAILABLE)
 }

@@ -3,7 +3,7 @@ ghost use Rattle.std.specs.Prelude.{◌≡◌, ◌<◌, ◌≤◌, ◌+◌, ◌+
 ghost use Rattle.arrayvec.specs.ArrayVec.{array_vec_len};
 ghost use Rattle.sm_io.specs.Faults.{Rose};
 ghost use Rattle.sm_io.specs.Transfer.{IfFault, Writes};
-ghost use Rattle.sm_server.specs.Framed.{reason_of, head_text, framed};
+ghost use Rattle.sm_server.specs.Framed.{reason_of, head_text, framed, Sends};
 
 use arrayvec::ArrayVec;
 use itoa::Buffer;
@@ -12,18 +12,35 @@ use sm_io::{Sink, Wrote, put_all};
 /// The first piece of a reply: its head, and as much of the body as fits.
 type Piece = ArrayVec<u8, 4096>;
 
+/// How much of a reply the sink took.
+#[derive(Clone, Copy, Debug, PartialEq, Eq)]
+pub struct Sent {
+    /// So many of its bytes.
+    pub taken: u64,
+    /// All of them. Otherwise the sink failed.
+    pub whole: bool,
+}
+
 /// Writes a reply. It takes no memory.
-pub fn write<K: Sink>(sink: &mut K, status: u16, body: &[u8]) -> Wrote
-    ensures bytes { Writes result (framed status body.now) (K.taken sink.old) (K.taken sink.new) }
-    ensures short { IfFault result (λ n. n < length (framed status body.now)) }
-    ensures failed { IfFault result (λ _. Rose (K.sink_faults sink.old) (K.sink_faults sink.new)) }
+pub fn write<K: Sink>(sink: &mut K, status: u16, body: &[u8]) -> Sent
+    ensures sent { Sends result (framed status body.now) (K.taken sink.old) (K.taken sink.new) (K.sink_faults sink.old) (K.sink_faults sink.new) }
     ensures later { K.sink_faults sink.old ≤ K.sink_faults sink.new }
     ensures beside { K.beside_sink sink.new ≡ K.beside_sink sink.old }
 {
     let mut piece = head(status, body.len());
     let (front, back) = body.split_at(body.len().min(piece.remaining_capacity()));
     extend(&mut piece, front);
-    put_both(sink, piece.as_slice(), back)
+    let size = piece.len() as u64 + back.len() as u64;
+    match put_both(sink, piece.as_slice(), back) {
+        Wrote::Ok => Sent {
+            taken: size,
+            whole: true,
+        },
+        Wrote::Fault(taken) => Sent {
+            taken,
+            whole: false,
+        },
+    }
 }
 
 /// Puts two pieces, one after the other.

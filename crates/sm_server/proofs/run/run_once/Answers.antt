@@ -1,28 +1,20 @@
-use Rattle.std.proofs.Common.{List, ℕ, subst}
-use Rattle.sm_server.specs.Ran.{WordsDecide, Answers}
-use Rattle.sm_server.proofs.RunLemmas.{words_taken, ended_whole, is_whole}
+use Rattle.std.proofs.Common.{[], sym, refl, inl, arith}
+use Rattle.sm_server.proofs.KnownLemmas.{append_known-nil}
+use Rattle.sm_server.specs.Turns.{nothing_told}
 use Rattle.sm_server.proofs.run.run_once.Goals as goal
 
-pub returns-in-End-clause-ran : goal.returns-in-End-clause-ran
-returns-in-End-clause-ran g c =
-    let a = c.answer_input.ensures.answered in
-    let input = c.read_to-read.result.bytes in
-    let status = c.answer_input.result in
-    let sink = g.K.Sink.sink_faults c.args.sink.now in
-    let sink' = g.K.Sink.sink_faults c.answer_input.new.sink in
-    let random = g.W.Words.faults c.args.random.now in
-    let random' = g.W.Words.faults c.answer_input.new.random in
-    let answers : Answers status input a.0 a.1 sink sink' random random' =
-    subst (λ (bytes : List ℕ). Answers status bytes a.0 a.1 sink sink' random random') c.as_slice.ensures a.5 in
+pub returns-in-Full-clause-ran : goal.returns-in-Full-clause-ran
+returns-in-Full-clause-ran g c =
+    let read = c.read_to-read in
     record {
-      input = input;
-      written = a.0;
-      told = a.1;
-      words_decide = subst (WordsDecide status) c.if-not-are_words.ensures (words_taken status input a.0 a.1 sink sink' random random' answers);
-      reads = c.read_to-read.ensures.bytes;
-      within = c.read_to-read.ensures.within;
-      writes = a.2;
-      clock = a.3;
-      random = a.4;
-      ended = ended_whole status input a.0 a.1 _ _ (is_whole c.read_to-read.result.end input (g.Q.Source.left c.read_to-read.new.source) c.read_to-read.ensures.end c.read_to-read.ensures.full.0 c.in-End.is) answers;
+      input = read.result.bytes;
+      written = [];
+      told = nothing_told;
+      words_decide = sym c.if-not-are_words.ensures;
+      reads = read.ensures.bytes;
+      within = read.ensures.within;
+      writes = sym (append_known-nil _);
+      clock = sym (append_known-nil _);
+      random = sym (append_known-nil _);
+      ended = inl (omega (arith, read.ensures.full.0 c.in-Full.is), (refl, refl));
     }

@@ -1,0 +1,69 @@
+//! Labels as they are shown: in ascending byte order.
+ghost use Rattle.std.specs.Prelude.{◌≡◌, ◌+◌, ◌<◌, ◌≤◌, IfOk, OnOk, length, vec_len};
+ghost use Rattle.sm_core.specs.Judging.{text_le, inserted, sorted, stages_of};
+ghost use Rattle.std.specs.List.{position, position_or_len};
+
+use sm_model::{Copied, Label, List, NoMemory, SecretRow, Token};
+use sm_versions::labels::labels_on;
+use std::alloc::Global;
+
+/// Whether the first label may stand before the second.
+fn is_before(label: &Label, other: &Label) -> bool
+    ensures { result ≡ text_le label.now other.now }
+{
+    label
+        .as_text()
+        .as_str()
+        .cmp(other.as_text().as_str())
+        .is_le()
+}
+
+/// The place of the first label that this one may stand before.
+fn first_after(labels: &[Label], label: &Label) -> Option<usize>
+    ensures { result ≡ position (λ other. text_le label.now other) labels.now }
+{
+    labels.iter().position(|other| is_before(label, other))
+}
+
+/// The place of the first label that this one may stand before, or the end.
+#[tactic(auto, using(crate::proofs::StageLemmas::place_found, crate::proofs::StageLemmas::place_at_end))]
+fn place_of(labels: &[Label], label: &Label) -> usize
+    ensures { result ≡ position_or_len (λ other. text_le label.now other) labels.now }
+{
+    match first_after(labels, label) {
+        Some(place) => place,
+        None => labels.len(),
+    }
+}
+
+/// Puts a label into its place.
+#[tactic(auto, using(crate::proofs::StageLemmas::inserted_at, crate::proofs::StageLemmas::place_within))]
+fn insert(labels: &mut Vec<Label>, label: Label) -> Result<(), NoMemory>
+    ensures { OnOk result (labels.new.items ≡ inserted label labels.old.items) }
+{
+    let place = place_of(labels.as_slice(), &label);
+    labels.insert(place, label)?;
+    Ok(())
+}
+
+/// The labels in ascending byte order.
+fn sorted(alloc: Global, labels: &[Label]) -> Result<Vec<Label>, NoMemory>
+    ensures { IfOk result (λ list. list.items ≡ sorted labels.now) }
+{
+    match labels {
+        [] => Ok(Vec::new(alloc)),
+        [first, rest @ ..] => {
+            let mut list = sorted(alloc, rest)?;
+            insert(&mut list, first.copy(alloc)?)?;
+            Ok(list)
+        }
+    }
+}
+
+/// The labels on a version, in ascending byte order.
+pub fn stages_of(alloc: Global, row: &SecretRow, id: &Token) -> Result<List<Label>, NoMemory>
+    ensures { IfOk result (λ stages. stages ≡ stages_of row.now id.now) }
+{
+    let labels = labels_on(alloc, row.labels.as_slice(), id)?;
+    Ok(List::new(sorted(alloc, labels.as_slice())?))
+}

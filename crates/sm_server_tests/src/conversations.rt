@@ -1,0 +1,400 @@
+//! Messages over one account, and the replies that they must get.
+use crate::support::{Outside, WELL, add_message, add_reply, expect};
+use sm_server::Status;
+use std::process::Abort;
+use std::test::Fail;
+
+/// A message's operation and body, and its reply's status line and body.
+type Exchange = (&'static str, &'static str, &'static str, &'static str);
+
+const CREATE: &str = "CreateSecret";
+
+const PUT: &str = "PutSecretValue";
+
+const GET: &str = "GetSecretValue";
+
+const MOVE: &str = "UpdateSecretVersionStage";
+
+const OK: &str = "200 OK";
+
+const BAD: &str = "400 Bad Request";
+
+const APP: &str =
+    r#"{"Name":"db/app","SecretString":"s3cret","ClientRequestToken":"11111111-1111-4111-8111-111111111111"}"#;
+
+const APP_CREATED: &str =
+    r#"{"ARN":"arn:aws:secretsmanager:us-east-1:000000000000:secret:db/app-ABCDEF","Name":"db/app","VersionId":"11111111-1111-4111-8111-111111111111"}"#;
+
+const APP_NAMED: &str =
+    r#"{"ARN":"arn:aws:secretsmanager:us-east-1:000000000000:secret:db/app-ABCDEF","Name":"db/app"}"#;
+
+const PUT_B: &str =
+    r#"{"SecretId":"db/app","SecretString":"b","ClientRequestToken":"22222222-2222-4222-8222-222222222222"}"#;
+
+const PUT_B_DONE: &str =
+    r#"{"ARN":"arn:aws:secretsmanager:us-east-1:000000000000:secret:db/app-ABCDEF","Name":"db/app","VersionId":"22222222-2222-4222-8222-222222222222","VersionStages":["AWSCURRENT"]}"#;
+
+const PUT_C: &str =
+    r#"{"SecretId":"db/app","SecretString":"c","ClientRequestToken":"33333333-3333-4333-8333-333333333333"}"#;
+
+const PUT_C_DONE: &str =
+    r#"{"ARN":"arn:aws:secretsmanager:us-east-1:000000000000:secret:db/app-ABCDEF","Name":"db/app","VersionId":"33333333-3333-4333-8333-333333333333","VersionStages":["AWSCURRENT"]}"#;
+
+const NOT_FOUND: &str = r#"{"Message":"secret not found","__type":"ResourceNotFoundException"}"#;
+
+const NO_VERSION: &str = r#"{"Message":"version not found","__type":"ResourceNotFoundException"}"#;
+
+/// The same message twice is answered twice, and what it made is there once.
+const TWICE: [Exchange; 3] = [
+    (CREATE, APP, OK, APP_CREATED),
+    (CREATE, APP, OK, APP_CREATED),
+    (
+        GET,
+        r#"{"SecretId":"db/app"}"#,
+        OK,
+        r#"{"ARN":"arn:aws:secretsmanager:us-east-1:000000000000:secret:db/app-ABCDEF","CreatedDate":1700000000,"Name":"db/app","SecretString":"s3cret","VersionId":"11111111-1111-4111-8111-111111111111","VersionStages":["AWSCURRENT"]}"#,
+    ),
+];
+
+/// A name and a token keep the value that they were first sent with.
+const OTHER_VALUES: [Exchange; 4] = [
+    (CREATE, APP, OK, APP_CREATED),
+    (
+        CREATE,
+        r#"{"Name":"db/app","SecretString":"other","ClientRequestToken":"11111111-1111-4111-8111-111111111111"}"#,
+        BAD,
+        r#"{"Message":"secret db/app exists","__type":"ResourceExistsException"}"#,
+    ),
+    (
+        PUT,
+        r#"{"SecretId":"db/app","SecretString":"other","ClientRequestToken":"11111111-1111-4111-8111-111111111111"}"#,
+        BAD,
+        r#"{"Message":"version 11111111-1111-4111-8111-111111111111 has another value","__type":"ResourceExistsException"}"#,
+    ),
+    (
+        PUT,
+        r#"{"SecretId":"db/app","SecretString":"s3cret","ClientRequestToken":"11111111-1111-4111-8111-111111111111"}"#,
+        OK,
+        r#"{"ARN":"arn:aws:secretsmanager:us-east-1:000000000000:secret:db/app-ABCDEF","Name":"db/app","VersionId":"11111111-1111-4111-8111-111111111111","VersionStages":["AWSCURRENT"]}"#,
+    ),
+];
+
+/// A secret without a value, and its first version.
+const EMPTY: [Exchange; 4] = [
+    (
+        CREATE,
+        r#"{"Name":"empty"}"#,
+        OK,
+        r#"{"ARN":"arn:aws:secretsmanager:us-east-1:000000000000:secret:empty-ABCDEF","Name":"empty"}"#,
+    ),
+    (GET, r#"{"SecretId":"empty"}"#, BAD, NO_VERSION),
+    (
+        PUT,
+        r#"{"SecretId":"empty","SecretString":"v","ClientRequestToken":"11111111-1111-4111-8111-111111111111","VersionStages":["AWSPENDING"]}"#,
+        OK,
+        r#"{"ARN":"arn:aws:secretsmanager:us-east-1:000000000000:secret:empty-ABCDEF","Name":"empty","VersionId":"11111111-1111-4111-8111-111111111111","VersionStages":["AWSCURRENT","AWSPENDING"]}"#,
+    ),
+    (
+        GET,
+        r#"{"SecretId":"arn:aws:secretsmanager:us-east-1:000000000000:secret:empty","VersionStage":"AWSPENDING"}"#,
+        OK,
+        r#"{"ARN":"arn:aws:secretsmanager:us-east-1:000000000000:secret:empty-ABCDEF","CreatedDate":1700000000,"Name":"empty","SecretString":"v","VersionId":"11111111-1111-4111-8111-111111111111","VersionStages":["AWSCURRENT","AWSPENDING"]}"#,
+    ),
+];
+
+/// Three versions: the labels go on as values come.
+const THREE_VERSIONS: [Exchange; 6] = [
+    (CREATE, APP, OK, APP_CREATED),
+    (PUT, PUT_B, OK, PUT_B_DONE),
+    (PUT, PUT_C, OK, PUT_C_DONE),
+    (
+        GET,
+        r#"{"SecretId":"db/app","VersionStage":"AWSPREVIOUS"}"#,
+        OK,
+        r#"{"ARN":"arn:aws:secretsmanager:us-east-1:000000000000:secret:db/app-ABCDEF","CreatedDate":1700000000,"Name":"db/app","SecretString":"b","VersionId":"22222222-2222-4222-8222-222222222222","VersionStages":["AWSPREVIOUS"]}"#,
+    ),
+    (
+        GET,
+        r#"{"SecretId":"db/app"}"#,
+        OK,
+        r#"{"ARN":"arn:aws:secretsmanager:us-east-1:000000000000:secret:db/app-ABCDEF","CreatedDate":1700000000,"Name":"db/app","SecretString":"c","VersionId":"33333333-3333-4333-8333-333333333333","VersionStages":["AWSCURRENT"]}"#,
+    ),
+    (
+        GET,
+        r#"{"SecretId":"db/app","VersionId":"11111111-1111-4111-8111-111111111111"}"#,
+        OK,
+        r#"{"ARN":"arn:aws:secretsmanager:us-east-1:000000000000:secret:db/app-ABCDEF","CreatedDate":1700000000,"Name":"db/app","SecretString":"s3cret","VersionId":"11111111-1111-4111-8111-111111111111","VersionStages":[]}"#,
+    ),
+];
+
+/// Which label moves are refused, and what an accepted one changes.
+const MOVES: [Exchange; 10] = [
+    (CREATE, APP, OK, APP_CREATED),
+    (PUT, PUT_B, OK, PUT_B_DONE),
+    (PUT, PUT_C, OK, PUT_C_DONE),
+    (
+        MOVE,
+        r#"{"SecretId":"db/app","VersionStage":"AWSCURRENT","RemoveFromVersionId":"33333333-3333-4333-8333-333333333333"}"#,
+        BAD,
+        r#"{"Message":"AWSCURRENT can be moved but not removed","__type":"InvalidParameterException"}"#,
+    ),
+    (
+        MOVE,
+        r#"{"SecretId":"db/app","VersionStage":"AWSCURRENT","MoveToVersionId":"11111111-1111-4111-8111-111111111111","RemoveFromVersionId":"22222222-2222-4222-8222-222222222222"}"#,
+        BAD,
+        r#"{"Message":"label is held by 33333333-3333-4333-8333-333333333333","__type":"InvalidParameterException"}"#,
+    ),
+    (
+        MOVE,
+        r#"{"SecretId":"db/app","VersionStage":"AWSCURRENT","MoveToVersionId":"11111111-1111-4111-8111-111111111111","RemoveFromVersionId":"33333333-3333-4333-8333-333333333333"}"#,
+        OK,
+        APP_NAMED,
+    ),
+    (
+        GET,
+        r#"{"SecretId":"db/app"}"#,
+        OK,
+        r#"{"ARN":"arn:aws:secretsmanager:us-east-1:000000000000:secret:db/app-ABCDEF","CreatedDate":1700000000,"Name":"db/app","SecretString":"s3cret","VersionId":"11111111-1111-4111-8111-111111111111","VersionStages":["AWSCURRENT"]}"#,
+    ),
+    (
+        GET,
+        r#"{"SecretId":"db/app","VersionStage":"AWSPREVIOUS"}"#,
+        OK,
+        r#"{"ARN":"arn:aws:secretsmanager:us-east-1:000000000000:secret:db/app-ABCDEF","CreatedDate":1700000000,"Name":"db/app","SecretString":"c","VersionId":"33333333-3333-4333-8333-333333333333","VersionStages":["AWSPREVIOUS"]}"#,
+    ),
+    (
+        GET,
+        r#"{"SecretId":"db/app","VersionId":"22222222-2222-4222-8222-222222222222"}"#,
+        OK,
+        r#"{"ARN":"arn:aws:secretsmanager:us-east-1:000000000000:secret:db/app-ABCDEF","CreatedDate":1700000000,"Name":"db/app","SecretString":"b","VersionId":"22222222-2222-4222-8222-222222222222","VersionStages":[]}"#,
+    ),
+    (
+        MOVE,
+        r#"{"SecretId":"db/app","VersionStage":"AWSPREVIOUS","RemoveFromVersionId":"33333333-3333-4333-8333-333333333333"}"#,
+        OK,
+        APP_NAMED,
+    ),
+];
+
+/// What is asked of secrets, versions and labels that aren't there.
+const NOT_THERE: [Exchange; 11] = [
+    (CREATE, APP, OK, APP_CREATED),
+    (GET, r#"{"SecretId":"db/ap"}"#, BAD, NOT_FOUND),
+    (
+        PUT,
+        r#"{"SecretId":"arn:aws:secretsmanager:us-east-1:000000000000:secret:db/app-ABCDEG","SecretString":"v"}"#,
+        BAD,
+        NOT_FOUND,
+    ),
+    (
+        MOVE,
+        r#"{"SecretId":"db","VersionStage":"blue","MoveToVersionId":"11111111-1111-4111-8111-111111111111"}"#,
+        BAD,
+        NOT_FOUND,
+    ),
+    (
+        GET,
+        r#"{"SecretId":"db/app","VersionStage":"AWSPREVIOUS"}"#,
+        BAD,
+        NO_VERSION,
+    ),
+    (
+        GET,
+        r#"{"SecretId":"db/app","VersionId":"22222222-2222-4222-8222-222222222222","VersionStage":"AWSCURRENT"}"#,
+        BAD,
+        NO_VERSION,
+    ),
+    (PUT, PUT_B, OK, PUT_B_DONE),
+    (
+        GET,
+        r#"{"SecretId":"db/app","VersionId":"11111111-1111-4111-8111-111111111111","VersionStage":"AWSCURRENT"}"#,
+        BAD,
+        r#"{"Message":"version and label differ","__type":"InvalidRequestException"}"#,
+    ),
+    (
+        MOVE,
+        r#"{"SecretId":"db/app","VersionStage":"blue","MoveToVersionId":"33333333-3333-4333-8333-333333333333"}"#,
+        BAD,
+        NO_VERSION,
+    ),
+    (
+        MOVE,
+        r#"{"SecretId":"db/app","VersionStage":"blue","RemoveFromVersionId":"11111111-1111-4111-8111-111111111111"}"#,
+        BAD,
+        r#"{"Message":"label is held by no version","__type":"InvalidParameterException"}"#,
+    ),
+    (
+        GET,
+        r#"{"SecretId":"db/app"}"#,
+        OK,
+        r#"{"ARN":"arn:aws:secretsmanager:us-east-1:000000000000:secret:db/app-ABCDEF","CreatedDate":1700000000,"Name":"db/app","SecretString":"b","VersionId":"22222222-2222-4222-8222-222222222222","VersionStages":["AWSCURRENT"]}"#,
+    ),
+];
+
+/// A secret has at most 20 labels besides those of AWS.
+const LABELS: [Exchange; 3] = [
+    (CREATE, APP, OK, APP_CREATED),
+    (
+        PUT,
+        r#"{"SecretId":"db/app","SecretString":"b","ClientRequestToken":"22222222-2222-4222-8222-222222222222","VersionStages":["t","s","r","q","p","o","n","m","l","k","j","i","h","g","f","e","d","c","b","a"]}"#,
+        OK,
+        r#"{"ARN":"arn:aws:secretsmanager:us-east-1:000000000000:secret:db/app-ABCDEF","Name":"db/app","VersionId":"22222222-2222-4222-8222-222222222222","VersionStages":["a","b","c","d","e","f","g","h","i","j","k","l","m","n","o","p","q","r","s","t"]}"#,
+    ),
+    (
+        MOVE,
+        r#"{"SecretId":"db/app","VersionStage":"u","MoveToVersionId":"22222222-2222-4222-8222-222222222222"}"#,
+        BAD,
+        r#"{"Message":"limit of 20 labels","__type":"LimitExceededException"}"#,
+    ),
+];
+
+/// Members outside their forms, of another type, or not built.
+const MEMBERS: [Exchange; 14] = [
+    (
+        CREATE,
+        r#"{"Name":"a:b"}"#,
+        BAD,
+        r#"{"Message":"Name is not in its form","__type":"InvalidParameterException"}"#,
+    ),
+    (
+        CREATE,
+        r#"{"Name":""}"#,
+        BAD,
+        r#"{"Message":"Name is not in its form","__type":"InvalidParameterException"}"#,
+    ),
+    (
+        CREATE,
+        r#"{"Name":"n","Tags":[]}"#,
+        BAD,
+        r#"{"Message":"not built","__type":"SerializationException"}"#,
+    ),
+    (
+        PUT,
+        r#"{"SecretId":5,"SecretBinary":"AA=="}"#,
+        BAD,
+        r#"{"Message":"not built","__type":"SerializationException"}"#,
+    ),
+    (
+        "DeleteSecret",
+        r#"{"SecretId":"n"}"#,
+        BAD,
+        r#"{"Message":"not built","__type":"SerializationException"}"#,
+    ),
+    (
+        "BurnSecret",
+        r#"{"SecretId":"n"}"#,
+        BAD,
+        r#"{"Message":"unknown operation","__type":"UnknownOperationException"}"#,
+    ),
+    (
+        CREATE,
+        "[]",
+        BAD,
+        r#"{"Message":"body is not a JSON object","__type":"SerializationException"}"#,
+    ),
+    (
+        CREATE,
+        r#"{"Name":"#,
+        BAD,
+        r#"{"Message":"body is not a JSON object","__type":"SerializationException"}"#,
+    ),
+    (
+        CREATE,
+        r#"{"Name":5}"#,
+        BAD,
+        r#"{"Message":"Name is missing or of another type","__type":"SerializationException"}"#,
+    ),
+    (
+        CREATE,
+        r#"{"Name":null}"#,
+        BAD,
+        r#"{"Message":"Name is missing or of another type","__type":"SerializationException"}"#,
+    ),
+    (
+        GET,
+        "",
+        BAD,
+        r#"{"Message":"SecretId is missing or of another type","__type":"SerializationException"}"#,
+    ),
+    (
+        PUT,
+        r#"{"SecretId":"n","VersionStages":["a",null]}"#,
+        BAD,
+        r#"{"Message":"VersionStages is missing or of another type","__type":"SerializationException"}"#,
+    ),
+    (
+        PUT,
+        r#"{"SecretId":"n","SecretString":"v","VersionStages":[]}"#,
+        BAD,
+        r#"{"Message":"VersionStages is not in its form","__type":"InvalidParameterException"}"#,
+    ),
+    (
+        MOVE,
+        r#"{"SecretId":"n","VersionStage":""}"#,
+        BAD,
+        r#"{"Message":"VersionStage is not in its form","__type":"InvalidParameterException"}"#,
+    ),
+];
+
+/// Tokens that aren't given are drawn.
+const DRAWN: [Exchange; 2] = [
+    (
+        CREATE,
+        r#"{"Name":"n","SecretString":"v","Colour":1}"#,
+        OK,
+        r#"{"ARN":"arn:aws:secretsmanager:us-east-1:000000000000:secret:n-ABCDEF","Name":"n","VersionId":"06070809-0a0b-4c0d-8e0f-101112131415"}"#,
+    ),
+    (
+        PUT,
+        r#"{"SecretId":"n","SecretString":"w"}"#,
+        OK,
+        r#"{"ARN":"arn:aws:secretsmanager:us-east-1:000000000000:secret:n-ABCDEF","Name":"n","VersionId":"16171819-1a1b-4c1d-9e1f-202122232425","VersionStages":["AWSCURRENT"]}"#,
+    ),
+];
+
+/// Asserts that the messages get these replies, over an outside that gives and takes so many bytes at a time.
+fn converse(
+    rt: &(impl Abort + AllocGlobal),
+    exchanges: &[Exchange],
+    step: usize,
+) -> Result<(), Fail> {
+    let mut input = Vec::new(rt.alloc());
+    let mut output = Vec::new(rt.alloc());
+    for (operation, body, status, reply) in exchanges {
+        add_message(rt.alloc(), &mut input, operation, body.as_bytes())?;
+        add_reply(rt.alloc(), &mut output, status, reply)?;
+    }
+    let outside = Outside {
+        take: step,
+        put: step,
+        ..WELL
+    };
+    expect(
+        rt,
+        input.as_slice(),
+        &outside,
+        Status::Done,
+        output.as_slice(),
+    )
+}
+
+#[test]
+fn answers_conversations(rt: HostRuntime) -> Result<(), Fail> {
+    let conversations: [&[Exchange]; 9] = [
+        &TWICE,
+        &OTHER_VALUES,
+        &EMPTY,
+        &THREE_VERSIONS,
+        &MOVES,
+        &NOT_THERE,
+        &LABELS,
+        &MEMBERS,
+        &DRAWN,
+    ];
+    for exchanges in conversations {
+        for step in [1, 7, 1_000_000] {
+            converse(&rt, exchanges, step)?;
+        }
+    }
+    Ok(())
+}

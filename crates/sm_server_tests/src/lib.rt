@@ -1,0 +1,11 @@
+//! Runs of the server over memory, compared with the replies that they must give.
+#![tactic(auto)]
+
+#[cfg(test)]
+mod conversations;
+#[cfg(test)]
+mod outside;
+#[cfg(test)]
+mod streams;
+#[cfg(test)]
+mod support;

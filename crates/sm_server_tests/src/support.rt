@@ -1,0 +1,107 @@
+//! Runs over memory, and the bytes of messages and replies.
+use sm_io::{CountWords, FixedClock, MemorySink, MemorySource};
+use sm_model::{Bytes, Fails, List, Moment};
+use sm_server::{Status, run_once};
+use std::alloc::Global;
+use std::process::Abort;
+use std::test::Fail;
+
+/// How the objects of the outside behave: how many bytes move at a time, and from which call on each fails.
+#[derive(Clone, Copy)]
+pub struct Outside {
+    pub take: usize,
+    pub put: usize,
+    pub source_from: Option<u64>,
+    pub sink_from: Option<u64>,
+    pub random_from: Option<u64>,
+}
+
+pub const WELL: Outside = Outside {
+    take: 1_000_000,
+    put: 1_000_000,
+    source_from: None,
+    sink_from: None,
+    random_from: None,
+};
+
+/// Calls that fail from one on.
+fn fails(alloc: Global, from: Option<u64>) -> Fails {
+    Fails {
+        calls: List::empty(alloc),
+        from,
+    }
+}
+
+/// What a run over this input answers and writes.
+pub fn run(alloc: Global, input: &[u8], outside: &Outside) -> Result<(Status, Vec<u8>), Fail> {
+    let take = outside.take.max(1);
+    let put = outside.put.max(1);
+    let bytes = Bytes::from_slice(alloc, input)?;
+    let mut source = MemorySource::new(bytes, take, fails(alloc, outside.source_from));
+    let mut sink = MemorySink::new(alloc, put, fails(alloc, outside.sink_from));
+    let mut clock = FixedClock::new(Moment(1_700_000_000));
+    let mut random = CountWords::new(alloc, 0, fails(alloc, outside.random_from));
+    let words = words(alloc)?;
+    let status = run_once(
+        alloc,
+        words.as_slice(),
+        &mut source,
+        &mut sink,
+        &mut clock,
+        &mut random,
+    );
+    Ok((status, Vec::from_slice(alloc, sink.taken().as_slice())?))
+}
+
+fn words(alloc: Global) -> Result<Vec<String>, Fail> {
+    let mut words = Vec::new(alloc);
+    for word in ["--mode", "exec", "--number", "0"] {
+        words.push(String::from_str(alloc, word)?)?;
+    }
+    Ok(words)
+}
+
+/// Asserts that a run ends so and writes this.
+pub fn expect(
+    rt: &(impl Abort + AllocGlobal),
+    input: &[u8],
+    outside: &Outside,
+    status: Status,
+    output: &[u8],
+) -> Result<(), Fail> {
+    let (ended, written) = run(rt.alloc(), input, outside)?;
+    assert_eq!(rt; ended, status);
+    assert!(rt; written.as_slice() == output);
+    Ok(())
+}
+
+/// Adds a message that asks for an operation.
+pub fn add_message(
+    alloc: Global,
+    input: &mut Vec<u8>,
+    operation: &str,
+    body: &[u8],
+) -> Result<(), Fail> {
+    let size = body.len();
+    let head = format!(in alloc;
+        "POST / HTTP/1.1\r\nX-Amz-Target: secretsmanager.{operation}\r\nContent-Length: {size}\r\n\r\n"
+    )?;
+    input.extend_from_slice(head.as_bytes())?;
+    input.extend_from_slice(body)?;
+    Ok(())
+}
+
+/// Adds a reply.
+pub fn add_reply(
+    alloc: Global,
+    output: &mut Vec<u8>,
+    status: &str,
+    body: &str,
+) -> Result<(), Fail> {
+    let size = body.len();
+    let reply = format!(in alloc;
+        "HTTP/1.1 {status}\r\nContent-Type: application/x-amz-json-1.1\r\nContent-Length: {size}\r\n\r\n{body}"
+    )?;
+    output.extend_from_slice(reply.as_bytes())?;
+    Ok(())
+}
