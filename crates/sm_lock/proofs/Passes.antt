@@ -1,12 +1,13 @@
 -- What is known of each pass of a list, as the list of entries grows.
-use Rattle.std.proofs.Common.{◌≡◌, ℕ, zero, suc, ◌+◌, ◌<◌, ◌≤◌, List, [], ◌∷◌, ◌++◌, length, drop, map, get_or, sym, ap, ◌∙◌, refl, subst, arith, All}
+use Rattle.std.proofs.Common.{◌≡◌, ℕ, zero, suc, ◌+◌, ◌<◌, ◌≤◌, List, [], ◌∷◌, ◌++◌, length, take, drop, map, get_or, sym, ap, ◌∙◌, refl, subst, arith, All}
 use mathlib.Core.Logic.{dite}
 use native.Mathlib.Decide.{ℕ_discrete}
 use Rattle.std.specs.List.{Contains, range_with_len}
 use Rattle.std.proofs.lemmas.List.{map-append}
+use Rattle.std.proofs.lemmas.List.Elements.{All-head, All-tail}
 use Rattle.sm_lock.specs.Story.{times, made_by, Grows}
 use Rattle.sm_lock.proofs.Sums.{times-append, if_same, if_other}
-use Rattle.sm_lock.proofs.Stories.{grows-trans}
+use Rattle.sm_lock.proofs.Stories.{grows-trans, drop-front, begins-length}
 
 pub range-more : (a n : ℕ) → range_with_len a (n + 1) ≡ range_with_len a n ++ (a + n) ∷ []
 range-more a zero = ap (λ (k : ℕ). k ∷ []) (let e : a ≡ a + 0 = omega arith in e)
@@ -56,6 +57,39 @@ module _ {E : Type 0} where
 
   pub all-among : (ns : List ℕ) (xs : List (ℕ × E)) → ((n : ℕ) → 0 < made_by (n ∷ []) xs → 0 < times n ns) → All (λ x. Contains ns x.0) xs
   all-among ns xs h k d lt = times-contains (get_or xs k d).0 ns (h (get_or xs k d).0 (made-here xs k d lt))
+
+-- where each pass has seen all entries of its number, an entry stands in what the pass of its number has seen
+module _ {P E : Type 0} (f : P → ℕ) (s : P → List (ℕ × E)) (built : List (ℕ × E)) where
+  -- a pass that has seen the built list, and all its own entries of a list
+  abbrev pub Knows : List (ℕ × E) → P → Type 0
+  Knows whole p = Grows (f p ∷ []) (s p) whole × (take (length built) (s p) ≡ built)
+
+  abbrev Stands : List P → ℕ × E → Type 0
+  Stands ps x = (p : P) × Contains ps p × (f p ≡ x.0) × Contains (drop (length built) (s p)) x
+
+  with_number : (whole : List (ℕ × E)) (ps : List P) (n k : ℕ) → k < length (map f ps) → get_or (map f ps) k n ≡ n → All (Knows whole) ps
+      → (p : P) × Contains ps p × (f p ≡ n) × Knows whole p
+  with_number whole [] n k lt e h = absurd (omega arith)
+  with_number whole (p ∷ ps) n zero lt e h = (p, (0, omega arith, refl), e, All-head (Knows whole) p ps h)
+  with_number whole (p ∷ ps) n (suc k) lt e h =
+      let t = with_number whole ps n k (omega arith) e (All-tail (Knows whole) p ps h) in (t.0, (suc t.1.0, omega (arith, t.1.1), t.1.2), t.2, t.3)
+
+  in_front : (own more : List (ℕ × E)) (k : ℕ) (d : ℕ × E) → k < length (own ++ more) → made_by ((get_or (own ++ more) k d).0 ∷ []) more ≡ 0 → Contains own (get_or (own ++ more) k d)
+  in_front [] more k d lt h = absurd (omega (arith, made-here more k d lt, h))
+  in_front (y ∷ ys) more zero d lt h = (0, omega arith, refl)
+  in_front (y ∷ ys) more (suc k) d lt h = let t = in_front ys more k d (omega arith) h in (suc t.0, omega (arith, t.1), t.2)
+
+  pub all_stand : (whole : List (ℕ × E)) (ps : List P) → whole ≡ built ++ drop (length built) whole → All (Knows whole) ps → All (λ x. Contains (map f ps) x.0) (drop (length built) whole)
+      → All (Stands ps) (drop (length built) whole)
+  all_stand whole ps begins knows numbers k d lt =
+      let rest = drop (length built) whole in let x = get_or rest k d in
+      let found = numbers k d lt in
+      let t = with_number whole ps x.0 found.0 found.1 found.2 knows in let p = t.0 in let more = t.3.0.0 in
+      let own = drop (length built) (s p) in
+      let both : rest ≡ own ++ more = ap (drop (length built)) t.3.0.1 ∙ drop-front (length built) (s p) more (begins-length built (s p) t.3.1) in
+      let here : Contains own (get_or (own ++ more) k d) = in_front own more k d (subst (λ (l : List (ℕ × E)). k < length l) both lt)
+      (subst (λ (l : List (ℕ × E)). made_by ((get_or l k d).0 ∷ []) more ≡ 0) both (subst (λ (n : ℕ). made_by (n ∷ []) more ≡ 0) t.2 t.3.0.2)) in
+      (p, t.1, t.2, subst (λ (l : List (ℕ × E)). Contains own (get_or l k d)) (sym both) here)
 
 pub empty_list : {A : Type 0} (l : List A) → length l ≡ 0 → l ≡ []
 empty_list [] e = refl

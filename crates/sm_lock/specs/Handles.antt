@@ -7,6 +7,7 @@ use Rattle.sm_lock.specs.declared.pass.Pass.{Pass}
 use Rattle.sm_lock.specs.declared.pass.Note.{Note}
 use Rattle.sm_lock.specs.declared.pass.Held.{Held}
 use Rattle.sm_lock.specs.declared.gate.Gate.{Gate}
+use Rattle.std.specs.List.{Contains}
 use Rattle.sm_lock.specs.Story.{entries_of}
 
 module _ {T O E : Type 0} where
@@ -58,3 +59,8 @@ module _ {T O E : Type 0} {g : Ghosts T O E} where
 
   abbrev pub IsOutOf : Gate T O E → Held T O E g → Type 0
   IsOutOf gate held = IsSeatOf g.origin g.story gate held.stay.place
+
+  -- the pass of the entry's seat has seen it, after the list that the gate was built with
+  abbrev pub StandsWithItsSeat : List (ℕ × E) → List (Pass T O E g) → ℕ × E → Type 0
+  StandsWithItsSeat built passes entry =
+      (pass : Pass T O E g) × Contains passes pass × (number pass ≡ entry.0) × Contains (drop (length built) (seen pass)) entry

@@ -13,17 +13,10 @@ pub record IsPlain {O E : Type 0} (v : View O E) : Type 0 where
   pub told : v.told ≡ nothing
   pub given : v.given ≡ 0
 
--- the seat is outside, and has this number alone
-pub record Rests {T O E : Type 0} (number : ℕ) (m : Sat T O E) : Type 0 where
+-- the seat is outside, and has these numbers
+pub record Outside {T O E : Type 0} (all : List ℕ) (m : Sat T O E) : Type 0 where
   pub turn : m.0.turn ≡ Out
-  pub numbers : m.0.own.numbers ≡ number ∷ []
-  pub plain : IsPlain m.0
-  pub empty : m.1 ≡ []
-
--- the seat is outside, and has no number
-pub record Notes {T O E : Type 0} (m : Sat T O E) : Type 0 where
-  pub turn : m.0.turn ≡ Out
-  pub numbers : m.0.own.numbers ≡ []
+  pub numbers : m.0.own.numbers ≡ all
   pub plain : IsPlain m.0
   pub empty : m.1 ≡ []
 
@@ -33,13 +26,6 @@ pub record Carries {T O E : Type 0} (number : ℕ) (m : Sat T O E) : Type 0 wher
   pub numbers : m.0.own.numbers ≡ number ∷ []
   pub plain : IsPlain m.0
   pub empty : m.1 ≡ (0, None) ∷ []
-
--- the seat is outside, and has these numbers
-pub record Gathered {T O E : Type 0} (numbers : List ℕ) (m : Sat T O E) : Type 0 where
-  pub turn : m.0.turn ≡ Out
-  pub numbers_are : m.0.own.numbers ≡ numbers
-  pub plain : IsPlain m.0
-  pub empty : m.1 ≡ []
 
 -- the list is what the seat has seen, or that and one entry of its one number
 abbrev pub AddsOne : {O E : Type 0} → View O E → List (ℕ × E) → ℕ → Type 0

@@ -1,9 +1,9 @@
 //! Building the lock and its passes.
-ghost use Rattle.std.specs.Prelude.{◌≡◌, ◌≤◌, ◌<◌, ◌^◌, ℕ, ◌+◌, ◌-◌, [], ◌∷◌, ◌++◌, IfOk, IfErr, MatchResult, All, map, length, Option, Some, vec_len, vec_capacity};
+ghost use Rattle.std.specs.Prelude.{◌≡◌, ◌≤◌, [], ◌∷◌, IfOk, IfErr, All, map, length, Some, vec_len, vec_capacity};
 ghost use Rattle.std.specs.List.{range_with_len};
 ghost use Rattle.sm_lock.specs.declared.gate.BuildRefused.TheVariants.{Memory};
 ghost use Rattle.sm_lock.specs.View.{first_view};
-ghost use Rattle.sm_lock.specs.Handles.{built_with, seats as seats_of, number, seen, mine, IsIn, IsSeatOf};
+ghost use Rattle.sm_lock.specs.Handles.{built_with, seats as seats_of, number, seen, mine, IsIn};
 
 use crate::board::{Board, Key, Place};
 use crate::gate::{BuildRefused, Gate};

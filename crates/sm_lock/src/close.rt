@@ -1,9 +1,8 @@
 //! Closing the lock.
-ghost use Rattle.std.specs.Prelude.{◌≡◌, ◌≤◌, ℕ, ◌+◌, [], ◌∷◌, ◌++◌, All, Contains, map, length, drop, Option, Some, vec_len};
-ghost use Rattle.sm_lock.specs.declared.view.Turn.TheVariants.{Out};
+ghost use Rattle.std.specs.Prelude.{◌≡◌, [], ◌∷◌, ◌++◌, All, Contains, map, length, drop, Some};
 ghost use Rattle.sm_lock.specs.Story.{Grows};
-ghost use Rattle.sm_lock.specs.Standing.{Gathered};
-ghost use Rattle.sm_lock.specs.Handles.{built_with, seats, number, seen, IsIn, IsSeatOf};
+ghost use Rattle.sm_lock.specs.Standing.{Outside};
+ghost use Rattle.sm_lock.specs.Handles.{built_with, seats, number, seen, IsIn, IsSeatOf, StandsWithItsSeat};
 
 use crate::board::Place;
 use crate::gate::Gate;
@@ -12,7 +11,8 @@ use crate::storied::Storied;
 use sm_model::List;
 
 impl<T: Storied> Gate<T> {
-    /// Takes all passes, and gives the value. It takes no memory.
+    /// Takes all passes, and gives the value. Its list begins with what each pass has seen, and each entry after the
+    /// list that was built in was made by one of the passes, which has seen it. It takes no memory.
     pub fn close(self, passes: List<Pass<T>>) -> T
         requires gate { All (IsIn self) passes }
         requires whole { length passes ≡ seats self }
@@ -20,6 +20,7 @@ impl<T: Storied> Gate<T> {
         ensures built { T.story result ≡ T.story (built_with self) ++ drop (length (T.story (built_with self))) (T.story result) }
         ensures seen { All (λ pass. Grows (number pass ∷ []) (seen pass) (T.story result)) passes }
         ensures numbers { All (λ entry. Contains (map number passes) entry.0) (drop (length (T.story (built_with self))) (T.story result)) }
+        ensures stands { All (StandsWithItsSeat (T.story (built_with self)) passes) (drop (length (T.story (built_with self))) (T.story result)) }
     {
         let mut others = passes.into_vec();
         let Some(first) = others.pop() else {
@@ -39,7 +40,7 @@ impl<T: Storied> Gate<T> {
     fn gather(&self, first: Pass<T>, others: Vec<Pass<T>>) -> Place<T>
         requires { IsIn self.now first × All (IsIn self.now) others.items }
         ensures gate { IsSeatOf T.origin T.story self.now result }
-        ensures place { Gathered (number first ∷ map number others.items) result.me }
+        ensures place { Outside (number first ∷ map number others.items) result.me }
         ensures first { Grows (number first ∷ []) (seen first) result.me.0.own.seen }
         ensures others { All (λ pass. Grows (number pass ∷ []) (seen pass) result.me.0.own.seen) others.items }
     {

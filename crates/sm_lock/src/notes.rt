@@ -1,9 +1,9 @@
 //! Telling another owner of a pass what one has seen.
-ghost use Rattle.std.specs.Prelude.{◌≡◌, ℕ, ◌+◌, [], ◌∷◌, ◌++◌, List, length, Option, Some, None};
+ghost use Rattle.std.specs.Prelude.{◌≡◌, [], ◌∷◌};
 ghost use Rattle.sm_lock.specs.declared.view.Turn.TheVariants.{Out};
-ghost use Rattle.sm_lock.specs.Story.{Grows, longer};
+ghost use Rattle.sm_lock.specs.Story.{Grows};
 ghost use Rattle.sm_lock.specs.View.{nothing, beside, merged};
-ghost use Rattle.sm_lock.specs.Handles.{built_with, number, seen, mine, noted, IsIn, IsNoteOf, IsSeatOf};
+ghost use Rattle.sm_lock.specs.Handles.{number, seen, mine, noted, IsIn, IsNoteOf, IsSeatOf};
 
 use crate::board::{Place, TICKET};
 use crate::gate::Gate;

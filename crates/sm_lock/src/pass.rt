@@ -1,6 +1,6 @@
 //! What is passed from hand to hand: passes, notes and the value while somebody has it.
-ghost use Rattle.std.specs.Prelude.{◌≡◌, length, take};
-ghost use Rattle.sm_lock.specs.Standing.{Rests, Carries, Notes};
+ghost use Rattle.std.specs.Prelude.{◌≡◌, [], ◌∷◌, length, take};
+ghost use Rattle.sm_lock.specs.Standing.{Outside, Carries};
 
 use crate::board::Place;
 use crate::storied::Storied;
@@ -11,7 +11,7 @@ pub struct Pass<T: Storied> {
     pub(crate) number: u32,
     pub(crate) count: u64,
     pub(crate) place: Place<T>,
-    pub ghost rests: { Rests number place.me },
+    pub ghost rests: { Outside (number ∷ []) place.me },
     pub ghost counted: { count ≡ length place.me.0.own.seen },
     pub ghost begins: { take (length place.me.0.built) place.me.0.own.seen ≡ place.me.0.built },
 }
@@ -21,7 +21,7 @@ pub struct Pass<T: Storied> {
 pub struct Note<T: Storied> {
     pub(crate) count: u64,
     pub(crate) place: Place<T>,
-    pub ghost notes: { Notes place.me },
+    pub ghost notes: { Outside [] place.me },
     pub ghost counted: { count ≡ length place.me.0.own.seen },
     pub ghost begins: { take (length place.me.0.built) place.me.0.own.seen ≡ place.me.0.built },
 }

@@ -1,5 +1,5 @@
 //! Entering and leaving.
-ghost use Rattle.std.specs.Prelude.{◌≡◌, ◌≤◌, ◌<◌, ◌⊎◌, ◌%◌, ◌^◌, ℕ, ◌+◌, [], ◌∷◌, ◌++◌, length, Option, Some, None};
+ghost use Rattle.std.specs.Prelude.{◌≡◌, ◌<◌, ◌⊎◌, ◌%◌, ◌^◌, [], ◌∷◌, ◌++◌, length, Some, None};
 ghost use Rattle.sm_lock.specs.declared.view.Turn.TheVariants.{Out, Waiting, Inside, Holding};
 ghost use Rattle.sm_lock.specs.Story.{Grows};
 ghost use Rattle.sm_lock.specs.Standing.{AddsOne};

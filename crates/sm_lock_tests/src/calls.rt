@@ -1,7 +1,7 @@
 //! What a caller does with any value that can be added to.
-ghost use Rattle.std.specs.Prelude.{◌≡◌, ◌↔◌, ℕ, ◌≤◌, ◌+◌, [], ◌∷◌, ◌++◌, true, false, IsTrue, IfOk, OnOk, OnErr, All, map, length, drop, vec_len, vec_capacity};
-ghost use Rattle.sm_lock.specs.Story.{Grows, entries_of};
-ghost use Rattle.sm_lock.specs.Handles.{built_with, seats, number, seen, mine, IsIn};
+ghost use Rattle.std.specs.Prelude.{◌≡◌, ◌≤◌, [], ◌∷◌, ◌++◌, true, false, IfOk, OnOk, OnErr, length};
+ghost use Rattle.sm_lock.specs.Story.{Grows};
+ghost use Rattle.sm_lock.specs.Handles.{number, seen, mine, IsIn};
 
 use crate::tally::Tally;
 use sm_lock::{BuildRefused, Gate, Held, Note, Pass, Storied};

@@ -1,7 +1,7 @@
 //! A note that goes from one owner of a pass to another.
-ghost use Rattle.std.specs.Prelude.{◌≡◌, ℕ, ◌≤◌, ◌<◌, [], ◌∷◌, ◌++◌, true, IfOk, All, map, length, vec_len, vec_capacity};
+ghost use Rattle.std.specs.Prelude.{◌≡◌, ◌≤◌, ◌<◌, [], ◌∷◌, ◌++◌, true, IfOk, length, vec_len, vec_capacity};
 ghost use Rattle.sm_lock.specs.Story.{Grows};
-ghost use Rattle.sm_lock.specs.Handles.{built_with, seats, number, seen, mine, entered, holder, IsIn, IsOutOf};
+ghost use Rattle.sm_lock.specs.Handles.{built_with, number, seen, mine, entered, holder, IsIn, IsOutOf};
 
 use crate::calls::{Adds, add};
 use sm_lock::{BuildRefused, Gate, Held, Pass, Storied};

@@ -1,5 +1,5 @@
 //! Two threads that add under one lock.
-ghost use Rattle.std.specs.Prelude.{◌≡◌, ℕ, ◌≤◌, [], ◌∷◌, ◌++◌, true, false, IfOk, All, map, length, drop, vec_len, vec_capacity};
+ghost use Rattle.std.specs.Prelude.{◌≡◌, ◌≤◌, [], ◌∷◌, true, IfOk, All, map, length, drop, vec_len, vec_capacity};
 ghost use Rattle.sm_lock.specs.Story.{entries_of};
 ghost use Rattle.sm_lock.specs.Handles.{built_with, seats, number, mine, IsIn};
 

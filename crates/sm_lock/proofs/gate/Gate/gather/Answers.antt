@@ -12,11 +12,11 @@ pub loop-pass-preserved : goal.loop-pass-preserved
 loop-pass-preserved g c =
     let inv = c.loop-pass.invariant in let ys = c.loop-pass.yielded in let first = c.args.first in let pass = c.in-Some.pass in
     let v = c.loop-pass.place.me.0 in let w = c.join.new.place.me.0 in let joined = c.join.ensures in
-    let ns = v.own.numbers in let are = inv.1.numbers_are in (
+    let ns = v.own.numbers in let are = inv.1.numbers in (
       (joined.gate ∙ inv.0.0, ap (λ m. m.0.origin) joined.place ∙ inv.0.1, ap (λ m. m.0.built) joined.place ∙ inv.0.2),
       record {
         turn = ap (λ m. m.0.turn) joined.place ∙ inv.1.turn;
-        numbers_are = ap (λ m. m.0.own.numbers) joined.place ∙ (λ i. are i ++ pass.rests.numbers i) ∙ ap (λ l. number first ∷ l) (sym (map-append number ys (pass ∷ [])));
+        numbers = ap (λ m. m.0.own.numbers) joined.place ∙ (λ i. are i ++ pass.rests.numbers i) ∙ ap (λ l. number first ∷ l) (sym (map-append number ys (pass ∷ [])));
         plain = record { told = ap (λ m. m.0.told) joined.place; given = ap (λ m. m.0.given) joined.place ∙ inv.1.plain.given };
         empty = ap (λ m. m.1) joined.place ∙ inv.1.empty;
       },

@@ -5,7 +5,7 @@ use Rattle.std.proofs.lemmas.List.{map-append}
 use Rattle.std.proofs.lemmas.List.Elements.{All-push}
 use Rattle.std.specs.List.{range_with_len}
 use Rattle.sm_lock.specs.View.{builders, newcomer, counted_up}
-use Rattle.sm_lock.specs.Standing.{Rests}
+use Rattle.sm_lock.specs.Standing.{Outside}
 use Rattle.sm_lock.specs.Handles.{built_with, number, seen, mine, IsIn}
 use Rattle.sm_lock.specs.Story.{entries_of}
 use Rattle.sm_lock.proofs.Passes.{range-more, drop-built}
@@ -26,7 +26,7 @@ pub invariant_of-push_reserved : goal.invariant_of-push_reserved
 invariant_of-push_reserved g c =
     let inv = c.loop-number.invariant in let value = built_with c.args.self.now in let n = c.loop-number.number in
     let is : c.split_seat-place.result.me ≡ (newcomer (builders (g.T.Storied.origin value) (g.T.Storied.story value) n), []) = c.split_seat-place.ensures.4 ∙ ap (λ m. (newcomer m.0, [])) inv.1 in record {
-      rests = subst (Rests n) (sym is) (record { turn = refl; numbers = refl; plain = record { told = refl; given = refl }; empty = refl });
+      rests = subst (Outside (n ∷ [])) (sym is) (record { turn = refl; numbers = refl; plain = record { told = refl; given = refl }; empty = refl });
       counted = c.requires.count ∙ ap (λ m. length m.0.own.seen) (sym is);
       begins = subst (λ m. take (length m.0.built) m.0.own.seen ≡ m.0.built) (sym is) (take-length (g.T.Storied.story value));
     }
