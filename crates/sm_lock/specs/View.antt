@@ -1,0 +1,84 @@
+-- What a seat knows, and what it knows after each step.
+use Rattle.std.specs.Prelude.{ℕ, ◌+◌, List, [], ◌∷◌, ◌++◌, Some, None, if◌then◌else◌, ◌==◌}
+use Rattle.sm_lock.specs.declared.view.Turn.{Turn}
+use Rattle.sm_lock.specs.declared.view.Turn.TheVariants.{Out, Waiting, Inside, Holding}
+use Rattle.sm_lock.specs.declared.view.Known.{Known}
+use Rattle.sm_lock.specs.declared.view.View.{View}
+use Rattle.sm_lock.specs.Story.{longer}
+
+-- 1 where it stands in the queue, and else 0
+abbrev pub has_ticket : Turn → ℕ
+has_ticket Out = 0
+has_ticket (Waiting t) = 1
+has_ticket (Inside t) = 1
+has_ticket (Holding t) = 1
+
+-- 1 where its ticket is n, and else 0
+abbrev pub has : ℕ → Turn → ℕ
+has n Out = 0
+has n (Waiting t) = if n == t then 1 else 0
+has n (Inside t) = if n == t then 1 else 0
+has n (Holding t) = if n == t then 1 else 0
+
+-- 1 where the value is with it, and else 0
+abbrev pub holds : Turn → ℕ
+holds Out = 0
+holds (Waiting t) = 0
+holds (Inside t) = 0
+holds (Holding t) = 1
+
+-- its ticket, and 0 where it has none
+abbrev pub ticket : Turn → ℕ
+ticket Out = 0
+ticket (Waiting t) = t
+ticket (Inside t) = t
+ticket (Holding t) = t
+
+module _ {E : Type 0} where
+  -- a list that was seen, with the numbers whose entries are all in it
+  abbrev pub known : List (ℕ × E) → List ℕ → Known E
+  known seen numbers = record { seen = seen; numbers = numbers }
+
+  abbrev pub nothing : Known E
+  nothing = known [] []
+
+module _ {O E : Type 0} where
+  abbrev pub numbers : View O E → List ℕ
+  numbers v = v.own.numbers ++ v.told.numbers
+
+  -- the builder's, which gives this number next
+  abbrev pub builders : O → List (ℕ × E) → ℕ → View O E
+  builders origin built next = record { turn = Out; origin = Some origin; built = built; own = nothing; told = nothing; given = next }
+
+  -- the builder's, before it gave any number
+  abbrev pub first_view : O → List (ℕ × E) → View O E
+  first_view origin built = builders origin built 1
+
+  abbrev pub spent : View O E
+  spent = record { turn = Out; origin = None; built = []; own = nothing; told = nothing; given = 0 }
+
+  abbrev pub turned : Turn → View O E → View O E
+  turned turn v = record v { turn = turn }
+
+  abbrev pub saw : List (ℕ × E) → View O E → View O E
+  saw seen v = record v { own = known seen v.own.numbers }
+
+  -- the builder's, once it gave its next number
+  abbrev pub counted_up : View O E → View O E
+  counted_up v = record v { given = v.given + 1 }
+
+  -- the view of the seat that is given the builder's next number
+  abbrev pub newcomer : View O E → View O E
+  newcomer v = record { turn = Out; origin = v.origin; built = v.built; own = known v.built (v.given ∷ []); told = nothing; given = 0 }
+
+  -- the view of a note, which has a copy of the list and no number
+  abbrev pub noted : View O E → View O E
+  noted v = record { turn = Out; origin = v.origin; built = v.built; own = known v.own.seen []; told = nothing; given = 0 }
+
+  -- what the other knew, put beside what it knows
+  abbrev pub beside : View O E → View O E → View O E
+  beside v w = record v { told = w.own }
+
+  -- what it was told, taken in
+  abbrev pub merged : View O E → View O E
+  merged v = record v { own = known (longer v.own.seen v.told.seen) (numbers v); told = nothing }

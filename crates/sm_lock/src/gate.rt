@@ -1,0 +1,20 @@
+//! The lock.
+ghost use Rattle.std.specs.Prelude.{◌≡◌, ◌≤◌};
+
+use crate::board::Board;
+use crate::storied::Storied;
+
+/// A lock over one value, for a number of seats.
+#[derive(Drop)]
+pub struct Gate<T: Storied> {
+    pub(crate) board: Board<T>,
+    pub(crate) seats: u32,
+    pub ghost sized: { (board.shared.table_id.words ≡ 3) × (board.shared.table_id.slots ≡ 1) },
+    pub ghost counted: { (board.shared.key.seats ≡ seats) × (1 ≤ seats) × (seats ≤ 128) },
+}
+
+/// Why a lock was not built. The value comes back.
+#[derive(Drop)]
+pub enum BuildRefused<T> {
+    Memory(T),
+}
