@@ -5,4 +5,5 @@ pub mod BodyLemmas
 pub mod ReplyLemmas
 pub mod TurnLemmas
 pub mod StreamLemmas
+pub mod LegalLemmas
 pub mod RunLemmas

@@ -24,6 +24,7 @@ use Rattle.std.specs.Prelude.{Bool, true, false, MatchBool}
 use Rattle.sm_io.specs.Faults.{Rose}
 use Rattle.sm_io.proofs.Known.{append_known-append}
 use Rattle.sm_server.proofs.KnownLemmas.{append_known-nil}
+use Rattle.sm_server.proofs.LegalLemmas.{turns_legal}
 use Rattle.sm_server.proofs.TurnLemmas.{heard_shown, turns_more}
 
 -- the reply for want of memory, as it stands in the code
@@ -119,6 +120,7 @@ module _ (all : List Message) (view : MessageView) (behind : List MessageView) (
         last = one.reply;
         made = p.made ++ entries_of one.made;
         turns = turns_now f.0 f.3;
+        accepted = turns_legal [] _ _ _ _ _ _ (turns_now f.0 f.3);
         size = size;
         short = short;
         writes = ap (λ w. w ++ part) p.writes;
@@ -133,6 +135,7 @@ progress_done all account r0 r1 told written count p =
       replies = p.replies;
       made = p.made;
       turns = subst (λ d. Turns [] d told r0 r1 p.replies p.made) whole p.turns;
+      accepted = turns_legal [] p.done told r0 r1 p.replies p.made p.turns;
       writes = p.writes;
     }
 

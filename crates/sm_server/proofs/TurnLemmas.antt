@@ -95,11 +95,11 @@ pub formed_so : (old new : Account) (moment : Moment) (drawn : List ℕ) (reques
 formed_so old new moment drawn request result is b =
     subst (λ f. Brings old new result (answer_unless f old.table moment drawn request)) (sym is) b
 
-replay_more : (rows : Rows) (history : List Entry) (entry : Entry) → replay rows (history ++ entry ∷ []) ≡ effect (replay rows history) entry
+pub replay_more : (rows : Rows) (history : List Entry) (entry : Entry) → replay rows (history ++ entry ∷ []) ≡ effect (replay rows history) entry
 replay_more rows [] entry = refl
 replay_more rows (e ∷ history) entry = replay_more (effect rows e) history entry
 
-last_more : (before : Moment) (history : List Entry) (entry : Entry) → last_moment before (history ++ entry ∷ []) ≡ entry.moment
+pub last_more : (before : Moment) (history : List Entry) (entry : Entry) → last_moment before (history ++ entry ∷ []) ≡ entry.moment
 last_more before [] entry = refl
 last_more before (e ∷ history) entry = last_more e.moment history entry
 

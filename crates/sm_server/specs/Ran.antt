@@ -5,6 +5,7 @@ use Rattle.std.specs.List.{flat_map}
 use Rattle.std.specs.Str.{bytes_eq}
 use Rattle.sm_io.specs.Faults.{Rose}
 use Rattle.sm_model.specs.declared.entry.Entry.{Entry}
+use Rattle.sm_core.specs.Histories.{no_rows, Legal}
 use Rattle.sm_server.specs.declared.status.Status.{Status}
 use Rattle.sm_server.specs.declared.status.Status.TheVariants.{Done, Words, Memory, SinkFault, SourceFault, NotBuilt}
 use Rattle.sm_server.specs.Framed.{framed_answer}
@@ -53,11 +54,16 @@ joined replies = flat_map framed_answer replies
 abbrev pub NothingDone : List ℕ → Told → Type 0
 NothingDone written told = (written ≡ []) × (told ≡ nothing_told)
 
+-- the accepted changes of a run, whose account begins without secrets, are a legal history
+abbrev pub IsAccepted : List Entry → Type 0
+IsAccepted made = Legal no_rows (record { 0 = 0 }) made
+
 -- all messages were answered, and their replies written
 pub record AllAnswered (messages : List Message) (written : List ℕ) (told : Told) (random random' : ℕ) : Type 0 where
   pub replies : List Answered
   pub made : List Entry
   pub turns : Turns [] messages told random random' replies made
+  pub accepted : IsAccepted made
   pub writes : written ≡ joined replies
 
 -- the greatest count of bytes that is told
@@ -73,6 +79,7 @@ pub record CutAt (messages : List Message) (counted : ℕ) (written : List ℕ) 
   pub last : Answered
   pub made : List Entry
   pub turns : Turns [] answered told random random' (earlier ++ last ∷ []) made
+  pub accepted : IsAccepted made
   pub size : ℕ
   pub short : size < length (framed_answer last)
   pub writes : written ≡ joined earlier ++ take size (framed_answer last)
