@@ -1,7 +1,7 @@
 """A second definition of what the program answers, to compare it with.
 
-It is written from the rules of the product (docs/RULES.md) alone, in another language and shape than the program and its specifications: a
-dictionary of versions and a list of labels for each secret, exceptions for refusals, Python's own JSON. It knows one account, a clock that
+It is written from the rules of the product (docs/RULES.md, docs/USING.md) alone, in another language and shape than the program and its
+specifications: a dictionary of versions and a list of labels for each secret, exceptions for refusals, Python's own JSON. It knows one account, a clock that
 always reads 1700000000, and random bytes that count up from 0.
 """
 
