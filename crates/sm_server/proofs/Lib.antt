@@ -6,4 +6,5 @@ pub mod ReplyLemmas
 pub mod TurnLemmas
 pub mod StreamLemmas
 pub mod LegalLemmas
+pub mod StageLaws
 pub mod RunLemmas
