@@ -1,8 +1,8 @@
 """A second definition of what the program answers, to compare it with.
 
 It is written from the rules of the product (docs/RULES.md, docs/USING.md) alone, in another language and shape than the program and its
-specifications: a dictionary of versions and a list of labels for each secret, exceptions for refusals, Python's own JSON. It knows one account, a clock that
-always reads 1700000000, and random bytes that count up from 0.
+specifications: a dictionary of versions and a list of labels for each secret, exceptions for refusals, Python's own JSON. It knows one account, a
+clock that always reads 1700000000, and random bytes that count up from 0.
 """
 
 import json
@@ -55,6 +55,22 @@ class Refusal(Exception):
         self.message = message
 
 
+# The refusals whose message says all, and their errors' names.
+ERRORS = {
+    "AWSCURRENT can be moved but not removed": "InvalidParameterException",
+    "body is not a JSON object": "SerializationException",
+    "not built": "SerializationException",
+    "secret not found": "ResourceNotFoundException",
+    "unknown operation": "UnknownOperationException",
+    "version and label differ": "InvalidRequestException",
+    "version not found": "ResourceNotFoundException",
+}
+
+
+def refusal(message):
+    return Refusal(ERRORS[message], message)
+
+
 def bad_member(name):
     return Refusal("SerializationException", f"{name} is missing or of another type")
 
@@ -65,34 +81,6 @@ def bad_form(name):
 
 def limit_of(count, what):
     return Refusal("LimitExceededException", f"limit of {count} {what}")
-
-
-def not_json():
-    return Refusal("SerializationException", "body is not a JSON object")
-
-
-def not_built():
-    return Refusal("SerializationException", "not built")
-
-
-def unknown():
-    return Refusal("UnknownOperationException", "unknown operation")
-
-
-def no_secret():
-    return Refusal("ResourceNotFoundException", "secret not found")
-
-
-def no_version():
-    return Refusal("ResourceNotFoundException", "version not found")
-
-
-def differ():
-    return Refusal("InvalidRequestException", "version and label differ")
-
-
-def keeps_current():
-    return Refusal("InvalidParameterException", "AWSCURRENT can be moved but not removed")
 
 
 # ---- members
@@ -160,9 +148,9 @@ def object_of(body):
     try:
         read = read_json(body)
     except (ValueError, RecursionError):
-        raise not_json()
+        raise refusal("body is not a JSON object")
     if not isinstance(read, dict):
-        raise not_json()
+        raise refusal("body is not a JSON object")
     return {name: value for name, value in read.items() if value is not None}
 
 
@@ -174,10 +162,10 @@ def is_of_its_type(name, value):
 
 def members_of(operation, body):
     if operation not in OPERATIONS:
-        raise unknown()
+        raise refusal("unknown operation")
     given = object_of(body)
     if operation not in MEMBERS or NOT_BUILT.get(operation, set()) & given.keys():
-        raise not_built()
+        raise refusal("not built")
     names, required = MEMBERS[operation]
     for name in names:
         if name in given and not is_of_its_type(name, given[name]) or name in required - given.keys():
@@ -271,7 +259,7 @@ class Account:
             return self.create(members, drawn)
         secret = self.find(members["SecretId"])
         if secret is None:
-            raise no_secret()
+            raise refusal("secret not found")
         if operation == "GetSecretValue":
             return get(secret, members.get("VersionId"), members.get("VersionStage"))
         if operation == "PutSecretValue":
@@ -298,9 +286,9 @@ def get(secret, version, label):
     if version is None and label is None:
         label = "AWSCURRENT"
     if version is not None and version not in secret.versions or label is not None and secret.holder(label) is None:
-        raise no_version()
+        raise refusal("version not found")
     if version is not None and label is not None and secret.holder(label) != version:
-        raise differ()
+        raise refusal("version and label differ")
     version = version or secret.holder(label)
     shown = {"CreatedDate": NOW, "SecretString": secret.versions[version], "VersionId": version}
     return secret.named() | shown | {"VersionStages": secret.labels_of(version)}
@@ -326,14 +314,14 @@ def put(secret, members, drawn):
 def move(secret, label, target, source):
     for version in (source, target):
         if version is not None and version not in secret.versions:
-            raise no_version()
+            raise refusal("version not found")
     holder = secret.holder(label)
     if holder != source if source is not None else holder not in (None, target):
         raise Refusal("InvalidParameterException", f"label is held by {holder or 'no version'}")
     if target is not None:
         secret.place_all([label], target)
     elif label == "AWSCURRENT":
-        raise keeps_current()
+        raise refusal("AWSCURRENT can be moved but not removed")
     else:
         secret.labels = secret.without(label)
     return secret.named()
@@ -398,7 +386,7 @@ class Message:
     def operation(self):
         target = self.first(b"x-amz-target") or b""
         if self.method != b"POST" or self.path != b"/" or not target.startswith(b"secretsmanager."):
-            raise unknown()
+            raise refusal("unknown operation")
         return target[len(b"secretsmanager."):].decode("latin-1")
 
 
@@ -427,8 +415,8 @@ def framed(status, shown):
 def reply(account, message):
     try:
         return framed("200 OK", account.answer(message.operation(), message.body))
-    except Refusal as refusal:
-        return framed("400 Bad Request", {"Message": refusal.message, "__type": refusal.error})
+    except Refusal as refused:
+        return framed("400 Bad Request", {"Message": refused.message, "__type": refused.error})
 
 
 def run(stream):
