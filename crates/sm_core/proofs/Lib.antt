@@ -1,6 +1,3 @@
-pub mod ChangeLemmas
-pub mod CreateLemmas
-pub mod FormLemmas
+pub mod JudgingLemmas
 pub mod HistoryLemmas
-pub mod PutLemmas
-pub mod StageLemmas
+pub mod ReplayLemmas

@@ -1,14 +1,16 @@
 -- Histories: the accepted changes of an account in order, and the rows that they make.
 use Rattle.std.specs.Prelude.{◌≡◌, ℕ, ◌≤◌, max, List, [], ◌∷◌, length, None, IsSome}
+use Rattle.sm_base.specs.declared.moment.Moment.{Moment}
+use Rattle.sm_base.specs.declared.moment.TheConstants.{LAST_READING}
 use Rattle.sm_model.specs.declared.entry.Act.{Act}
-use Rattle.sm_model.specs.declared.entry.Act.TheVariants.{Asked}
+use Rattle.sm_model.specs.declared.entry.Act.TheVariants.{Asked, Begun, Reported}
 use Rattle.sm_model.specs.declared.entry.Entry.{Entry}
-use Rattle.sm_model.specs.declared.moment.Moment.{Moment}
 use Rattle.sm_model.specs.declared.rows.Rows.{Rows}
 use Rattle.sm_model.specs.Needed.{needed}
-use Rattle.sm_core.specs.declared.judging.Judged.{Judged}
-use Rattle.sm_core.specs.declared.judging.Judged.TheVariants.{Accept, Refuse, Memory}
-use Rattle.sm_core.specs.Forms.{forms_of}
+use Rattle.sm_table.specs.Sound.{Sound}
+use Rattle.sm_forms.specs.Forms.{forms_of}
+use Rattle.sm_judging.specs.declared.judged.Judged.{Judged}
+use Rattle.sm_judging.specs.declared.judged.Judged.TheVariants.{Accept, Refuse, Memory}
 use Rattle.sm_core.specs.Judging.{judgement}
 use Rattle.sm_core.specs.Effects.{effect}
 
@@ -29,9 +31,10 @@ last_moment before (entry ∷ entries) = last_moment entry.moment entries
 abbrev pub later : Moment → Moment → Moment
 later a b = record { 0 = max a.0 b.0 }
 
--- an operation's moment: the greater of the last entry's moment and the clock's reading
-abbrev pub moment_of : List Entry → Moment → Moment
-moment_of history now = later (last_moment (record { 0 = 0 }) history) now
+-- An operation's moment: the greater of the last entry's moment and the clock's reading. Before the entries of a
+-- history stands the last moment of what they are based on.
+abbrev pub moment_of : Moment → List Entry → Moment → Moment
+moment_of before entries now = later (last_moment before entries) now
 
 -- the request is accepted and makes an entry
 abbrev pub IsDue : Judged → Type 0
@@ -39,13 +42,28 @@ IsDue (Accept reply change) = IsSome change
 IsDue (Refuse why) = ⊥
 IsDue Memory = ⊥
 
--- an entry is legal at rows where its request has as many random bytes as it needs, its forms and all tests pass, and it is no repeat
+-- An entry of a request is legal at rows where the request has as many random bytes as it needs, its forms and all
+-- tests pass, and it is no repeat. Entries of rotations are not built.
 abbrev pub LegalAct : Rows → Moment → List ℕ → Act → Type 0
 LegalAct rows moment drawn (Asked request) =
     (length drawn ≡ needed request) × (forms_of request ≡ None) × IsDue (judgement rows moment drawn request)
+LegalAct rows moment drawn (Begun arn) = ⊥
+LegalAct rows moment drawn (Reported arn at answer) = ⊥
 
 -- each entry's moment is at least that of the one before it, and each is legal at the rows of those before it
 abbrev pub Legal : Rows → Moment → List Entry → Type 0
 Legal rows before [] = Unit {0}
 Legal rows before (entry ∷ entries) =
-    (before.0 ≤ entry.moment.0) × LegalAct rows entry.moment entry.drawn entry.act × Legal (effect rows entry) entry.moment entries
+    (before.0 ≤ entry.moment.0) × LegalAct rows entry.moment entry.drawn entry.act
+    × Legal (effect rows entry) entry.moment entries
+
+-- a clock can give each entry's moment
+abbrev pub InTime : List Entry → Type 0
+InTime [] = Unit {0}
+InTime (entry ∷ entries) = (entry.moment.0 ≤ LAST_READING) × InTime entries
+
+-- sound rows stay sound along a legal history
+abbrev pub LegalKeepsSound : Type 0
+LegalKeepsSound =
+    (rows : Rows) → (before : Moment) → (entries : List Entry) → Sound rows → Legal rows before entries → InTime entries
+    → Sound (replay rows entries)

@@ -1,5 +1,5 @@
-pub mod Forms
-pub mod Create
+pub mod Admission
 pub mod Judging
 pub mod Effects
 pub mod Histories
+pub mod Replaying

@@ -1,50 +1,55 @@
 //! Judging a request on the secrets of an account.
-ghost use Rattle.std.specs.Prelude.{◌≡◌, IfOk, None, length};
-ghost use Rattle.sm_core.specs.Effects.{effect, entry_of};
-ghost use Rattle.sm_core.specs.Forms.{forms_of};
-ghost use Rattle.sm_core.specs.Judging.{judgement, OrMemory, IfChange};
+ghost use Rattle.std.specs.Prelude.{◌≡◌, ◌≤◌, IfOk, IsSome, None, length};
+ghost use Rattle.sm_base.specs.Outcomes.{OrMemory};
+ghost use Rattle.sm_base.specs.declared.moment.TheConstants.{LAST_READING};
+ghost use Rattle.sm_core.specs.Effects.{entry_of, Makes};
+ghost use Rattle.sm_core.specs.Judging.{judgement, refusal, IsUnchanged};
+ghost use Rattle.sm_forms.specs.Forms.{forms_of};
+ghost use Rattle.sm_judging.specs.Judged.{judged_told, refusal_told, IfAccepted, IfChange};
 ghost use Rattle.sm_model.specs.Needed.{needed};
-ghost use Rattle.sm_table.specs.Changes.{changed, CanMake, StandsAt};
-ghost use Rattle.sm_table.specs.Kept.{RowsKept, ChangeKept};
+ghost use Rattle.sm_table.specs.Changes.{CanMake, StandsAt};
+ghost use Rattle.sm_table.specs.Sound.{ChangeSound, Sound};
 ghost use Rattle.sm_table.specs.Sweep.{sweep};
 
-use crate::judging_create::judge_create;
-use crate::judging_get::judge_get;
-use crate::judging_put::judge_put;
-use crate::judging_update::judge_update;
-use sm_model::{Change, Moment, NoMemory, Person, Reply, Request, Why};
+use sm_judging::Judged;
+use sm_labels::update_secret_version_stage::judge_move;
+use sm_model::{Moment, NoMemory, Person, Request, Why};
 use sm_table::Table;
+use sm_values::create_secret::judge_create;
+use sm_values::get_secret_value::judge_get;
+use sm_values::put_secret_value::judge_put;
 use std::alloc::Global;
-
-/// How a request is judged.
-#[derive(Drop)]
-pub enum Judged {
-    /// Accepted, with the reply and, where an entry is due, the change.
-    Accept(Reply, Option<Change>),
-    Refuse(Why),
-    Memory,
-}
 
 /// Judges a request of a person at a moment, with the random bytes that were drawn for it.
 pub fn judge(
     alloc: Global,
     table: &Table,
-    _person: &Person,
+    person: &Person,
     moment: Moment,
     drawn: &[u8],
     request: &Request,
 ) -> Judged
-    requires kept { RowsKept table.now }
+    requires sound { Sound table.now }
+    requires moment { moment.0 ≤ LAST_READING }
     requires forms { forms_of request.now ≡ None }
     requires drawn { length drawn.now ≡ needed request.now }
-    ensures judged { OrMemory result (judgement table.now moment drawn.now request.now) }
 
-    // A change makes the rows of the entry, meets what the table asks of a change, and keeps what holds of a secret.
-    ensures makes { IfChange result (λ change. changed (sweep table.now moment) change ≡ effect table.now (entry_of moment drawn.now request.now)) }
+    // The judgement is never want of memory, so that only this call can answer it.
+    ensures judged { OrMemory (judged_told result) (judgement table.now moment drawn.now request.now) }
+    ensures judgement_is_no_memory { IsSome (judged_told (judgement table.now moment drawn.now request.now)) }
+
+    // It is refused exactly by the first test that fails, and nothing is changed exactly by what only reads and by a
+    // repeat.
+    ensures refused { OrMemory (refusal_told result) (refusal table.now moment drawn.now request.now) }
+    ensures unchanged { IfAccepted result (IsUnchanged table.now moment drawn.now request.now) }
+
+    // A change makes the rows of the entry, meets what the table asks of a change, and leaves the rows sound.
+    ensures makes { IfChange result (Makes table.now (entry_of moment person.now.key drawn.now request.now)) }
     ensures can { IfChange result (CanMake table.now) }
     ensures stands { IfChange result (StandsAt table.now moment) }
-    ensures change_kept { IfChange result ChangeKept }
+    ensures change_sound { IfChange result (ChangeSound (sweep table.now moment)) }
 {
+    let _person = person;
     match judge_exactly(alloc, table, moment, drawn, request) {
         Ok(judged) => judged,
         Err(NoMemory) => Judged::Memory,
@@ -52,8 +57,7 @@ pub fn judge(
 }
 
 /// Judges a request, also on rows of which nothing is known.
-#[tactic(auto, using(crate::proofs::FormLemmas::create_built, crate::proofs::FormLemmas::put_built))]
-pub(crate) fn judge_exactly(
+pub fn judge_exactly(
     alloc: Global,
     table: &Table,
     moment: Moment,
@@ -68,6 +72,22 @@ pub(crate) fn judge_exactly(
         Request::CreateSecret(create) => judge_create(alloc, table, moment, drawn, create),
         Request::GetSecretValue(get) => judge_get(alloc, table, moment, get),
         Request::PutSecretValue(put) => judge_put(alloc, table, moment, drawn, put),
-        Request::UpdateSecretVersionStage(update) => judge_update(alloc, table, moment, update),
+        Request::UpdateSecretVersionStage(update) => judge_move(alloc, table, moment, update),
+        Request::BatchGetSecretValue(_)
+        | Request::CancelRotateSecret(_)
+        | Request::DeleteResourcePolicy(_)
+        | Request::DeleteSecret(_)
+        | Request::DescribeSecret(_)
+        | Request::GetRandomPassword(_)
+        | Request::GetResourcePolicy(_)
+        | Request::ListSecretVersionIds(_)
+        | Request::ListSecrets(_)
+        | Request::PutResourcePolicy(_)
+        | Request::RestoreSecret(_)
+        | Request::RotateSecret(_)
+        | Request::TagResource(_)
+        | Request::UntagResource(_)
+        | Request::UpdateSecret(_)
+        | Request::ValidateResourcePolicy(_) => Ok(Judged::Refuse(Why::NotBuilt)),
     }
 }

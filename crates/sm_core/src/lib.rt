@@ -1,18 +1,15 @@
-//! Judging: whether a request is accepted, with which reply, and what it changes.
+//! The public calls of judging: the forms of a request, whether its person may make it, whether it is accepted, with
+//! which reply and change, and the same for an entry that is made again. They list the operations; each operation has
+//! its own files below.
 #![tactic(auto)]
 
-pub mod create;
-mod given;
+pub mod admission;
+pub mod histories;
 pub mod judging;
-mod judging_create;
-mod judging_get;
-mod judging_put;
-mod judging_update;
-pub mod member_forms;
-mod stages;
+pub mod replaying;
 
-pub use judging::{Judged, judge};
-pub use member_forms::forms;
-
-#[cfg(test)]
-mod tests;
+pub use admission::{Admitted, admit};
+pub use judging::judge;
+pub use replaying::{Replayed, again};
+pub use sm_forms::forms;
+pub use sm_judging::Judged;

@@ -41,7 +41,8 @@ LeftByCall file call bytes may c = MatchBool (call.file == file) (LeftByAct call
 -- what a crash may leave of a file after these calls
 abbrev pub LeftByCalls : ℕ → List Call → List ℕ → (List ℕ → Type 0) → List ℕ → Type 0
 LeftByCalls file [] bytes may c = may c
-LeftByCalls file (call ∷ calls) bytes may c = LeftByCalls file calls (read_after file call bytes) (LeftByCall file call bytes may) c
+LeftByCalls file (call ∷ calls) bytes may c = LeftByCalls file calls (read_after file call bytes)
+    (LeftByCall file call bytes may) c
 
 -- a crash after these calls may leave this, where the files held what start says and all of it was synced
 abbrev pub IsImage : Image → List Call → Image → Type 0
@@ -88,10 +89,12 @@ filled fill call = record call { act = filled_act fill call.act }
 -- each byte that is written replaced by that number
 abbrev pub left_unsynced : ℕ → ℕ → List Call → List ℕ → List ℕ
 left_unsynced fill file calls bytes =
-    if fill == 0 then bytes else if fill == 1 then replayed file calls bytes else replayed file (map (filled fill) calls) bytes
+    if fill == 0 then bytes else if fill == 1 then replayed file calls bytes
+    else replayed file (map (filled fill) calls) bytes
 
--- One content that a crash may leave: for 0 as the last sync that was done left the file, for 1 as it reads, and for any
--- other number as it reads with each byte that was written since that sync replaced by the number.
+-- One content that a crash may leave: for 0 as the last sync that was done left the file, for 1 as it reads, and for
+-- any other number as it reads with each byte that was written since that sync replaced by the number.
 abbrev pub crashed : ℕ → ℕ → List Call → List ℕ → List ℕ
 crashed fill file calls bytes =
-    let count = synced_calls file calls in left_unsynced fill file (drop count calls) (replayed file (take count calls) bytes)
+    let count = synced_calls file calls in left_unsynced fill file (drop count calls)
+    (replayed file (take count calls) bytes)

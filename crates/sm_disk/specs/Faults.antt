@@ -1,11 +1,12 @@
 -- Faults of the outside, which are counted.
-use Rattle.std.specs.Prelude.{ℕ, ◌+◌, ◌-◌, ◌^◌, ◌≤◌, min, Result, IsErr}
-
--- the count rose, or it stands at its last value
-abbrev pub Rose : ℕ → ℕ → Type 0
-Rose before now = min (before + 1) (2 ^ 64 - 1) ≤ now
+use Rattle.std.specs.Prelude.{ℕ, ◌≤◌, if◌then◌else◌, Result, is_ok, IsErr}
+use Rattle.sm_base.specs.Faults.{Rose, raised}
 
 -- the count never falls, and an error comes only where it rose
 pub record HasCause {T E : Type 0} (before now : ℕ) (result : Result T E) : Type 0 where
   pub later : before ≤ now
   pub failed : IsErr result → Rose before now
+
+-- the count of a disk that counts exactly its errors
+abbrev pub faults_after : {T E : Type 0} → Result T E → ℕ → ℕ
+faults_after result count = if is_ok result then count else raised count

@@ -5,3 +5,4 @@ pub mod Faults
 pub mod Calls
 pub mod Memory
 pub mod Laws
+pub mod Folder

@@ -1,7 +1,7 @@
 -- Words for what stands on a disk: runs of calls on one file among the others, and what a crash during them leaves.
 use Rattle.std.specs.Prelude.{◌⊎◌, ℕ, ◌≤◌, List}
 use Rattle.sm_disk.specs.Sight.{Image, Sight}
-use Rattle.sm_disk.specs.Steps.{OnFile, Follows}
+use Rattle.sm_disk.specs.Steps.{OnFile, Follows, GoesOnTelling}
 
 -- A crash at any moment since old leaves an image that has P.
 pub record LeavesOnly (P : Image → Type 0) (old now : Sight) : Type 0 where
@@ -28,3 +28,5 @@ pub record Leaves (file : ℕ) (P Q : List ℕ → List ℕ → Type 0) (old now
   pub ever : LeavesOnly (Beside file P old.images) old now
   pub images : Follows (OnFile file Q) old.images now.images
   pub reads : Follows (OnFile file Anyhow) old.reads now.reads
+  -- and a disk that told what a read gives goes on telling it
+  pub tells : GoesOnTelling old now

@@ -52,6 +52,10 @@ pub record Keeps (old new : Sight) : Type 0 where
   pub still : (s : Image) → old.reads s → new.reads s
   pub nothing_new : (s : Image) → new.reads s → old.reads s
 
+-- what told a reading goes on telling one, so no disk falls silent
+abbrev pub GoesOnTelling : Sight → Sight → Type 0
+GoesOnTelling old new = (s : Image) → old.reads s → (t : Image) × new.reads t
+
 -- each image has these bytes in the file
 abbrev pub Only : ℕ → List ℕ → (Image → Type 0) → Type 0
 Only file bytes images = (c : Image) → images c → c file ≡ bytes

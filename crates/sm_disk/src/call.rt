@@ -2,7 +2,7 @@
 ghost use Rattle.std.specs.Prelude.{◌≡◌, OnOk, IfOk, ◌+◌, ◌++◌, ◌≤◌, length, take, drop, map};
 ghost use Rattle.sm_disk.specs.Calls.{read_after, replayed, syncs, synced_calls, filled, left_unsynced};
 
-use sm_model::{Bytes, NoMemory};
+use sm_base::{Bytes, NoMemory};
 use std::alloc::Global;
 
 /// What was asked of a file.

@@ -1,7 +1,7 @@
 //! The disk as the crates above see it.
 ghost use Rattle.std.specs.Prelude.{◌≡◌, ◌<◌, ◌≤◌, ◌+◌, ℕ, length, take, drop, IfOk, OnOk, OnErr};
 ghost use Rattle.sm_disk.specs.Sight.{Sight, Image};
-ghost use Rattle.sm_disk.specs.Steps.{Holds, Torn, IsCut, CutOrNot, OnFile, Same, ReadsFollow, Goes, Keeps, Synced};
+ghost use Rattle.sm_disk.specs.Steps.{Holds, Torn, IsCut, CutOrNot, OnFile, Same, ReadsFollow, GoesOnTelling, Goes, Keeps, Synced};
 ghost use Rattle.sm_disk.specs.Faults.{HasCause};
 
 use std::error::Error;
@@ -61,6 +61,7 @@ pub trait Disk {
         ensures tried { OnErr result
             (ReadsFollow (OnFile file (Torn at (length piece.now))) (sight self.old) (sight self.new)) }
         ensures crash { Goes (OnFile file (Torn at (length piece.now))) (sight self.old) (sight self.new) }
+        ensures tells { GoesOnTelling (sight self.old) (sight self.new) }
         ensures cause { HasCause (faults self.old) (faults self.new) result };
 
     /// Cuts a file to a length.
@@ -72,6 +73,7 @@ pub trait Disk {
         ensures tried { OnErr result
             (ReadsFollow (OnFile file (CutOrNot end)) (sight self.old) (sight self.new)) }
         ensures crash { Goes (OnFile file (CutOrNot end)) (sight self.old) (sight self.new) }
+        ensures tells { GoesOnTelling (sight self.old) (sight self.new) }
         ensures cause { HasCause (faults self.old) (faults self.new) result };
 
     /// Brings a file to the disk: a crash now leaves what a read of it gives.

@@ -8,9 +8,6 @@ pub mod memory;
 pub mod quiet;
 
 pub use disk::{Disk, DiskFailed};
-pub use folder::FileDisk;
+pub use folder::{FileDisk, FolderRefused};
 pub use memory::MemoryDisk;
 pub use quiet::QuietDisk;
-
-#[cfg(test)]
-mod tests;

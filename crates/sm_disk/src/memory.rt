@@ -5,7 +5,7 @@ ghost use Rattle.sm_disk.specs.Calls.{replayed, crashed};
 
 use crate::call::{Act, Call, count_synced, replay, replay_unsynced};
 use crate::disk::{Disk, DiskFailed};
-use sm_model::{Bytes, Fails, NoMemory};
+use sm_base::{Bytes, Fails, NoMemory};
 use std::alloc::Global;
 
 /// How many calls a new disk has room for.
@@ -64,8 +64,8 @@ impl MemoryDisk {
 
     /// One of the images of now, as a disk that is never told to fail. With fill 0 each file is as its last sync that
     /// succeeded left it, or as it was made; with 1 as it reads; and with any other fill as it reads, but for the
-    /// bytes written since that sync, each of which is the fill.
-    pub fn crash(&self, alloc: Global, fill: u8) -> Result<MemoryDisk, NoMemory>
+    /// bytes written since that sync, each of which is the fill. It allocates where this disk does.
+    pub fn crash(&self, fill: u8) -> Result<MemoryDisk, NoMemory>
         ensures files { IfOk result (λ disk. (file : ℕ) → file < 3 →
             start_of disk file ≡ crashed fill file self.now.calls.items (start_of self.now file)) }
         ensures new { IfOk result (λ disk. (disk.calls.items ≡ []) × (disk.made ≡ 0) × (disk.faults ≡ 0)
@@ -73,23 +73,24 @@ impl MemoryDisk {
         ensures image { IfOk result (λ disk. (c : Image) × (memory_sight self.now).images c
             × ((file : ℕ) → file < 3 → start_of disk file ≡ c file)) }
     {
-        let journal_0 = self.crashed(alloc, 0, fill)?;
-        let journal_1 = self.crashed(alloc, 1, fill)?;
-        let root = self.crashed(alloc, 2, fill)?;
-        MemoryDisk::new(alloc, journal_0, journal_1, root, Fails::never(alloc))
+        let journal_0 = self.left_of(0, fill)?;
+        let journal_1 = self.left_of(1, fill)?;
+        let root = self.left_of(2, fill)?;
+        let fails = Fails::never(self.alloc);
+        MemoryDisk::new(self.alloc, journal_0, journal_1, root, fails)
     }
 
     /// What a crash leaves of a file with this fill.
-    fn crashed(&self, alloc: Global, file: u8, fill: u8) -> Result<Bytes, NoMemory>
+    fn left_of(&self, file: u8, fill: u8) -> Result<Bytes, NoMemory>
         requires { file < 3 }
         ensures { IfOk result (λ bytes.
             bytes ≡ crashed fill file self.now.calls.items (start_of self.now file)) }
     {
-        let mut bytes = self.started(alloc, file)?;
+        let mut bytes = self.start_content(file)?;
         let calls = self.calls.as_slice();
         let (synced, later) = calls.split_at(count_synced(file, calls));
         replay(&mut bytes, file, synced)?;
-        replay_unsynced(alloc, &mut bytes, file, later, fill)?;
+        replay_unsynced(self.alloc, &mut bytes, file, later, fill)?;
         Ok(Bytes::new(bytes))
     }
 
@@ -141,7 +142,7 @@ impl MemoryDisk {
     }
 
     /// What a file held when the disk was made.
-    fn started(&self, alloc: Global, file: u8) -> Result<Vec<u8>, NoMemory>
+    fn start_content(&self, file: u8) -> Result<Vec<u8>, NoMemory>
         requires { file < 3 }
         ensures { IfOk result (λ bytes. bytes.items ≡ start_of self.now file) }
     {
@@ -150,7 +151,7 @@ impl MemoryDisk {
             1 => &self.journal_1,
             _ => &self.root,
         };
-        Ok(Vec::from_slice(alloc, start.as_slice())?)
+        Ok(Vec::from_slice(self.alloc, start.as_slice())?)
     }
 
     /// What a file reads as now.
@@ -159,7 +160,7 @@ impl MemoryDisk {
         ensures { IfOk result (λ bytes.
             bytes.items ≡ replayed file self.now.calls.items (start_of self.now file)) }
     {
-        let mut bytes = self.started(self.alloc, file)?;
+        let mut bytes = self.start_content(file)?;
         replay(&mut bytes, file, self.calls.as_slice())?;
         Ok(bytes)
     }
@@ -188,7 +189,7 @@ impl MemoryDisk {
 impl Disk for MemoryDisk {
     ghost use Rattle.sm_disk.specs.Memory.{start_of, memory_sight, Counts, IsKept};
     ghost use Rattle.sm_disk.specs.declared.call.Act.TheVariants.{Write, Cut, Sync};
-    ghost use Rattle.sm_disk.specs.Steps.{Holds, Torn, IsCut, CutOrNot, OnFile, Same, ReadsFollow, Goes, Keeps, Synced};
+    ghost use Rattle.sm_disk.specs.Steps.{Holds, Torn, IsCut, CutOrNot, OnFile, Same, ReadsFollow, GoesOnTelling, Goes, Keeps, Synced};
     ghost use Rattle.sm_disk.specs.Faults.{HasCause};
     ghost use Rattle.sm_disk.specs.Laws as laws;
 
@@ -239,6 +240,7 @@ impl Disk for MemoryDisk {
             (memory_sight self.new)) }
         ensures crash { Goes (OnFile file (Torn at (length piece.now)))
             (memory_sight self.old) (memory_sight self.new) }
+        ensures tells { GoesOnTelling (memory_sight self.old) (memory_sight self.new) }
         ensures cause { HasCause self.old.faults self.new.faults result }
 
         ensures counts { Counts self.old self.new result }
@@ -261,6 +263,7 @@ impl Disk for MemoryDisk {
         ensures tried { OnErr result
             (ReadsFollow (OnFile file (CutOrNot end)) (memory_sight self.old) (memory_sight self.new)) }
         ensures crash { Goes (OnFile file (CutOrNot end)) (memory_sight self.old) (memory_sight self.new) }
+        ensures tells { GoesOnTelling (memory_sight self.old) (memory_sight self.new) }
         ensures cause { HasCause self.old.faults self.new.faults result }
 
         ensures counts { Counts self.old self.new result }

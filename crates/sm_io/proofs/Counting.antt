@@ -16,11 +16,13 @@ count_up-push first n =
 -- from equal bytes they go on alike
 pub count_up-same : (first other n : ℕ) → first % 256 ≡ other % 256 → count_up first n ≡ count_up other n
 count_up-same first other zero h = refl
-count_up-same first other (suc n) h = ap₂ (λ byte rest. byte ∷ rest) h (count_up-same (first + 1) (other + 1) n (omega arith))
+count_up-same first other (suc n) h = ap₂ (λ byte rest. byte ∷ rest) h
+    (count_up-same (first + 1) (other + 1) n (omega arith))
 
 -- so many, and then more from there on
 pub count_up-append : (first m n : ℕ) → count_up first (m + n) ≡ count_up first m ++ count_up (first + m) n
-count_up-append first zero n = let e : zero + n ≡ n = omega arith in let f : first + zero ≡ first = omega arith in rw (e, f)
+count_up-append first zero n = let e : zero + n ≡ n = omega arith in let f : first + zero ≡ first = omega arith in
+    rw (e, f)
 count_up-append first (suc m) n =
     let e : suc m + n ≡ suc (m + n) = omega arith in
     let f : first + suc m ≡ first + 1 + m = omega arith in

@@ -1,9 +1,9 @@
 -- The calls of a form in memory that can be told to fail.
 use Rattle.std.specs.Prelude.{◌+◌, ◌-◌, ◌^◌, Bool, if◌then◌else◌, nat_lt, is_some}
-use Rattle.sm_model.specs.declared.fails.Fails.{Fails}
-use Rattle.sm_model.specs.Fails.{is_told}
+use Rattle.sm_base.specs.declared.fails.Fails.{Fails}
+use Rattle.sm_base.specs.Fails.{is_told}
 use Rattle.sm_io.specs.declared.calls.Calls.{Calls}
-use Rattle.sm_io.specs.Faults.{raised}
+use Rattle.sm_base.specs.Faults.{raised}
 
 -- no calls so far
 abbrev pub no_calls : Fails → Calls

@@ -1,6 +1,6 @@
 -- A clock that stands.
 use Rattle.std.specs.Prelude.{ℕ, List, replicate}
-use Rattle.sm_model.specs.declared.moment.Moment.{Moment}
+use Rattle.sm_base.specs.declared.moment.Moment.{Moment}
 
 -- the moment that it reads, and how often it was read
 pub record FixedState : Type 0 where

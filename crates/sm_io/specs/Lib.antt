@@ -1,7 +1,7 @@
 pub mod Adapters
 pub mod Calls
+pub mod Clamped
 pub mod CountWords
-pub mod Faults
 pub mod FixedClock
 pub mod ListClock
 pub mod ListWords
@@ -11,3 +11,6 @@ pub mod Source
 pub mod Sink
 pub mod Transfer
 pub mod Words
+pub mod StreamConn
+pub mod Edge
+pub mod ListenerEdge

@@ -1,8 +1,8 @@
 -- A clock that reads a list of moments.
 use Rattle.std.specs.Prelude.{ℕ, zero, suc, List, [], ◌∷◌, ◌≤◌, map, All}
 use Rattle.std.specs.List.{range_with_len}
-use Rattle.sm_model.specs.declared.moment.Moment.{Moment}
-use Rattle.sm_model.specs.declared.moment.TheConstants.{LAST_READING}
+use Rattle.sm_base.specs.declared.moment.Moment.{Moment}
+use Rattle.sm_base.specs.declared.moment.TheConstants.{LAST_READING}
 
 -- the moments that it reads, and how often it was read
 pub record ListClockState : Type 0 where

@@ -11,8 +11,8 @@ pub record SourceState : Type 0 where
   pub step : ℕ
   pub calls : Calls
 
--- How a take into so many bytes of room ends: told to fail, or with nothing left, or with as many bytes as the step says,
--- or all that are left or fit where these are fewer.
+-- How a take into so many bytes of room ends: told to fail, or with nothing left, or with as many bytes as the step
+-- says, or all that are left or fit where these are fewer.
 abbrev pub take_answer : SourceState → ℕ → Took
 take_answer state room =
     if fails_next state.calls then Failed

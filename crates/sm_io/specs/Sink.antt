@@ -3,7 +3,7 @@ use Rattle.std.specs.Prelude.{◌≡◌, ℕ, List, Option, take, ⊤}
 use Rattle.std.specs.Io.KnownBytes.{append_known}
 use Rattle.sm_io.specs.declared.sink.Gave.{Gave}
 use Rattle.sm_io.specs.declared.sink.Gave.TheVariants.{Put, Failed}
-use Rattle.sm_io.specs.Faults.{raised}
+use Rattle.sm_base.specs.Faults.{raised}
 
 -- a fact about how many bytes a put gave, where it didn't fail
 abbrev pub IfPut : Gave → (ℕ → Type 0) → Type 0

@@ -3,7 +3,7 @@ use Rattle.std.specs.Prelude.{◌≡◌, ℕ, List, Option, take, ⊤}
 use Rattle.std.specs.Io.KnownBytes.{prepend_known}
 use Rattle.sm_io.specs.declared.source.Took.{Took}
 use Rattle.sm_io.specs.declared.source.Took.TheVariants.{Got, End, Failed}
-use Rattle.sm_io.specs.Faults.{raised}
+use Rattle.sm_base.specs.Faults.{raised}
 
 -- a fact about how many bytes a take got, where it got some
 abbrev pub IfGot : Took → (ℕ → Type 0) → Type 0

@@ -3,7 +3,7 @@ use Rattle.std.specs.Prelude.{◌≡◌, ℕ, List, Option, ⊤}
 use Rattle.std.specs.Io.KnownBytes.{append_known}
 use Rattle.sm_io.specs.declared.words.Drew.{Drew}
 use Rattle.sm_io.specs.declared.words.Drew.TheVariants.{Bytes, Failed, Memory}
-use Rattle.sm_io.specs.Faults.{raised}
+use Rattle.sm_base.specs.Faults.{raised}
 
 -- a fact about the bytes that were drawn, where there are some
 abbrev pub IfDrew : Drew → (List ℕ → Type 0) → Type 0
@@ -22,6 +22,12 @@ abbrev pub Draws : Drew → Option (List ℕ) → Option (List ℕ) → Type 0
 Draws (Bytes bytes) old new = new ≡ append_known old bytes
 Draws Failed old new = new ≡ old
 Draws Memory old new = new ≡ old
+
+-- the count stays, but for a draw that failed
+abbrev pub StaysUnlessFailed : Drew → ℕ → ℕ → Type 0
+StaysUnlessFailed (Bytes bytes) old new = new ≡ old
+StaysUnlessFailed Failed old new = ⊤
+StaysUnlessFailed Memory old new = new ≡ old
 
 -- the count of words that count exactly their failed draws
 abbrev pub faults_after_draw : Drew → ℕ → ℕ

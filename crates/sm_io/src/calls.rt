@@ -1,7 +1,7 @@
 //! The calls of a form in memory that can be told to fail.
 ghost use Rattle.std.specs.Prelude.{◌≡◌, ◌≤◌};
 
-use sm_model::Fails;
+use sm_base::Fails;
 
 /// Which calls are told to fail, how many calls there were, and how many of them were faults. Both counts
 /// stand at 2^64 - 1: the number of a call past that is in no list, and every `from` has come by then.

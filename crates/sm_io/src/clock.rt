@@ -1,9 +1,9 @@
 //! Where the time comes from.
 ghost use Rattle.std.specs.Prelude.{◌≡◌, ◌≤◌, ℕ, List, Option, [], ◌∷◌};
 ghost use Rattle.std.specs.Io.KnownBytes.{append_known};
-ghost use Rattle.sm_model.specs.declared.moment.TheConstants.{LAST_READING};
+ghost use Rattle.sm_base.specs.declared.moment.TheConstants.{LAST_READING};
 
-use sm_model::Moment;
+use sm_base::Moment;
 
 /// A clock. It never fails.
 pub trait Clock {

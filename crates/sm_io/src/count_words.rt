@@ -1,14 +1,14 @@
 //! Random words in memory that count up.
 ghost use Rattle.std.specs.Prelude.{◌≡◌, ◌↔◌, ◌+◌, ◌≤◌, [], length, IsTrue, IfOk, Some};
-ghost use Rattle.sm_io.specs.Faults.{Rose};
-ghost use Rattle.sm_io.specs.Words.{IfDrew, OnDrawFailed, Draws};
+ghost use Rattle.sm_base.specs.Faults.{Rose};
+ghost use Rattle.sm_io.specs.Words.{IfDrew, OnDrawFailed, Draws, StaysUnlessFailed};
 ghost use Rattle.sm_io.specs.Calls.{no_calls, fails_next};
 ghost use Rattle.sm_io.specs.CountWords.{count_up, after_draw};
 
 use crate::calls::Calls;
 use crate::count::Count;
 use crate::words::{Drew, Words};
-use sm_model::{Bytes, Fails, NoMemory};
+use sm_base::{Bytes, Fails, NoMemory};
 use std::alloc::Global;
 use std::marker::Model;
 
@@ -61,6 +61,7 @@ impl Words for CountWords {
             (Some (count_up self.new.first self.new.count)) }
         ensures failed { OnDrawFailed result (Rose self.old.calls.faults self.new.calls.faults) }
         ensures later { self.old.calls.faults ≤ self.new.calls.faults }
+        ensures no_other { StaysUnlessFailed result self.old.calls.faults self.new.calls.faults }
 
         // Exactly which call fails and which bytes the others draw.
         ensures told { (result ≡ Drew.Failed) ↔ IsTrue (fails_next self.old.calls) }
@@ -72,7 +73,7 @@ impl Words for CountWords {
             return Drew::Failed;
         }
         self.calls.count_call();
-        match counted(self.alloc, self.next, n) {
+        match count_from(self.alloc, self.next, n) {
             Ok(bytes) => {
                 self.next = self.next.wrapping_add((n % 256) as u8);
                 self.count = Count::plus(&self.count, &n);
@@ -84,7 +85,7 @@ impl Words for CountWords {
 }
 
 /// So many bytes that count up from the first, modulo 256.
-fn counted(alloc: Global, first: u8, n: usize) -> Result<Vec<u8>, NoMemory>
+fn count_from(alloc: Global, first: u8, n: usize) -> Result<Vec<u8>, NoMemory>
     ensures { IfOk result (λ vec. vec.items ≡ count_up first n) }
 {
     let mut vec = Vec::with_capacity(alloc, n)?;

@@ -1,12 +1,12 @@
 //! A clock in memory that stands.
 ghost use Rattle.std.specs.Prelude.{◌≡◌, ◌≤◌, ◌+◌, [], ◌∷◌, Some};
 ghost use Rattle.std.specs.Io.KnownBytes.{append_known};
-ghost use Rattle.sm_model.specs.declared.moment.TheConstants.{LAST_READING};
+ghost use Rattle.sm_base.specs.declared.moment.TheConstants.{LAST_READING};
 ghost use Rattle.sm_io.specs.FixedClock.{fixed_readings};
 
 use crate::clock::Clock;
 use crate::count::Count;
-use sm_model::Moment;
+use sm_base::Moment;
 use std::marker::Model;
 
 /// A clock that always reads the same moment.
@@ -18,7 +18,7 @@ pub struct FixedClock {
 
 impl Model for FixedClock {
     ghost use Rattle.std.specs.Prelude.{◌≤◌};
-    ghost use Rattle.sm_model.specs.declared.moment.TheConstants.{LAST_READING};
+    ghost use Rattle.sm_base.specs.declared.moment.TheConstants.{LAST_READING};
     ghost use Rattle.sm_io.specs.FixedClock.{FixedState};
 
     ghost Value = { FixedState };

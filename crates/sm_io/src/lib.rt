@@ -8,16 +8,23 @@
 
 pub mod calls;
 pub mod clock;
+pub mod conn;
 mod count;
 pub mod count_words;
+pub mod edge;
 pub mod fixed_clock;
+mod handed;
 pub mod list_clock;
 pub mod list_words;
+pub mod listener_edge;
+pub mod memory_conn;
+pub mod memory_edge;
 pub mod memory_sink;
 pub mod memory_source;
 pub mod quiet_sink;
 pub mod sink;
 pub mod source;
+pub mod stream_conn;
 pub mod stream_sink;
 pub mod stream_source;
 pub mod system_clock;
@@ -27,23 +34,24 @@ pub mod words;
 
 pub use calls::Calls;
 pub use clock::Clock;
+pub use conn::Conn;
 pub use count_words::CountWords;
+pub use edge::{Accepted, Edge};
 pub use fixed_clock::FixedClock;
 pub use list_clock::ListClock;
 pub use list_words::ListWords;
+pub use listener_edge::ListenerEdge;
+pub use memory_conn::MemoryConn;
+pub use memory_edge::MemoryEdge;
 pub use memory_sink::MemorySink;
 pub use memory_source::MemorySource;
 pub use quiet_sink::QuietSink;
 pub use sink::{Gave, Sink};
 pub use source::{Source, Took};
+pub use stream_conn::StreamConn;
 pub use stream_sink::StreamSink;
 pub use stream_source::StreamSource;
 pub use system_clock::SystemClock;
 pub use system_words::SystemWords;
 pub use transfer::{ReadBytes, ReadEnd, Wrote, put_all, read_to};
 pub use words::{Drew, Words};
-
-#[cfg(test)]
-mod adapter_tests;
-#[cfg(test)]
-mod tests;

@@ -1,12 +1,12 @@
 //! A clock in memory that reads given moments.
 ghost use Rattle.std.specs.Prelude.{◌≡◌, ◌≤◌, ◌+◌, ◌-◌, [], ◌∷◌, length, Some};
 ghost use Rattle.std.specs.Io.KnownBytes.{append_known};
-ghost use Rattle.sm_model.specs.declared.moment.TheConstants.{LAST_READING};
+ghost use Rattle.sm_base.specs.declared.moment.TheConstants.{LAST_READING};
 ghost use Rattle.sm_io.specs.ListClock.{AreReadings, reading_at, list_readings};
 
 use crate::clock::Clock;
 use crate::count::Count;
-use sm_model::{List, Moment};
+use sm_base::{List, Moment};
 use std::marker::Model;
 
 /// A clock that reads given moments in order, then the last of them again and again, and 0 where there is

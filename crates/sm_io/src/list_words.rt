@@ -1,13 +1,13 @@
 //! Random words in memory that are given.
 ghost use Rattle.std.specs.Prelude.{◌≡◌, ◌↔◌, ◌≤◌, [], length, take, IsTrue, Some};
-ghost use Rattle.sm_io.specs.Faults.{Rose};
+ghost use Rattle.sm_base.specs.Faults.{Rose};
 ghost use Rattle.sm_io.specs.Calls.{no_calls};
-ghost use Rattle.sm_io.specs.Words.{IfDrew, OnDrawFailed, Draws};
+ghost use Rattle.sm_io.specs.Words.{IfDrew, OnDrawFailed, Draws, StaysUnlessFailed};
 ghost use Rattle.sm_io.specs.ListWords.{fails_draw, after_list_draw};
 
 use crate::calls::Calls;
 use crate::words::{Drew, Words};
-use sm_model::{Bytes, Fails};
+use sm_base::{Bytes, Fails};
 use std::alloc::Global;
 use std::marker::Model;
 
@@ -58,6 +58,7 @@ impl Words for ListWords {
         ensures bytes { Draws result (Some self.old.drawn) (Some self.new.drawn) }
         ensures failed { OnDrawFailed result (Rose self.old.calls.faults self.new.calls.faults) }
         ensures later { self.old.calls.faults ≤ self.new.calls.faults }
+        ensures no_other { StaysUnlessFailed result self.old.calls.faults self.new.calls.faults }
 
         // Exactly which call fails and which bytes the others draw.
         ensures told { (result ≡ Drew.Failed) ↔ IsTrue (fails_draw self.old n) }

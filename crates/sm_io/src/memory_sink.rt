@@ -1,19 +1,20 @@
 //! A sink in memory.
 ghost use Rattle.std.specs.Prelude.{◌≡◌, ◌<◌, ◌≤◌, [], ◌++◌, length, min, if◌then◌else◌, IsTrue, Some};
-ghost use Rattle.sm_io.specs.Faults.{Rose};
+ghost use Rattle.sm_base.specs.Faults.{Rose};
 ghost use Rattle.sm_io.specs.Sink.{IfPut, OnPutFailed, Puts};
 ghost use Rattle.sm_io.specs.Calls.{no_calls, fails_next};
 ghost use Rattle.sm_io.specs.MemorySink.{after_put};
 
 use crate::calls::Calls;
 use crate::sink::{Gave, Sink};
-use sm_model::{Bytes, Fails};
+use sm_base::{Bytes, Fails};
 use std::alloc::Global;
 use std::marker::Model;
 use std::mem;
 
 /// A sink that keeps what it takes. A put takes as many bytes as its step says, or the whole piece where it
-/// has fewer, unless it is told to fail. A put that finds no memory is a fault.
+/// has fewer. It fails where it is told to, and else only where its growth finds no memory, which no clause can
+/// see: that a sink with memory takes is tested.
 #[derive(Drop)]
 pub struct MemorySink {
     alloc: Global,

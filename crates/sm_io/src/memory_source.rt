@@ -1,14 +1,14 @@
 //! A source in memory.
 ghost use Rattle.std.specs.Prelude.{◌≡◌, ◌<◌, ◌≤◌, length, take, Some};
 ghost use Rattle.std.specs.Io.KnownBytes.{IsAtEnd};
-ghost use Rattle.sm_io.specs.Faults.{Rose};
+ghost use Rattle.sm_base.specs.Faults.{Rose};
 ghost use Rattle.sm_io.specs.Calls.{no_calls};
 ghost use Rattle.sm_io.specs.Source.{IfGot, OnEnd, OnTakeFailed, Takes};
 ghost use Rattle.sm_io.specs.MemorySource.{take_answer, after_take};
 
 use crate::calls::Calls;
 use crate::source::{Source, Took};
-use sm_model::{Bytes, Fails};
+use sm_base::{Bytes, Fails};
 use std::marker::Model;
 
 /// A source of given bytes. A take gives as many bytes as its step says, or all that are left or fit where

@@ -1,6 +1,6 @@
 //! Where bytes go to.
 ghost use Rattle.std.specs.Prelude.{◌≡◌, ◌<◌, ◌≤◌, ℕ, List, Option, length};
-ghost use Rattle.sm_io.specs.Faults.{Rose};
+ghost use Rattle.sm_base.specs.Faults.{Rose};
 ghost use Rattle.sm_io.specs.Sink.{IfPut, OnPutFailed, Puts};
 
 /// What a put answers: how many bytes of the piece were taken, or that it failed.

@@ -3,7 +3,7 @@ ghost use Rattle.std.specs.Prelude.{◌≡◌, ◌<◌, ◌≤◌, length, take,
 ghost use Rattle.std.specs.Io.{WritesAtMost};
 ghost use Rattle.std.specs.Io.KnownBytes.{Appends, WriteAppends};
 ghost use Rattle.sm_io.specs.Adapters.{writer_of, write_faults};
-ghost use Rattle.sm_io.specs.Faults.{Rose};
+ghost use Rattle.sm_base.specs.Faults.{Rose};
 ghost use Rattle.sm_io.specs.Sink.{IfPut, OnPutFailed, faults_after_put};
 
 use crate::sink::{Gave, Sink};
@@ -63,7 +63,7 @@ impl<W: Write> Sink for StreamSink<W> {
 }
 
 /// Writes once, and flushes what was written.
-fn write_through<W: Write>(writer: &mut W, piece: &[u8]) -> io::Result<usize>
+pub(crate) fn write_through<W: Write>(writer: &mut W, piece: &[u8]) -> io::Result<usize>
     ensures bound { WritesAtMost result piece.now }
     ensures bytes { IfOk result
         (λ n. Appends (W.contents writer.old) (W.contents writer.new) (take n piece.now)) }

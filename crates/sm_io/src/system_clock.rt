@@ -1,12 +1,14 @@
 //! The system's clock.
-ghost use Rattle.std.specs.Prelude.{◌≡◌, ◌≤◌, None};
-ghost use Rattle.sm_model.specs.declared.moment.TheConstants.{LAST_READING};
+ghost use Rattle.std.specs.Prelude.{◌≡◌, ◌≤◌, None, MatchResult};
+ghost use Rattle.std.specs.Duration.{as_nanos};
+ghost use Rattle.sm_io.specs.Clamped.{clamped};
+ghost use Rattle.sm_base.specs.declared.moment.TheConstants.{LAST_READING};
 
 use crate::clock::Clock;
-use sm_model::Moment;
-use sm_model::moment::LAST_READING;
-use std::time::{Duration, SystemTime, UNIX_EPOCH};
-use std::{thread, time};
+use sm_base::Moment;
+use sm_base::moment::LAST_READING;
+use std::time::Duration;
+use std::{io, thread, time};
 
 /// How many milliseconds a pause sleeps.
 const PAUSE: u64 = 50;
@@ -40,9 +42,7 @@ impl<C: time::Clock> Clock for SystemClock<C> {
         ensures bound { result.0 ≤ LAST_READING }
         ensures kept { result.0 ≡ last_reading self.new }
     {
-        if let Some(seconds) = seconds_now(&self.clock) {
-            self.last = seconds.min(LAST_READING);
-        }
+        self.last = reading_of(self.clock.since_1970(), self.last);
         Moment(self.last)
     }
 
@@ -51,9 +51,12 @@ impl<C: time::Clock> Clock for SystemClock<C> {
     }
 }
 
-/// Whole seconds since the beginning of 1970, where the system can tell them.
-fn seconds_now<C: time::Clock>(clock: &C) -> Option<u64> {
-    let now = SystemTime::now(clock).ok()?;
-    let since = now.duration_since(UNIX_EPOCH).ok()?;
-    Some(since.as_secs())
+/// What a clock reads: the whole seconds that the system told, clamped, and the last reading where it told none.
+fn reading_of(told: io::Result<Duration>, last: u64) -> u64
+    ensures { MatchResult told (λ since. result ≡ clamped (as_nanos since)) (λ _. result ≡ last) }
+{
+    match told {
+        Ok(since) => since.as_secs().min(LAST_READING),
+        Err(_) => last,
+    }
 }

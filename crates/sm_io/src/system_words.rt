@@ -1,12 +1,13 @@
 //! The system's random words.
-ghost use Rattle.std.specs.Prelude.{◌≡◌, ◌≤◌, length, None};
+ghost use Rattle.std.specs.Prelude.{◌≡◌, ◌≤◌, length, None, OnOk, OnErr};
 ghost use Rattle.sm_io.specs.Adapters.{draw_faults};
-ghost use Rattle.sm_io.specs.Faults.{Rose};
-ghost use Rattle.sm_io.specs.Words.{IfDrew, OnDrawFailed, faults_after_draw};
+ghost use Rattle.sm_base.specs.Faults.{Rose};
+ghost use Rattle.sm_io.specs.Words.{IfDrew, OnDrawFailed, StaysUnlessFailed, faults_after_draw};
 
 use crate::words::{Drew, Words};
-use sm_model::Bytes;
+use sm_base::Bytes;
 use std::alloc::Global;
+use std::io;
 use std::random::RandomSource;
 
 /// Words of the system's random source. They tell no content.
@@ -39,18 +40,31 @@ impl<R: RandomSource> Words for SystemWords<R> {
         ensures exactly { IfDrew result (λ bytes. length bytes ≡ n) }
         ensures failed { OnDrawFailed result (Rose (draw_faults self.old) (draw_faults self.new)) }
         ensures later { draw_faults self.old ≤ draw_faults self.new }
+        ensures no_other { StaysUnlessFailed result (draw_faults self.old) (draw_faults self.new) }
         ensures count { draw_faults self.new ≡ faults_after_draw result (draw_faults self.old) }
     {
         let mut vec = Vec::new(self.alloc);
         if vec.resize(n, 0).is_err() {
             return Drew::Memory;
         }
-        match self.source.fill_bytes(vec.as_mut_slice()) {
-            Ok(()) => Drew::Bytes(Bytes::new(vec)),
-            Err(_) => {
-                self.faults = self.faults.saturating_add(1);
-                Drew::Failed
-            }
+        let filled = self.source.fill_bytes(vec.as_mut_slice());
+        answer_of(filled, Bytes::new(vec), &mut self.faults)
+    }
+}
+
+/// What a draw answers: the bytes exactly where the source says that it filled them, and else that it failed,
+/// which is counted.
+fn answer_of(filled: io::Result<()>, bytes: Bytes, faults: &mut u64) -> Drew
+    ensures filled { OnOk filled (result ≡ Drew.Bytes bytes) }
+    ensures failed { OnErr filled (result ≡ Drew.Failed) }
+    ensures count { faults.new ≡ faults_after_draw result faults.old }
+    ensures later { faults.old ≤ faults.new }
+{
+    match filled {
+        Ok(()) => Drew::Bytes(bytes),
+        Err(_) => {
+            *faults = faults.saturating_add(1);
+            Drew::Failed
         }
     }
 }

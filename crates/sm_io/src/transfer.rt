@@ -1,12 +1,12 @@
 //! The loops above sources and sinks: a read up to a limit, and a put of a whole piece.
 ghost use Rattle.std.specs.Prelude.{◌≡◌, ◌≢◌, ◌<◌, ◌≤◌, ◌+◌, ◌^◌, ◌↔◌, length, take, drop, vec_len, IfOk, IfErr, MatchResult};
 ghost use Rattle.std.specs.Io.KnownBytes.{prepend_known, IsAtEnd};
-ghost use Rattle.sm_io.specs.Faults.{Rose};
+ghost use Rattle.sm_base.specs.Faults.{Rose};
 ghost use Rattle.sm_io.specs.Transfer.{IfFault, Writes, OnReadEnd, OnReadFailed};
 
 use crate::sink::{Gave, Sink};
 use crate::source::{Source, Took};
-use sm_model::Bytes;
+use sm_base::Bytes;
 use std::alloc::Global;
 
 /// How many bytes a read asks for at a time.

@@ -1,9 +1,9 @@
 //! Where random bytes come from.
 ghost use Rattle.std.specs.Prelude.{◌≡◌, ◌≤◌, ℕ, List, Option, length};
-ghost use Rattle.sm_io.specs.Faults.{Rose};
-ghost use Rattle.sm_io.specs.Words.{IfDrew, OnDrawFailed, Draws};
+ghost use Rattle.sm_base.specs.Faults.{Rose};
+ghost use Rattle.sm_io.specs.Words.{IfDrew, OnDrawFailed, Draws, StaysUnlessFailed};
 
-use sm_model::Bytes;
+use sm_base::Bytes;
 
 /// What a draw answers: the bytes, that it failed, or that there was no memory for them.
 #[derive(Drop)]
@@ -21,10 +21,12 @@ pub trait Words {
     /// How often it has failed. At 2^64 - 1 the count stands.
     ghost faults: { Self → ℕ };
 
-    /// Draws exactly n bytes, or none.
+    /// Draws exactly n bytes, or none. The count of faults rises only where it answers `Failed`, so no draw that
+    /// failed is tried again unseen.
     fn draw(&mut self, n: usize) -> Drew
         ensures exactly { IfDrew result (λ bytes. length bytes ≡ n) }
         ensures bytes { Draws result (drawn self.old) (drawn self.new) }
         ensures failed { OnDrawFailed result (Rose (faults self.old) (faults self.new)) }
-        ensures later { faults self.old ≤ faults self.new };
+        ensures later { faults self.old ≤ faults self.new }
+        ensures no_other { StaysUnlessFailed result (faults self.old) (faults self.new) };
 }

@@ -4,3 +4,4 @@ pub mod Settings
 pub mod Readings
 pub mod Standing
 pub mod OpeningRuns
+pub mod OneProof

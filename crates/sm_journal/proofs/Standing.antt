@@ -5,37 +5,57 @@ use Rattle.std.proofs.lemmas.Bool.{cases_eq, true≢false}
 use Rattle.sm_disk.specs.Sight.{Image, Sight}
 use Rattle.sm_disk.specs.OneFile.{EachHas, Leaves}
 use Rattle.sm_disk.proofs.Runs.{joined, weakened}
-use Rattle.sm_journal.specs.Records.{front, entry_of, record_of, body_limit, AreWithin, IsWithin, Closed, AtRest, Loose, Gated, Recovers, RecoversEither, SameList}
+use Rattle.sm_journal.specs.Records.{first_format, front, entry_of, record_of, body_limit, AreWithin, IsWithin, Closed, AtRest, Loose, Gated, Whole, Recovers, RecoversEither, SameList}
 use Rattle.sm_journal.specs.Tails.{is_unsure_tail, Ends}
 use Rattle.sm_journal.specs.declared.tail.Tail.{Tail}
 use Rattle.sm_journal.specs.declared.tail.Tail.TheVariants.{Sure, Body, Gate}
-use Rattle.sm_journal.proofs.Front.{front-push, within-push, one_list}
+use Rattle.sm_journal.proofs.Front.{front-push, within-push, one_list, loose_recovers}
 use Rattle.sm_journal.proofs.Tears.{rest_loose}
 
-pub list_either : (bodies : List (List ℕ)) (failed : Option (List ℕ)) (bytes : List ℕ) → Recovers bytes bodies → RecoversEither bodies failed bytes
+pub list_either : (bodies : List (List ℕ)) (failed : Option (List ℕ)) (bytes : List ℕ) → Recovers bytes bodies
+    → RecoversEither bodies failed bytes
 list_either bodies None bytes list = list
 list_either bodies (Some body) bytes list = inl list
 
-pub loose_either : (bodies : List (List ℕ)) (failed : Option (List ℕ)) → AreWithin bodies → (bytes : List ℕ) → Loose (front bodies) bytes → RecoversEither bodies failed bytes
-loose_either bodies failed within bytes loose = list_either bodies failed bytes (inr (within, loose))
+pub loose_either : (bodies : List (List ℕ)) (failed : Option (List ℕ)) → AreWithin bodies → (bytes : List ℕ)
+    → Loose (front first_format bodies) bytes → RecoversEither bodies failed bytes
+loose_either bodies failed within bytes loose =
+    list_either bodies failed bytes (loose_recovers bodies within bytes loose)
+
+-- the gate of a whole file is closed, and nothing stands behind it
+pub whole_rests : (bodies : List (List ℕ)) (bytes : List ℕ) → Whole bodies bytes
+    → AtRest (front first_format bodies) bytes
+whole_rests bodies bytes is = record { gate = 0; closed = λ same. absurd (omega (arith, same)); split = is }
 
 module _ (bodies : List (List ℕ)) (body : List ℕ) where
-  -- behind an open gate the record is the list's last
-  pub opened : (bytes : List ℕ) → bytes ≡ front bodies ++ 1 ∷ (entry_of body ++ 0 ∷ []) → AtRest (front (bodies ++ body ∷ [])) bytes
-  opened bytes is = record {
-    gate = 0;
-    closed = λ same. absurd (omega (arith, same));
-    split = is ∙ sym (append_assoc (front bodies) (record_of body) (0 ∷ [])) ∙ ap (λ (l : List ℕ). l ++ 0 ∷ []) (sym (front-push bodies body));
-  }
+  pub whole : (bytes : List ℕ) → bytes ≡ front first_format bodies ++ 1 ∷ (entry_of body ++ 0 ∷ [])
+      → Whole (bodies ++ body ∷ []) bytes
+  whole bytes is = is ∙ sym (append_assoc (front first_format bodies) (record_of body) (0 ∷ []))
+      ∙ ap (λ (l : List ℕ). l ++ 0 ∷ []) (sym (front-push first_format bodies body))
 
-  pub gated_either : AreWithin bodies → length body ≤ body_limit → (bytes : List ℕ) → Gated (front bodies) (entry_of body ++ 0 ∷ []) bytes → RecoversEither bodies (Some body) bytes
+  -- behind an open gate the record is the list's last
+  pub opened : (bytes : List ℕ) → bytes ≡ front first_format bodies ++ 1 ∷ (entry_of body ++ 0 ∷ [])
+      → AtRest (front first_format (bodies ++ body ∷ [])) bytes
+  opened bytes is = whole_rests (bodies ++ body ∷ []) bytes (whole bytes is)
+
+  pub gated_either : AreWithin bodies → length body ≤ body_limit → (bytes : List ℕ)
+      → Gated (front first_format bodies) (entry_of body ++ 0 ∷ []) bytes → RecoversEither bodies (Some body) bytes
   gated_either within fits bytes gated = elim (cases_eq gated.gate 1) [
-    | inl is ↦ inr (inr (within-push bodies body within fits, rest_loose (front (bodies ++ body ∷ [])) bytes (opened bytes (gated.split ∙ ap (λ (g : ℕ). front bodies ++ g ∷ (entry_of body ++ 0 ∷ [])) is))))
-    | inr not ↦ inl (inr (within, record { rest = entry_of body ++ 0 ∷ []; is = record { gate = gated.gate; closed = not; split = gated.split } }))
+    | inl is ↦ inr (loose_recovers (bodies ++ body ∷ []) (within-push bodies body within fits) bytes
+        (rest_loose (front first_format (bodies ++ body ∷ [])) bytes
+        (opened bytes (gated.split ∙ ap (λ (g : ℕ). front first_format bodies ++ g ∷ (entry_of body ++ 0 ∷ [])) is))))
+    | inr not ↦ inl (loose_recovers bodies within bytes
+        (record {
+          rest = entry_of body ++ 0 ∷ [];
+          is =
+              record { gate = gated.gate; closed = not; split = gated.split };
+        }))
   ]
 
-pub ends_either : (tail : Tail) (bodies : List (List ℕ)) (failed : Option (List ℕ)) → AreWithin bodies → IsWithin failed → (bytes : List ℕ) → Ends tail bodies failed bytes → RecoversEither bodies failed bytes
-ends_either Sure bodies failed within last bytes ends = loose_either bodies failed within bytes (rest_loose (front bodies) bytes ends)
+pub ends_either : (tail : Tail) (bodies : List (List ℕ)) (failed : Option (List ℕ)) → AreWithin bodies → IsWithin failed
+    → (bytes : List ℕ) → Ends tail bodies failed bytes → RecoversEither bodies failed bytes
+ends_either Sure bodies failed within last bytes ends =
+    loose_either bodies failed within bytes (rest_loose (front first_format bodies) bytes ends)
 ends_either Body bodies failed within last bytes ends = loose_either bodies failed within bytes ends
 ends_either Gate bodies None within last bytes ends = absurd ends
 ends_either Gate bodies (Some body) within last bytes ends = gated_either bodies body within last bytes ends
@@ -46,33 +66,44 @@ behind_of None = []
 behind_of (Some body) = entry_of body ++ 0 ∷ []
 
 module _ (bodies : List (List ℕ)) where
-  pub gate_gated : (tail : Tail) (failed : Option (List ℕ)) → tail ≡ Gate → (bytes : List ℕ) → Ends tail bodies failed bytes → Gated (front bodies) (behind_of failed) bytes
+  pub gate_gated : (tail : Tail) (failed : Option (List ℕ)) → tail ≡ Gate → (bytes : List ℕ)
+      → Ends tail bodies failed bytes → Gated (front first_format bodies) (behind_of failed) bytes
   gate_gated tail failed is bytes ends = at_gate failed (subst (λ (t : Tail). Ends t bodies failed bytes) is ends)
     where
-      at_gate : (failed : Option (List ℕ)) → Ends Gate bodies failed bytes → Gated (front bodies) (behind_of failed) bytes
+      at_gate : (failed : Option (List ℕ)) → Ends Gate bodies failed bytes
+          → Gated (front first_format bodies) (behind_of failed) bytes
       at_gate None ends = absurd ends
       at_gate (Some body) ends = ends
 
   -- where one image ends so, another with the same front and what stands behind it does
-  pub gated_gate : (tail : Tail) (failed : Option (List ℕ)) → tail ≡ Gate → (d c : List ℕ) → Ends tail bodies failed d → Gated (front bodies) (behind_of failed) c → Ends tail bodies failed c
-  gated_gate tail failed is d c ends gated = subst (λ (t : Tail). Ends t bodies failed c) (sym is) (at_gate failed (subst (λ (t : Tail). Ends t bodies failed d) is ends) gated)
+  pub gated_gate : (tail : Tail) (failed : Option (List ℕ)) → tail ≡ Gate → (d c : List ℕ) → Ends tail bodies failed d
+      → Gated (front first_format bodies) (behind_of failed) c → Ends tail bodies failed c
+  gated_gate tail failed is d c ends gated = subst (λ (t : Tail). Ends t bodies failed c) (sym is)
+      (at_gate failed (subst (λ (t : Tail). Ends t bodies failed d) is ends) gated)
     where
-      at_gate : (failed : Option (List ℕ)) → Ends Gate bodies failed d → Gated (front bodies) (behind_of failed) c → Ends Gate bodies failed c
+      at_gate : (failed : Option (List ℕ)) → Ends Gate bodies failed d
+          → Gated (front first_format bodies) (behind_of failed) c → Ends Gate bodies failed c
       at_gate None ends gated = absurd ends
       at_gate (Some body) ends gated = gated
 
   -- what such a gate leaves, where some image ends so
-  pub behind_either : (tail : Tail) (failed : Option (List ℕ)) → tail ≡ Gate → AreWithin bodies → IsWithin failed → (d c : List ℕ) → Ends tail bodies failed d → Gated (front bodies) (behind_of failed) c → RecoversEither bodies failed c
-  behind_either tail failed is within last d c ends gated = ends_either tail bodies failed within last c (gated_gate tail failed is d c ends gated)
+  pub behind_either : (tail : Tail) (failed : Option (List ℕ)) → tail ≡ Gate → AreWithin bodies → IsWithin failed
+      → (d c : List ℕ) → Ends tail bodies failed d → Gated (front first_format bodies) (behind_of failed) c
+      → RecoversEither bodies failed c
+  behind_either tail failed is within last d c ends gated =
+      ends_either tail bodies failed within last c (gated_gate tail failed is d c ends gated)
 
-  pub body_loose : (tail : Tail) (failed : Option (List ℕ)) → tail ≡ Body → (bytes : List ℕ) → Ends tail bodies failed bytes → Loose (front bodies) bytes
+  pub body_loose : (tail : Tail) (failed : Option (List ℕ)) → tail ≡ Body → (bytes : List ℕ)
+      → Ends tail bodies failed bytes → Loose (front first_format bodies) bytes
   body_loose tail failed is bytes ends = subst (λ (t : Tail). Ends t bodies failed bytes) is ends
 
-  pub loose_body : (tail : Tail) (failed : Option (List ℕ)) → tail ≡ Body → (bytes : List ℕ) → Loose (front bodies) bytes → Ends tail bodies failed bytes
+  pub loose_body : (tail : Tail) (failed : Option (List ℕ)) → tail ≡ Body → (bytes : List ℕ)
+      → Loose (front first_format bodies) bytes → Ends tail bodies failed bytes
   loose_body tail failed is bytes loose = subst (λ (t : Tail). Ends t bodies failed bytes) (sym is) loose
 
 -- a tail that isn't unsure is at rest
-pub sure_ends : (tail : Tail) (bodies : List (List ℕ)) (failed : Option (List ℕ)) → is_unsure_tail tail ≡ false → (bytes : List ℕ) → Ends tail bodies failed bytes → AtRest (front bodies) bytes
+pub sure_ends : (tail : Tail) (bodies : List (List ℕ)) (failed : Option (List ℕ)) → is_unsure_tail tail ≡ false
+    → (bytes : List ℕ) → Ends tail bodies failed bytes → AtRest (front first_format bodies) bytes
 sure_ends Sure bodies failed sure bytes ends = ends
 sure_ends Body bodies failed sure bytes ends = absurd (true≢false sure)
 sure_ends Gate bodies failed sure bytes ends = absurd (true≢false sure)
@@ -81,43 +112,65 @@ pub closed_gated : (before behind bytes : List ℕ) → Closed before behind byt
 closed_gated before behind bytes closed = record { gate = closed.gate; split = closed.split }
 
 -- what each image has now
-pub now_has : (file : ℕ) (P Q : List ℕ → Type 0) (old now : Sight) → Leaves file (λ _. P) (λ _. Q) old now → EachHas file Q now.images
+pub now_has : (file : ℕ) (P Q : List ℕ → Type 0) (old now : Sight) → Leaves file (λ _. P) (λ _. Q) old now
+    → EachHas file Q now.images
 now_has file P Q old now leaves c image = (leaves.images c image).2.changed
 
 -- a run of which less is said
-pub less : (file : ℕ) (P Q : List ℕ → Type 0) (old now : Sight) → ((bytes : List ℕ) → P bytes → Q bytes) → Leaves file (λ _. P) (λ _. P) old now → Leaves file (λ _. Q) (λ _. Q) old now
-less file P Q old now weaker leaves = weakened file (λ _. P) (λ _. P) (λ _. Q) (λ _. Q) old now (λ d was y. weaker y) (λ d was y. weaker y) leaves
+pub less : (file : ℕ) (P Q : List ℕ → Type 0) (old now : Sight) → ((bytes : List ℕ) → P bytes → Q bytes)
+    → Leaves file (λ _. P) (λ _. P) old now → Leaves file (λ _. Q) (λ _. Q) old now
+less file P Q old now weaker leaves = weakened file (λ _. P) (λ _. P) (λ _. Q) (λ _. Q) old now (λ d was y. weaker y)
+    (λ d was y. weaker y) leaves
 
 -- a run after another
-pub both : (file : ℕ) (P P' Q : List ℕ → Type 0) (old mid now : Sight) → ((bytes : List ℕ) → P bytes → Q bytes) → ((bytes : List ℕ) → P' bytes → Q bytes)
-    → Leaves file (λ _. P) (λ _. P) old mid → Leaves file (λ _. P') (λ _. P') mid now → Leaves file (λ _. Q) (λ _. Q) old now
+pub both : (file : ℕ) (P P' Q : List ℕ → Type 0) (old mid now : Sight) → ((bytes : List ℕ) → P bytes → Q bytes)
+    → ((bytes : List ℕ) → P' bytes → Q bytes)
+    → Leaves file (λ _. P) (λ _. P) old mid → Leaves file (λ _. P') (λ _. P') mid now
+    → Leaves file (λ _. Q) (λ _. Q) old now
 both file P P' Q old mid now first second before after =
-    joined file (λ _. Q) (λ _. Q) (λ _. Q) (λ _. Q) old mid now (less file P Q old mid first before) (less file P' Q mid now second after) (λ x y z a b. b) (λ _. Q) (λ x y z a b. b)
+    joined file (λ _. Q) (λ _. Q) (λ _. Q) (λ _. Q) old mid now (less file P Q old mid first before)
+    (less file P' Q mid now second after) (λ x y z a b. b) (λ _. Q) (λ x y z a b. b)
 
 pub at_err : {T E P : Type 0} (r : Result T E) → P → OnErr r P
 at_err (Ok x) p = tt
 at_err (Err e) p = p
 
 -- a run of which less is said, where an image of old is seen
-pub less_seen : (file : ℕ) (P Q : List ℕ → Type 0) (old now : Sight) → ((d : Image) → old.images d → (bytes : List ℕ) → P bytes → Q bytes) → Leaves file (λ _. P) (λ _. P) old now → Leaves file (λ _. Q) (λ _. Q) old now
-less_seen file P Q old now weaker leaves = weakened file (λ _. P) (λ _. P) (λ _. Q) (λ _. Q) old now weaker weaker leaves
+pub less_seen : (file : ℕ) (P Q : List ℕ → Type 0) (old now : Sight)
+    → ((d : Image) → old.images d → (bytes : List ℕ) → P bytes → Q bytes) → Leaves file (λ _. P) (λ _. P) old now
+    → Leaves file (λ _. Q) (λ _. Q) old now
+less_seen file P Q old now weaker leaves =
+    weakened file (λ _. P) (λ _. P) (λ _. Q) (λ _. Q) old now weaker weaker leaves
 
 -- a gate that was written closed
 pub set_closed : (before behind bytes : List ℕ) → bytes ≡ before ++ 0 ∷ behind → Loose before bytes
-set_closed before behind bytes is = record { rest = behind; is = record { gate = 0; closed = λ same. absurd (omega (arith, same)); split = is } }
+set_closed before behind bytes is = record {
+  rest = behind;
+  is =
+      record { gate = 0; closed = λ same. absurd (omega (arith, same)); split = is };
+}
 
 -- a run after another, the second of which names the file as the first left it
-pub then_on : (file same : ℕ) (Q : List ℕ → Type 0) (old mid now : Sight) → same ≡ file → Leaves file (λ _. Q) (λ _. Q) old mid → Leaves same (λ _. Q) (λ _. Q) mid now → Leaves file (λ _. Q) (λ _. Q) old now
-then_on file same Q old mid now is first second = both file Q Q Q old mid now (λ bytes has. has) (λ bytes has. has) first (subst (λ (f : ℕ). Leaves f (λ _. Q) (λ _. Q) mid now) is second)
+pub then_on : (file same : ℕ) (Q : List ℕ → Type 0) (old mid now : Sight) → same ≡ file
+    → Leaves file (λ _. Q) (λ _. Q) old mid → Leaves same (λ _. Q) (λ _. Q) mid now
+    → Leaves file (λ _. Q) (λ _. Q) old now
+then_on file same Q old mid now is first second =
+    both file Q Q Q old mid now (λ bytes has. has) (λ bytes has. has) first
+    (subst (λ (f : ℕ). Leaves f (λ _. Q) (λ _. Q) mid now) is second)
 
 -- what recovers to a list, and a file behind whose front a gate is closed
-pub same_list : (bytes : List ℕ) (bodies : List (List ℕ)) → Recovers bytes bodies → (x y : List ℕ) → x ≡ bytes → Recovers y bodies → SameList x y
-same_list bytes bodies list x y is now others has = subst (λ (l : List (List ℕ)). Recovers y l) (one_list bytes bodies others list (subst (λ (b : List ℕ). Recovers b others) is has)) now
+pub same_list : (bytes : List ℕ) (bodies : List (List ℕ)) → Recovers bytes bodies → (x y : List ℕ) → x ≡ bytes
+    → Recovers y bodies → SameList x y
+same_list bytes bodies list x y is now others has =
+    subst (λ (l : List (List ℕ)). Recovers y l)
+    (one_list bytes bodies others list (subst (λ (b : List ℕ). Recovers b others) is has)) now
 
 -- a run over images that all have these bytes of the file, which recovers to one list at each moment
-pub keeps_list : (file : ℕ) (bytes : List ℕ) (bodies : List (List ℕ)) (P : List ℕ → Type 0) (old now : Sight) → Recovers bytes bodies → ((y : List ℕ) → P y → Recovers y bodies) → EachHas file (λ b. b ≡ bytes) old.images
+pub keeps_list : (file : ℕ) (bytes : List ℕ) (bodies : List (List ℕ)) (P : List ℕ → Type 0) (old now : Sight)
+    → Recovers bytes bodies → ((y : List ℕ) → P y → Recovers y bodies) → EachHas file (λ b. b ≡ bytes) old.images
     → Leaves file (λ _. P) (λ _. P) old now → Leaves file SameList SameList old now
-keeps_list file bytes bodies P old now list recovers images leaves = weakened file (λ _. P) (λ _. P) SameList SameList old now same same leaves
+keeps_list file bytes bodies P old now list recovers images leaves =
+    weakened file (λ _. P) (λ _. P) SameList SameList old now same same leaves
   where
     same : (d : Image) → old.images d → (y : List ℕ) → P y → SameList (d file) y
     same d was y has = same_list bytes bodies list (d file) y (images d was) (recovers y has)

@@ -2,7 +2,7 @@
 use Rattle.std.specs.Prelude.{◌≡◌, ℕ, ◌+◌, ◌<◌, ◌≤◌, Bool, true, false, List, [], ◌∷◌, ◌++◌, length, Option, None, Some}
 use Rattle.sm_disk.specs.declared.disk.Disk.{Ghosts}
 use Rattle.sm_disk.specs.OneFile.{EachHas, Leaves}
-use Rattle.sm_journal.specs.Records.{body_limit, size, AreWithin, IsWithin, RecoversEither}
+use Rattle.sm_journal.specs.Records.{body_limit, size, Whole, AreWithin, IsWithin, RecoversEither}
 use Rattle.sm_journal.specs.Tails.{is_unsure_tail, Ends}
 use Rattle.sm_journal.specs.declared.answers.Appended.{Appended}
 use Rattle.sm_journal.specs.declared.answers.Appended.TheVariants.{Ok, Failed, Full, TooLong}
@@ -26,14 +26,18 @@ module _ {D : Type 0} {G : Ghosts D} where
   abbrev pub length_of : Journal D G → ℕ
   length_of journal = journal.gate + 1
 
-  -- The journal has these bodies, and where a body is given, its write may have failed in part: a crash leaves the list, or
-  -- the list with this body.
+  -- The journal has these bodies, and where a body is given, its write may have failed in part: a crash leaves the
+  -- list, or the list with this body.
   pub record Stands (journal : Journal D G) (bodies : List (List ℕ)) (failed : Option (List ℕ)) : Type 0 where
     pub length : length_of journal ≡ 9 + size bodies
     pub within : AreWithin bodies
     pub last : IsWithin failed
     pub recovers : EachHas journal.file (RecoversEither bodies failed) (G.sight journal.disk).images
     pub ends : EachHas journal.file (Ends journal.tail bodies failed) (G.sight journal.disk).images
+
+-- each image of its file is these records, the closed gate behind them and nothing else
+abbrev pub HoldsJust : {D : Type 0} {G : Ghosts D} → Journal D G → List (List ℕ) → Type 0
+HoldsJust {D} {G} journal bodies = EachHas journal.file (Whole bodies) (G.sight journal.disk).images
 
 -- the file's length with one body more
 abbrev pub length_with : {D : Type 0} {G : Ghosts D} → Journal D G → List ℕ → ℕ
@@ -48,20 +52,28 @@ pub record SamePlace {D : Type 0} {G : Ghosts D} (old new : Journal D G) : Type 
   pub file : new.file ≡ old.file
   pub limit : new.limit ≡ old.limit
 
--- What each answer of `append` says: too long and full exactly where they are; Ok with the body at the end of the list;
--- and where the disk failed the list as before and the body unsure.
+-- What each answer of `append` says: too long and full exactly where they are; Ok with the body at the end of the list
+-- and a byte 0 as the gate behind it; and where the disk failed the list as before and the body unsure.
 abbrev pub AppendsAs : {D : Type 0} {G : Ghosts D} → Journal D G → List ℕ → Journal D G → Appended → Type 0
 AppendsAs old body new (TooLong n) = (body_limit < length body) × (n ≡ length body) × (new ≡ old)
-AppendsAs old body new (Full n) = (length body ≤ body_limit) × (limit_of old < length_with old body) × (n ≡ length_with old body) × (new ≡ old)
-AppendsAs old body new Ok = HasRoom old body × (is_unsure new ≡ false) × (length_of new ≡ length_with old body) × ((bodies : List (List ℕ)) → Stands old bodies None → Stands new (bodies ++ body ∷ []) None)
-AppendsAs old body new Failed = HasRoom old body × (is_unsure new ≡ true) × (length_of new ≡ length_of old) × ((bodies : List (List ℕ)) → Stands old bodies None → Stands new bodies (Some body))
+AppendsAs old body new (Full n) = (length body ≤ body_limit) × (limit_of old < length_with old body)
+    × (n ≡ length_with old body) × (new ≡ old)
+AppendsAs old body new Ok = HasRoom old body × (is_unsure new ≡ false) × (length_of new ≡ length_with old body)
+    × ((bodies : List (List ℕ)) → Stands old bodies None → Stands new (bodies ++ body ∷ []) None
+    × HoldsJust new (bodies ++ body ∷ []))
+AppendsAs old body new Failed = HasRoom old body × (is_unsure new ≡ true) × (length_of new ≡ length_of old)
+    × ((bodies : List (List ℕ)) → Stands old bodies None → Stands new bodies (Some body))
 
--- a crash at any moment since old leaves the list, or the list with this body if there is one, and leaves the other files
-abbrev pub LeavesEither : {D : Type 0} {G : Ghosts D} → List (List ℕ) → Option (List ℕ) → Journal D G → Journal D G → Type 0
-LeavesEither {D} {G} bodies failed old new = Leaves old.file (λ _. RecoversEither bodies failed) (λ _. RecoversEither bodies failed) (G.sight old.disk) (G.sight new.disk)
+-- a crash at any moment since old leaves the list, or the list with this body if there is one, and leaves the other
+-- files
+abbrev pub LeavesEither : {D : Type 0} {G : Ghosts D} → List (List ℕ) → Option (List ℕ) → Journal D G → Journal D G
+    → Type 0
+LeavesEither {D} {G} bodies failed old new = Leaves old.file (λ _. RecoversEither bodies failed)
+    (λ _. RecoversEither bodies failed) (G.sight old.disk) (G.sight new.disk)
 
 -- a journal that was opened in this file of a disk, under this limit, with these bodies
-pub record IsOpened {D : Type 0} {G : Ghosts D} (file limit : ℕ) (bodies : List (List ℕ)) (journal : Journal D G) : Type 0 where
+pub record IsOpened {D : Type 0} {G : Ghosts D} (file limit : ℕ) (bodies : List (List ℕ))
+    (journal : Journal D G) : Type 0 where
   pub stands : Stands journal bodies None
   pub sure : is_unsure journal ≡ false
   pub in_file : file_of journal ≡ file

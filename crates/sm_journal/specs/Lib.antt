@@ -3,3 +3,4 @@ pub mod Lengths
 pub mod Tails
 pub mod Journals
 pub mod Openings
+pub mod Making

@@ -3,7 +3,7 @@ use Rattle.std.specs.Prelude.{◌≡◌, ℕ, ◌≤◌, List}
 use Rattle.sm_disk.specs.Sight.{Image, Sight}
 use Rattle.sm_disk.specs.Steps.{Keeps}
 use Rattle.sm_disk.specs.OneFile.{EachHas, Leaves}
-use Rattle.sm_disk.specs.Faults.{Rose}
+use Rattle.sm_base.specs.Faults.{Rose}
 use Rattle.sm_disk.specs.declared.disk.Disk.{Ghosts}
 use Rattle.sm_journal.specs.Records.{IsDamaged, SameList}
 use Rattle.sm_journal.specs.declared.answers.OpenRefused.{OpenRefused}
@@ -23,9 +23,11 @@ abbrev pub ReadsAs : ℕ → (List ℕ → Type 0) → Sight → Type 0
 ReadsAs file P now = (s : Image) → now.reads s → P (s file)
 
 -- The disk failed, and where each image had P of the file, it went by Q.
-abbrev pub FailsFrom : {D : Type 0} → Ghosts D → ℕ → (List ℕ → Type 0) → (List ℕ → List ℕ → Type 0) → D → OpenRefused D → Type 0
+abbrev pub FailsFrom : {D : Type 0} → Ghosts D → ℕ → (List ℕ → Type 0) → (List ℕ → List ℕ → Type 0) → D → OpenRefused D
+    → Type 0
 FailsFrom G file P Q old (Failed now) =
-    (EachHas file P (G.sight old).images → Leaves file Q Q (G.sight old) (G.sight now)) × (G.faults old ≤ G.faults now) × Rose (G.faults old) (G.faults now)
+    (EachHas file P (G.sight old).images → Leaves file Q Q (G.sight old) (G.sight now)) × (G.faults old ≤ G.faults now)
+    × Rose (G.faults old) (G.faults now)
 FailsFrom G file P Q old (Damaged now damage) = ⊥
 FailsFrom G file P Q old (Memory now) = ⊥
 
@@ -34,14 +36,17 @@ FailsFrom G file P Q old (Memory now) = ⊥
 abbrev pub IsRefusedAs : {D : Type 0} → Ghosts D → ℕ → List ℕ → D → OpenRefused D → Type 0
 IsRefusedAs G file bytes old (Damaged now damage) = (now ≡ old) × IsDamaged bytes damage.at damage.entry
 IsRefusedAs G file bytes old (Failed now) =
-    (EachHas file (λ b. b ≡ bytes) (G.sight old).images → Leaves file SameList SameList (G.sight old) (G.sight now)) × (G.faults old ≤ G.faults now) × Rose (G.faults old) (G.faults now)
+    (EachHas file (λ b. b ≡ bytes) (G.sight old).images → Leaves file SameList SameList (G.sight old) (G.sight now))
+    × (G.faults old ≤ G.faults now) × Rose (G.faults old) (G.faults now)
 IsRefusedAs G file bytes old (Memory now) = now ≡ old
 
--- Why a journal isn't opened: the file is damaged, at this place; or the disk failed, and each image has the list that one
--- of before had; or memory was wanted. Each hands the disk back.
+-- Why a journal isn't opened: the file is damaged, at this place; or the disk failed, and each image has the list that
+-- one of before had; or memory was wanted. Each hands the disk back.
 abbrev pub IsRefused : {D : Type 0} → Ghosts D → ℕ → D → OpenRefused D → Type 0
 IsRefused G file old (Damaged now damage) =
-    Untouched file (G.sight old) (G.sight now) × ReadsAs file (λ bytes. IsDamaged bytes damage.at damage.entry) (G.sight old) × (G.faults old ≤ G.faults now)
+    Untouched file (G.sight old) (G.sight now)
+    × ReadsAs file (λ bytes. IsDamaged bytes damage.at damage.entry) (G.sight old) × (G.faults old ≤ G.faults now)
 IsRefused G file old (Failed now) =
-    Leaves file SameList SameList (G.sight old) (G.sight now) × (G.faults old ≤ G.faults now) × Rose (G.faults old) (G.faults now)
+    Leaves file SameList SameList (G.sight old) (G.sight now) × (G.faults old ≤ G.faults now)
+    × Rose (G.faults old) (G.faults now)
 IsRefused G file old (Memory now) = Untouched file (G.sight old) (G.sight now) × (G.faults old ≤ G.faults now)

@@ -1,5 +1,5 @@
 -- A journal's file: the header, records whose gates are open, a gate that isn't, and whatever stands behind it.
-use Rattle.std.specs.Prelude.{◌≡◌, ◌≢◌, ◌⊎◌, ℕ, ◌+◌, ◌<◌, ◌≤◌, List, [], ◌∷◌, ◌++◌, length, take, codes, Option, None, Some}
+use Rattle.std.specs.Prelude.{◌≡◌, ◌≢◌, ◌⊎◌, ℕ, ◌+◌, ◌<◌, ◌≤◌, List, [], ◌∷◌, ◌++◌, length, take, codes, refl, Option, None, Some}
 use Rattle.std.specs.List.{flat_map}
 use Rattle.std.specs.Int.{w32, to_be_bytes, from_be_bytes}
 
@@ -7,8 +7,17 @@ use Rattle.std.specs.Int.{w32, to_be_bytes, from_be_bytes}
 abbrev pub body_limit : ℕ
 body_limit = 1048576
 
+-- what stands at the beginning of a file
+pub record Format : Type 0 where
+  pub header : List ℕ
+  pub eight : length header ≡ 8
+
 abbrev pub header : List ℕ
 header = codes "SMJRNL01"
+
+-- the only format so far
+abbrev pub first_format : Format
+first_format = record { header = header; eight = refl }
 
 -- what stands behind a gate: the body's length in four bytes, high first, and the body
 abbrev pub entry_of : List ℕ → List ℕ
@@ -18,9 +27,13 @@ entry_of body = to_be_bytes w32 (length body) ++ body
 abbrev pub record_of : List ℕ → List ℕ
 record_of body = 1 ∷ entry_of body
 
--- the header and the records of these bodies: what stands before the last gate
-unfoldable pub front : List (List ℕ) → List ℕ
-front bodies = header ++ flat_map record_of bodies
+-- the header of a format and the records of these bodies: what stands before the last gate
+unfoldable pub front : Format → List (List ℕ) → List ℕ
+front format bodies = format.header ++ flat_map record_of bodies
+
+-- the whole file: these records, the closed gate behind them, which is a byte 0, and nothing else
+abbrev pub Whole : List (List ℕ) → List ℕ → Type 0
+Whole bodies bytes = bytes ≡ front first_format bodies ++ 0 ∷ []
 
 -- how many bytes the records of these bodies have
 abbrev pub size : List (List ℕ) → ℕ
@@ -61,16 +74,19 @@ pub record Gated (before behind bytes : List ℕ) : Type 0 where
 abbrev pub Short : List ℕ → Type 0
 Short bytes = length bytes ≤ 9
 
--- the file's counted records have these bodies
+-- The file's counted records have these bodies: none, where it has at most nine bytes, and else those before the first
+-- gate that isn't open. It has one proof at most.
 abbrev pub Recovers : List ℕ → List (List ℕ) → Type 0
-Recovers bytes bodies = (Short bytes × (bodies ≡ [])) ⊎ (AreWithin bodies × Loose (front bodies) bytes)
+Recovers bytes bodies = (Short bytes × (bodies ≡ []))
+    ⊎ ((9 < length bytes) × AreWithin bodies × Loose (front first_format bodies) bytes)
 
 -- behind an open gate: the length is too large, or it, the body or the next gate isn't in the file
 abbrev pub IsBroken : List ℕ → Type 0
-IsBroken rest = let len = from_be_bytes w32 (take 4 rest) in (length rest < 4) ⊎ (body_limit < len) ⊎ (length rest < 4 + len + 1)
+IsBroken rest = let len = from_be_bytes w32 (take 4 rest) in (length rest < 4) ⊎ (body_limit < len)
+    ⊎ (length rest < 4 + len + 1)
 
--- The file is longer than nine bytes and outside the grammar, at the byte of this gate or at 0 for the header, behind so
--- many records.
+-- The file is longer than nine bytes and outside the grammar, at the byte of this gate or at 0 for the header, behind
+-- so many records.
 abbrev pub IsDamaged : List ℕ → ℕ → ℕ → Type 0
 IsDamaged bytes at entry = (9 < length bytes) × (IsWrong ⊎ IsCutShort)
   where
@@ -78,7 +94,9 @@ IsDamaged bytes at entry = (9 < length bytes) × (IsWrong ⊎ IsCutShort)
     IsWrong = (take 8 bytes ≢ header) × (at ≡ 0) × (entry ≡ 0)
 
     IsCutShort : Type 0
-    IsCutShort = (bodies : List (List ℕ)) × (rest : List ℕ) × AreWithin bodies × (bytes ≡ front bodies ++ 1 ∷ rest) × IsBroken rest × (at ≡ 8 + size bodies) × (entry ≡ length bodies)
+    IsCutShort = (bodies : List (List ℕ)) × (rest : List ℕ) × AreWithin bodies
+        × (bytes ≡ front first_format bodies ++ 1 ∷ rest) × IsBroken rest × (at ≡ 8 + size bodies)
+        × (entry ≡ length bodies)
 
 -- the file recovers to this list, or to it and one body more, if there is one
 abbrev pub RecoversEither : List (List ℕ) → Option (List ℕ) → List ℕ → Type 0

@@ -1,11 +1,13 @@
 //! The parts of a journal's work on the disk, each of a few device calls.
 ghost use Rattle.std.specs.Prelude.{◌≡◌, ◌<◌, ◌≤◌, ◌+◌, ◌^◌, [], ◌∷◌, ◌++◌, ℕ, List, length, IfOk, OnOk, IsErrOf};
 ghost use Rattle.sm_disk.specs.Sight.{Image};
-ghost use Rattle.sm_disk.specs.Faults.{HasCause, Rose};
+ghost use Rattle.sm_base.specs.Faults.{Rose};
+ghost use Rattle.sm_disk.specs.Faults.{HasCause};
 ghost use Rattle.sm_disk.specs.Steps.{OnFile, ReadsFollow, Keeps};
 ghost use Rattle.sm_journal.specs.Lengths.{SameLength, ReadsLength, ReadsAtLeast};
-ghost use Rattle.sm_disk.specs.OneFile.{EachHas, Leaves};
-ghost use Rattle.sm_journal.specs.Records.{Gated, Closed, AtRest, Loose, Short, header, entry_of, body_limit};
+ghost use Rattle.sm_disk.specs.OneFile.{EachHas, Anyhow, Leaves};
+ghost use Rattle.sm_journal.specs.Making.{IsMaking};
+ghost use Rattle.sm_journal.specs.Records.{Gated, Closed, AtRest, Loose, Short, Whole, entry_of, body_limit};
 ghost use Rattle.sm_journal.specs.declared.device.LoadRefused.TheVariants.{Failed, Memory};
 
 use sm_disk::{Disk, DiskFailed};
@@ -74,18 +76,31 @@ pub fn cut_behind<D: Disk>(disk: &mut D, file: u8, gate: u64) -> Result<(), Disk
     Ok(())
 }
 
+/// Begins a journal without records in a file, whatever it holds, and doesn't sync it.
+pub fn begin<D: Disk>(disk: &mut D, file: u8) -> Result<(), DiskFailed>
+    requires { file < 3 }
+    ensures length { OnOk result (ReadsLength file 9 (D.sight disk.new)) }
+    ensures making { OnOk result (IsMaking file [] (D.sight disk.old) (D.sight disk.new)) }
+    ensures run { Leaves file Anyhow Anyhow (D.sight disk.old) (D.sight disk.new) }
+    ensures short { EachHas file Short (D.sight disk.old).images →
+        Leaves file (λ _. Short) (λ _. Short) (D.sight disk.old) (D.sight disk.new) }
+    ensures cause { HasCause (D.faults disk.old) (D.faults disk.new) result }
+{
+    disk.cut(file, 0)?;
+    disk.write_at(file, 0, b"SMJRNL01\0")?;
+    Ok(())
+}
+
 /// Makes a file of at most nine bytes a journal without records, and syncs it.
 pub fn make<D: Disk>(disk: &mut D, file: u8) -> Result<(), DiskFailed>
     requires { file < 3 }
     ensures length { OnOk result (ReadsLength file 9 (D.sight disk.new)) }
     ensures run { EachHas file Short (D.sight disk.old).images →
         Leaves file (λ _. Short) (λ _. Short) (D.sight disk.old) (D.sight disk.new) }
-    ensures made { OnOk result (EachHas file Short (D.sight disk.old).images →
-        EachHas file (AtRest header) (D.sight disk.new).images) }
+    ensures made { OnOk result (EachHas file (Whole []) (D.sight disk.new).images) }
     ensures cause { HasCause (D.faults disk.old) (D.faults disk.new) result }
 {
-    disk.cut(file, 0)?;
-    disk.write_at(file, 0, b"SMJRNL01\0")?;
+    begin(disk, file)?;
     disk.sync(file)?;
     Ok(())
 }

@@ -1,5 +1,5 @@
 //! The journal.
-ghost use Rattle.std.specs.Prelude.{◌≡◌, ◌<◌, ◌≤◌, ◌+◌, ◌^◌, ℕ, List, [], ◌∷◌, ◌++◌, true, false, Option, None, Some, length, OnOk, OnErr};
+ghost use Rattle.std.specs.Prelude.{◌≡◌, ◌<◌, ◌≤◌, ◌+◌, ◌^◌, ℕ, List, [], ◌∷◌, ◌++◌, true, false, Option, None, Some, length, OnOk, OnErr, IsOk};
 ghost use Rattle.sm_disk.specs.Sight.{Image};
 ghost use Rattle.sm_journal.specs.declared.tail.Tail.TheVariants.{Sure, Body};
 
@@ -26,21 +26,24 @@ pub struct Journal<D: Disk> {
 }
 
 impl<D: Disk> Journal<D> {
-    ghost use Rattle.sm_journal.specs.Journals.{disk_of, length_of, length_with, is_unsure, HasRoom, SamePlace, Stands, AppendsAs, LeavesEither, IsOpened};
-    ghost use Rattle.sm_journal.specs.Records.{front, size, AreWithin, AtRest};
+    ghost use Rattle.sm_journal.specs.Journals.{disk_of, file_of, length_of, length_with, is_unsure, HasRoom, SamePlace, Stands, HoldsJust, AppendsAs, LeavesEither, IsOpened};
+    ghost use Rattle.sm_journal.specs.Records.{first_format, front, size, AreWithin, AtRest};
+    ghost use Rattle.sm_journal.specs.Making.{IsIdle};
     ghost use Rattle.sm_journal.specs.Lengths.{ReadsLength};
     ghost use Rattle.sm_disk.specs.OneFile.{EachHas};
-    ghost use Rattle.sm_disk.specs.Faults.{Rose, HasCause};
+    ghost use Rattle.sm_base.specs.Faults.{Rose};
+    ghost use Rattle.sm_disk.specs.Faults.{HasCause};
 
     /// A journal whose file ends behind its gate.
-    pub fn at_rest(disk: D, file: u8, limit: u64, gate: u64) -> Journal<D>
+    pub(crate) fn at_rest(disk: D, file: u8, limit: u64, gate: u64) -> Journal<D>
         requires in_range { file < 3 }
         requires bounded { limit < 2 ^ 62 }
         requires fits { gate < 2 ^ 63 }
         requires place { ReadsLength file (gate + 1) (D.sight disk) }
         ensures disk { disk_of result ≡ disk }
+        ensures file { file_of result ≡ file }
         ensures opened { (bodies : List (List ℕ)) → gate ≡ 8 + size bodies → AreWithin bodies →
-            EachHas file (AtRest (front bodies)) (D.sight disk).images →
+            EachHas file (AtRest (front first_format bodies)) (D.sight disk).images →
             IsOpened file limit bodies result }
     {
         Journal {
@@ -52,9 +55,9 @@ impl<D: Disk> Journal<D> {
         }
     }
 
-    /// Adds a record with this body. At `Ok` every later crash keeps it. At `Failed` the list is as before, and the tail
-    /// is unsure: a crash leaves the list, or the list with this body. `TooLong` tells the body's length, and `Full` the
-    /// length that the file would have. It takes no memory.
+    /// Adds a record with this body. At `Ok` every later crash keeps it. At `Failed` the list is as before, and the
+    /// tail is unsure: a crash leaves the list, or the list with this body. `TooLong` tells the body's length, and
+    /// `Full` the length that the file would have. It takes no memory.
     pub fn append(&mut self, body: &[u8]) -> Appended
         requires { is_unsure self.old ≡ false }
         ensures answer { AppendsAs self.old body.now self.new result }
@@ -86,7 +89,8 @@ impl<D: Disk> Journal<D> {
         requires sure { is_unsure self.old ≡ false }
         requires room { HasRoom self.old body.now }
         ensures ok { OnOk result ((is_unsure self.new ≡ false) × ((bodies : List (List ℕ)) →
-            Stands self.old bodies None → Stands self.new (bodies ++ body.now ∷ []) None)) }
+            Stands self.old bodies None →
+            Stands self.new (bodies ++ body.now ∷ []) None × HoldsJust self.new (bodies ++ body.now ∷ []))) }
         ensures err { OnErr result ((is_unsure self.new ≡ true) × ((bodies : List (List ℕ)) →
             Stands self.old bodies None → Stands self.new bodies (Some body.now))) }
         ensures length { OnOk result (length_of self.new ≡ length_with self.old body.now) }
@@ -112,6 +116,7 @@ impl<D: Disk> Journal<D> {
             (failed : Option (List ℕ)) → Stands self.old bodies failed → Stands self.new bodies None)) }
         ensures err { OnErr result ((is_unsure self.new ≡ true) × ((bodies : List (List ℕ))
             (failed : Option (List ℕ)) → Stands self.old bodies failed → Stands self.new bodies failed)) }
+        ensures left { is_unsure self.old ≡ false → IsOk result × (self.new ≡ self.old) }
         ensures same { SamePlace self.old self.new }
         ensures length { length_of self.new ≡ length_of self.old }
 
@@ -184,9 +189,11 @@ impl<D: Disk> Journal<D> {
         self.gate + 1
     }
 
-    /// The disk again.
+    /// The disk again. A list that is sure stays in its file.
     pub fn close(self) -> D
-        ensures { result ≡ disk_of self }
+        ensures disk { result ≡ disk_of self }
+        ensures idle { is_unsure self ≡ false → (bodies : List (List ℕ)) → Stands self bodies None →
+            IsIdle (file_of self) bodies (D.sight result) }
     {
         let Journal { disk, .. } = self;
         disk

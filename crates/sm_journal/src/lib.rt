@@ -11,8 +11,5 @@ mod tail;
 
 pub use answers::{Appended, OpenRefused};
 pub use journal::Journal;
-pub use laws::a_file_has_one_list;
+pub use laws::{a_file_has_one_list, each_has_one_proof};
 pub use parse::Damage;
-
-#[cfg(test)]
-mod tests;

@@ -1,18 +1,19 @@
 //! The opening of a journal.
 ghost use Rattle.std.specs.Prelude.{◌≡◌, ◌<◌, ◌≤◌, ◌+◌, ◌^◌, ℕ, List, [], length, IfOk, IfErr};
+ghost use Rattle.sm_disk.specs.Sight.{Image};
 ghost use Rattle.sm_disk.specs.OneFile.{EachHas, Leaves};
-ghost use Rattle.sm_disk.specs.Faults.{Rose};
-ghost use Rattle.sm_journal.specs.Records.{header, Loose, AtRest, Short, Recovers, SameList};
+ghost use Rattle.sm_base.specs.Faults.{Rose};
+ghost use Rattle.sm_journal.specs.Records.{Loose, AtRest, Short, Whole, Recovers, SameList};
 ghost use Rattle.sm_journal.specs.Lengths.{ReadsLength};
-ghost use Rattle.sm_journal.specs.Journals.{disk_of, IsOpened};
+ghost use Rattle.sm_journal.specs.Journals.{disk_of, HoldsJust, IsOpened};
 ghost use Rattle.sm_journal.specs.Openings.{ReadsAs, FailsFrom, IsRefusedAs, IsRefused};
 
 use crate::answers::OpenRefused;
 use crate::device::{LoadRefused, cut_behind, load, make};
 use crate::journal::Journal;
 use crate::parse::{ParseRefused, Parsed, parse};
+use sm_base::{Bytes, List};
 use sm_disk::Disk;
-use sm_model::{Bytes, List};
 use std::alloc::Global;
 
 /// Cuts what stands behind the gate, if anything does. An error hands the disk back.
@@ -47,8 +48,7 @@ fn settle<D: Disk>(mut disk: D, file: u8, gate: u64, bytes: &[u8]) -> Result<D, 
 fn fresh<D: Disk>(mut disk: D, file: u8) -> Result<D, D>
     requires { file < 3 }
     ensures length { IfOk result (λ now. ReadsLength file 9 (D.sight now)) }
-    ensures rest { IfOk result (λ now. EachHas file Short (D.sight disk).images →
-        EachHas file (AtRest header) (D.sight now).images) }
+    ensures whole { IfOk result (λ now. EachHas file (Whole []) (D.sight now).images) }
     ensures run { IfOk result (λ now. EachHas file Short (D.sight disk).images →
         Leaves file (λ _. Short) (λ _. Short) (D.sight disk) (D.sight now)) }
     ensures run_err { IfErr result (λ now. EachHas file Short (D.sight disk).images →
@@ -71,8 +71,8 @@ fn open_new<D: Disk>(
 ) -> Result<(Journal<D>, List<Bytes>), OpenRefused<D>>
     requires file { file < 3 }
     requires limit { limit < 2 ^ 62 }
-    ensures opened { IfOk result (λ opened. EachHas file Short (D.sight disk).images →
-        IsOpened file limit opened.1 opened.0) }
+    ensures opened { IfOk result (λ opened. IsOpened file limit opened.1 opened.0) }
+    ensures whole { IfOk result (λ opened. HoldsJust opened.0 []) }
     ensures none { IfOk result (λ opened. opened.1 ≡ []) }
     ensures run { IfOk result (λ opened. EachHas file Short (D.sight disk).images →
         Leaves file (λ _. Short) (λ _. Short) (D.sight disk) (D.sight (disk_of opened.0))) }
@@ -133,6 +133,7 @@ fn open_loaded<D: Disk>(
     requires place { ReadsLength file (length bytes.now) (D.sight disk) }
     ensures opened { IfOk result (λ opened. EachHas file (λ b. b ≡ bytes.now) (D.sight disk).images →
         IsOpened file limit opened.1 opened.0) }
+    ensures whole { IfOk result (λ opened. Short bytes.now → HoldsJust opened.0 []) }
     ensures list { IfOk result (λ opened. Recovers bytes.now opened.1) }
     ensures run { IfOk result (λ opened. EachHas file (λ b. b ≡ bytes.now) (D.sight disk).images →
         Leaves file SameList SameList (D.sight disk) (D.sight (disk_of opened.0))) }
@@ -147,9 +148,9 @@ fn open_loaded<D: Disk>(
 }
 
 impl<D: Disk> Journal<D> {
-    /// Opens the journal in a file of the disk, and gives the bodies of its records. It syncs the file first, mends what
-    /// follows the records, and makes a file of at most nine bytes new. A file that is longer and outside the grammar is
-    /// damaged. An error hands the disk back.
+    /// Opens the journal in a file of the disk, and gives the bodies of its records. It syncs the file first, mends
+    /// what follows the records, and makes a file of at most nine bytes new. A file that is longer and outside the
+    /// grammar is damaged. An error hands the disk back.
     pub fn open(
         alloc: Global,
         mut disk: D,
@@ -161,6 +162,10 @@ impl<D: Disk> Journal<D> {
         ensures opened { IfOk result (λ opened. IsOpened file limit opened.1 opened.0) }
         ensures list { IfOk result (λ opened.
             ReadsAs file (λ bytes. Recovers bytes opened.1) (D.sight disk)) }
+
+        // A file that was made new is the header and the closed gate.
+        ensures whole { IfOk result (λ opened. (s : Image) → (D.sight disk).reads s → Short (s file) →
+            HoldsJust opened.0 []) }
 
         // A crash at any moment of the call leaves each image with the list that it had, and the other files.
         ensures any_moment { IfOk result (λ opened.

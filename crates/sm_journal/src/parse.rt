@@ -1,10 +1,10 @@
 //! What the bytes of a journal's file say, without the disk.
 ghost use Rattle.std.specs.Prelude.{◌≡◌, ◌≢◌, ◌<◌, ◌≤◌, ◌+◌, ◌∷◌, ◌++◌, ◌↔◌, ℕ, List, length, take, IsTrue, IfSome, IfNone, IfOk, Err};
-ghost use Rattle.sm_journal.specs.Records.{header, entry_of, body_limit, front, size, AreWithin, Loose, IsBroken, IsDamaged};
+ghost use Rattle.sm_journal.specs.Records.{first_format, header, entry_of, body_limit, front, size, AreWithin, Loose, IsBroken, IsDamaged};
 ghost use Rattle.sm_journal.specs.declared.parse.Damage.{Damage};
 ghost use Rattle.sm_journal.specs.declared.parse.ParseRefused.TheVariants.{Memory};
 
-use sm_model::{Bytes, List, NoMemory};
+use sm_base::{Bytes, List, NoMemory};
 use std::alloc::{AllocFailed, Global};
 
 /// The greatest length of a body.
@@ -93,7 +93,8 @@ impl<T: Drop> From<AllocFailed<T>> for ParseRefused {
 /// The records of a file of more than nine bytes.
 pub fn parse(alloc: Global, bytes: &[u8]) -> Result<Parsed, ParseRefused>
     requires { 9 < length bytes.now }
-    ensures list { IfOk result (λ parsed. AreWithin parsed.bodies × Loose (front parsed.bodies) bytes.now) }
+    ensures list { IfOk result (λ parsed. AreWithin parsed.bodies
+        × Loose (front first_format parsed.bodies) bytes.now) }
     ensures gate { IfOk result (λ parsed. parsed.gate ≡ 8 + size parsed.bodies) }
     ensures within { IfOk result (λ parsed. parsed.gate + 1 ≤ length bytes.now) }
     ensures damaged { (damage : Damage) → result ≡ Err (ParseRefused.Damaged damage) →

@@ -32,7 +32,8 @@ module _ {T O E : Type 0} (org : T → O) (sty : T → List (ℕ × E)) (o : O) 
   R = Rule org sty o built seats
 
   -- the table at the start
-  pub opens : (words : List ℕ) (value : T) → words ≡ 0 ∷ 0 ∷ length built ∷ [] → sty value ≡ built → org value ≡ o → R (opening words (Some value ∷ []) (first_view o built))
+  pub opens : (words : List ℕ) (value : T) → words ≡ 0 ∷ 0 ∷ length built ∷ [] → sty value ≡ built → org value ≡ o
+      → R (opening words (Some value ∷ []) (first_view o built))
   opens words value words_are list origin = record {
     log = built;
     added = [];
@@ -46,19 +47,31 @@ module _ {T O E : Type 0} (org : T → O) (sty : T → List (ℕ × E)) (o : O) 
     begins = sym (append-nil built);
     numbered = λ n h. absurd (omega arith);
     given = refl;
-    once = λ n. sym (dite (dec_lt n 1) (λ a. ap (λ t. cond t 0 (cond (ltb n 1) 1 0)) (lt-ltb n 1 a)) (λ a. within-after 1 1 n (omega arith)));
+    once = λ n. sym (dite (dec_lt n 1) (λ a. ap (λ t. cond t 0 (cond (ltb n 1) 1 0)) (lt-ltb n 1 a))
+        (λ a. within-after 1 1 n (omega arith)));
     many = refl;
     few = omega arith;
     each = λ j v e. ⊎_elim (λ (x : get_elem? [] j ≡ some v). absurd (some-ne-none v (sym x)))
         (λ (same : first_view o built ≡ v). subst (Fits o built built 0 1) same
-        (record { based = inr (refl, refl); own = grows-nil built; told = grows-nil built; inside = tt; numbered = omega arith; counts = inr refl }))
+        (record {
+          based = inr (refl, refl);
+          own = grows-nil built;
+          told = grows-nil built;
+          inside = tt;
+          numbered =
+              omega arith;
+          counts = inr refl;
+        }))
         (at_snoc [] (first_view o built) v j e);
   }
 
   -- one more view, which stands in no queue and has no value
-  slot_more : (s : State (Option T) V) (r : R s) (views : List V) → total (λ (x : V). holds x.turn) views ≡ total (λ (x : V). holds x.turn) s.views
-      → (IsHome org sty o r.log (state org sty o built seats s.words s.homes views) ⊎ IsAway (state org sty o built seats s.words s.homes views))
-  slot_more s r views same = ⊎_elim (λ home. inl (home.0, home.1, home.2, home.3, same ∙ home.4)) (λ away. inr (away.0, same ∙ away.1)) r.slot
+  slot_more : (s : State (Option T) V) (r : R s) (views : List V)
+      → total (λ (x : V). holds x.turn) views ≡ total (λ (x : V). holds x.turn) s.views
+      → (IsHome org sty o r.log (state org sty o built seats s.words s.homes views)
+      ⊎ IsAway (state org sty o built seats s.words s.homes views))
+  slot_more s r views same = ⊎_elim (λ home. inl (home.0, home.1, home.2, home.3, same ∙ home.4))
+      (λ away. inr (away.0, same ∙ away.1)) r.slot
 
   -- a note has a copy of the list, and no number
   pub copies : (id : ℕ) (v : V) → Splits R id v v (noted v)
@@ -83,14 +96,24 @@ module _ {T O E : Type 0} (org : T → O) (sty : T → List (ℕ × E)) (o : O) 
         once = λ n. sum (λ x. times n (numbers x)) refl ∙ r.once n;
         many = omega (arith, sum (λ x. length (numbers x)) refl, r.many);
         few = r.few;
-        each = λ j u e. ⊎_elim (λ (x : get_elem? (set s.views id v) j ≡ some u). r.each j u (subst (λ (l : List V). get_elem? l j ≡ some u) same x))
+        each = λ j u e. ⊎_elim (λ (x : get_elem? (set s.views id v) j ≡ some u).
+            r.each j u (subst (λ (l : List V). get_elem? l j ≡ some u) same x))
             (λ (is : noted v ≡ u). subst (Fits o built r.log r.served r.next) is
-            (record { based = f.based; own = grows-none v.own.seen r.log v.own.numbers f.own; told = grows-nil r.log; inside = tt; numbered = omega arith; counts = inl refl }))
+            (record {
+              based = f.based;
+              own = grows-none v.own.seen r.log v.own.numbers f.own;
+              told =
+                  grows-nil r.log;
+              inside = tt;
+              numbered = omega arith;
+              counts = inl refl;
+            }))
             (at_snoc (set s.views id v) (noted v) u j e);
       }
 
   -- the builder gives its next number
-  pub numbers_next : (id : ℕ) (v : V) → 1 ≤ v.given → v.given ≤ seats → v.origin ≡ Some o → v.built ≡ built → Splits R id v (counted_up v) (newcomer v)
+  pub numbers_next : (id : ℕ) (v : V) → 1 ≤ v.given → v.given ≤ seats → v.origin ≡ Some o → v.built ≡ built
+      → Splits R id v (counted_up v) (newcomer v)
   numbers_next id v some_given not_all has_origin has_built s r me =
       let f = r.each id v me in
       let next : v.given ≡ r.next = ⊎_elim (λ p. absurd (omega (arith, p))) (λ p. p) f.counts in
@@ -98,8 +121,17 @@ module _ {T O E : Type 0} (org : T → O) (sty : T → List (ℕ × E)) (o : O) 
       let views : List V = set s.views id left ++ right ∷ [] in
       let sum : (g : V → ℕ) → total g views + g v ≡ total g s.views + g left + g right =
       λ g. omega (arith, total-append g (set s.views id left) (right ∷ []), total-set g s.views id v left me) in
-      let later : (u : V) → Fits o built r.log r.served r.next u → u.given ≡ 0 → Fits o built r.log r.served (r.next + 1) u =
-      λ u g none_given. record { based = g.based; own = g.own; told = g.told; inside = g.inside; numbered = g.numbered; counts = inl none_given } in
+      let later : (u : V) → Fits o built r.log r.served r.next u → u.given ≡ 0
+      → Fits o built r.log r.served (r.next + 1) u =
+      λ u g none_given. record {
+        based = g.based;
+        own = g.own;
+        told = g.told;
+        inside = g.inside;
+        numbered =
+            g.numbered;
+        counts = inl none_given;
+      } in
       record {
         log = r.log;
         added = r.added;
@@ -113,13 +145,30 @@ module _ {T O E : Type 0} (org : T → O) (sty : T → List (ℕ × E)) (o : O) 
         begins = r.begins;
         numbered = λ n h. let before = r.numbered n h in (before.0, omega (arith, before.1));
         given = omega (arith, sum (λ x. x.given), r.given);
-        once = λ n. omega (arith, sum (λ x. times n (numbers x)), r.once n, within-more 1 r.next n (omega (arith, next)), ap (λ (k : ℕ). times n (k ∷ [])) next);
+        once = λ n. omega (
+          arith,
+          sum (λ x. times n (numbers x)),
+          r.once n,
+          within-more 1 r.next n
+              (omega (arith, next)),
+          ap (λ (k : ℕ). times n (k ∷ [])) next,
+        );
         many = omega (arith, sum (λ x. length (numbers x)), r.many);
         few = omega (arith, next);
         each = λ j u e. ⊎_elim
-            (λ (x : get_elem? (set s.views id left) j ≡ some u). each_set org sty o built seats (Fits o built r.log r.served (r.next + 1)) s.views id left
-            (record { based = f.based; own = f.own; told = f.told; inside = f.inside; numbered = f.numbered; counts = inr (omega (arith, next)) })
-            (λ k w other there. later w (r.each k w there) (omega (arith, next, r.given, terms_le (λ (x : V). x.given) s.views id k v w other me there)))
+            (λ (x : get_elem? (set s.views id left) j ≡ some u).
+            each_set org sty o built seats (Fits o built r.log r.served (r.next + 1)) s.views id left
+            (record {
+              based = f.based;
+              own = f.own;
+              told = f.told;
+              inside = f.inside;
+              numbered = f.numbered;
+              counts =
+                  inr (omega (arith, next));
+            })
+            (λ k w other there. later w (r.each k w there)
+            (omega (arith, next, r.given, terms_le (λ (x : V). x.given) s.views id k v w other me there)))
             j u x)
             (λ (is : right ≡ u). subst (Fits o built r.log r.served (r.next + 1)) is
             (record {
@@ -127,7 +176,8 @@ module _ {T O E : Type 0} (org : T → O) (sty : T → List (ℕ × E)) (o : O) 
               own = subst (λ (l : List (ℕ × E)). Grows (v.given ∷ []) l r.log) (sym has_built) (
                 r.added,
                 r.begins,
-                dite (dec_lt 0 (made_by (v.given ∷ []) r.added)) (λ h. absurd (omega (arith, next, (r.numbered v.given h).1))) (λ h. omega arith),
+                dite (dec_lt 0 (made_by (v.given ∷ []) r.added))
+                    (λ h. absurd (omega (arith, next, (r.numbered v.given h).1))) (λ h. omega arith),
               );
               told = grows-nil r.log;
               inside = tt;
@@ -138,7 +188,8 @@ module _ {T O E : Type 0} (org : T → O) (sty : T → List (ℕ × E)) (o : O) 
       }
 
   -- what another seat knew is put beside what the seat knows, and the other is spent
-  pub joins_seats : (id : ℕ) (v : V) (other : ℕ) (w : V) → v.told ≡ nothing → w.told ≡ nothing → w.turn ≡ Out → w.given ≡ 0 → Joins R id v other w (beside v w) spent
+  pub joins_seats : (id : ℕ) (v : V) (other : ℕ) (w : V) → v.told ≡ nothing → w.told ≡ nothing → w.turn ≡ Out
+      → w.given ≡ 0 → Joins R id v other w (beside v w) spent
   joins_seats id v other w plain theirs_plain out none_given s r me apart them =
       let both : V = beside v w in let vs : List V = set s.views id both in
       let there : get_elem? s.views other ≡ some w = sym (set_else s.views id other both apart) ∙ them in
@@ -180,9 +231,25 @@ module _ {T O E : Type 0} (org : T → O) (sty : T → List (ℕ × E)) (o : O) 
         );
         few = r.few;
         each = each_set org sty o built seats (Fits o built r.log r.served r.next) vs other spent
-            (record { based = inl refl; own = grows-nil r.log; told = grows-nil r.log; inside = tt; numbered = omega arith; counts = inl refl })
+            (record {
+              based = inl refl;
+              own = grows-nil r.log;
+              told = grows-nil r.log;
+              inside = tt;
+              numbered =
+                  omega arith;
+              counts = inl refl;
+            })
             (λ j u _ at. each_set org sty o built seats (Fits o built r.log r.served r.next) s.views id both
-            (record { based = f.based; own = f.own; told = g.own; inside = f.inside; numbered = f.numbered; counts = f.counts })
+            (record {
+              based = f.based;
+              own = f.own;
+              told = g.own;
+              inside = f.inside;
+              numbered = f.numbered;
+              counts =
+                  f.counts;
+            })
             (λ k x _ e. r.each k x e) j u at);
       }
 
@@ -194,10 +261,20 @@ module _ {T O E : Type 0} (org : T → O) (sty : T → List (ℕ × E)) (o : O) 
         w,
         keeps,
         tt,
-        moved org sty o built seats s r id v w (set s.words 0 (get_or s.words 0 0)) s.homes r.log r.added r.drawn r.served me (set-get_or s.words 0 0 ∙ r.words_are)
+        moved org sty o built seats s r id v w (set s.words 0 (get_or s.words 0 0)) s.homes r.log r.added r.drawn
+            r.served me (set-get_or s.words 0 0 ∙ r.words_are)
             refl (λ _. refl) (slot_stays org sty o built seats s r (set s.words 0 (get_or s.words 0 0)) id v w me refl)
             r.begins r.numbered refl (append-nil (numbers v))
-            (record { based = f.based; own = j.2; told = grows-nil r.log; inside = subst (IsServed r.log r.served w.own.seen) (sym out) tt; numbered = omega (arith, ap has_ticket out); counts = f.counts })
+            (record {
+              based = f.based;
+              own = j.2;
+              told = grows-nil r.log;
+              inside =
+                  subst (IsServed r.log r.served w.own.seen) (sym out) tt;
+              numbered =
+                  omega (arith, ap has_ticket out);
+              counts = f.counts;
+            })
             (λ k u _ there. r.each k u there),
         (refl, j.0, j.1),
       )
@@ -209,19 +286,46 @@ module _ {T O E : Type 0} (org : T → O) (sty : T → List (ℕ × E)) (o : O) 
   holds-ticket (Holding t) = omega arith
 
   -- what the last state shows to a seat that has all numbers
-  pub closes : (id : ℕ) (v : V) (ws : List ℕ) (xs : List (Option T)) → v.turn ≡ Out → v.told ≡ nothing → seats ≤ length v.own.numbers → Final (Seen R id v) ws xs
-      → (value : T) × (get_elem? xs 0 ≡ some (Some value)) × (org value ≡ o) × Grows v.own.numbers v.own.seen (sty value)
-      × ((added : List (ℕ × E)) × (sty value ≡ built ++ added) × ((n : ℕ) → 0 < made_by (n ∷ []) added → 0 < times n v.own.numbers))
+  pub closes : (id : ℕ) (v : V) (ws : List ℕ) (xs : List (Option T)) → v.turn ≡ Out → v.told ≡ nothing
+      → seats ≤ length v.own.numbers → Final (Seen R id v) ws xs
+      → (value : T) × (get_elem? xs 0 ≡ some (Some value)) × (org value ≡ o)
+      × Grows v.own.numbers v.own.seen (sty value)
+      × ((added : List (ℕ × E)) × (sty value ≡ built ++ added)
+      × ((n : ℕ) → 0 < made_by (n ∷ []) added → 0 < times n v.own.numbers))
   closes id v ws xs out plain all_numbers final =
       let s = final.0 in let r = final.1.0 in let me = final.1.1 in
       let nobody : (j : ℕ) (u : V) → j ≢ id → get_elem? s.views j ≡ some u → length (numbers u) ≡ 0 =
-      λ j u other there. omega (arith, all_numbers, r.many, r.few, length-append v.own.numbers v.told.numbers, terms_le (λ (x : V). length (numbers x)) s.views id j v u other me there) in
+      λ j u other there. omega (
+        arith,
+        all_numbers,
+        r.many,
+        r.few,
+        length-append v.own.numbers v.told.numbers,
+        terms_le
+            (λ (x : V). length (numbers x)) s.views id j v u other me there,
+      ) in
       let mine : (u : V) → get_elem? s.views id ≡ some u → v ≡ u = λ u e. some-injective v u (sym me ∙ e) in
       let home : IsHome org sty o r.log s = ⊎_elim (λ h. h) (λ away.
       let other = some_term (λ (x : V). holds x.turn) s.views (omega (arith, away.1)) in let u = other.1 in
       dite (ℕ_discrete other.0 id)
-      (λ same. absurd (omega (arith, other.3, ap holds out, ap (λ (x : V). holds x.turn) (mine u (subst (λ (j : ℕ). get_elem? s.views j ≡ some u) same other.2)))))
-      (λ apart. absurd (omega (arith, other.3, holds-ticket u.turn, (r.each other.0 u other.2).numbered, length-append u.own.numbers u.told.numbers, nobody other.0 u apart other.2)))) r.slot in (
+      (λ same. absurd
+      (omega (
+        arith,
+        other.3,
+        ap holds out,
+        ap (λ (x : V). holds x.turn)
+            (mine u (subst (λ (j : ℕ). get_elem? s.views j ≡ some u) same other.2)),
+      )))
+      (λ apart. absurd
+      (omega (
+        arith,
+        other.3,
+        holds-ticket u.turn,
+        (r.each other.0 u other.2).numbered,
+        length-append u.own.numbers
+            u.told.numbers,
+        nobody other.0 u apart other.2,
+      )))) r.slot in (
         home.0,
         final.4 0 (Some home.0) (ap (λ (hs : List (maybe.Option (Option T))). get_elem? hs 0) home.1),
         home.3,
@@ -231,12 +335,14 @@ module _ {T O E : Type 0} (org : T → O) (sty : T → List (ℕ × E)) (o : O) 
           home.2 ∙ r.begins,
           λ n h.
               let known = r.numbered n h in
-              let other = some_term (λ (x : V). times n (numbers x)) s.views (omega (arith, r.once n, within-in 1 r.next n known.0 known.1)) in let u = other.1 in
+              let other = some_term (λ (x : V). times n (numbers x)) s.views
+              (omega (arith, r.once n, within-in 1 r.next n known.0 known.1)) in let u = other.1 in
               dite (ℕ_discrete other.0 id)
               (λ same. omega (
                 arith,
                 other.3,
-                ap (λ (x : V). times n (numbers x)) (mine u (subst (λ (j : ℕ). get_elem? s.views j ≡ some u) same other.2)),
+                ap (λ (x : V). times n (numbers x))
+                    (mine u (subst (λ (j : ℕ). get_elem? s.views j ≡ some u) same other.2)),
                 times-append n v.own.numbers v.told.numbers,
                 ap (λ (k : Known E). times n k.numbers) plain,
               ))

@@ -22,7 +22,8 @@ module _ {A : Type 0} (g : A → ℕ) where
   term_le (x ∷ xs) zero v e = omega (arith, ap g (some-injective x v e))
   term_le (x ∷ xs) (suc j) v e = omega (arith, term_le xs j v e)
 
-  pub terms_le : (l : List A) (j k : ℕ) (v u : A) → k ≢ j → get_elem? l j ≡ some v → get_elem? l k ≡ some u → g v + g u ≤ total g l
+  pub terms_le : (l : List A) (j k : ℕ) (v u : A) → k ≢ j → get_elem? l j ≡ some v → get_elem? l k ≡ some u
+      → g v + g u ≤ total g l
   terms_le [] j k v u n e d = absurd (some-ne-none v (sym e))
   terms_le (x ∷ xs) zero zero v u n e d = absurd (n refl)
   terms_le (x ∷ xs) zero (suc k) v u n e d = omega (arith, ap g (some-injective x v e), term_le xs k u d)
@@ -36,7 +37,8 @@ module _ {A : Type 0} (g : A → ℕ) where
       (λ none. let t = some_term xs (omega arith) in (suc t.0, t.1, t.2, t.3))
       (λ positive. (0, x, refl, omega arith))
 
-pub total_le : {A : Type 0} (f g : A → ℕ) (l : List A) → ((j : ℕ) (v : A) → get_elem? l j ≡ some v → f v ≤ g v) → total f l ≤ total g l
+pub total_le : {A : Type 0} (f g : A → ℕ) (l : List A) → ((j : ℕ) (v : A) → get_elem? l j ≡ some v → f v ≤ g v)
+    → total f l ≤ total g l
 total_le f g [] h = omega arith
 total_le f g (x ∷ xs) h = let here = h 0 x refl in omega (arith, total_le f g xs (λ j v e. h (suc j) v e))
 
@@ -63,39 +65,79 @@ pub times-else : (n k : ℕ) → n ≢ k → times n (k ∷ []) ≡ 0
 times-else n k other = omega (arith, if_other n k other)
 
 pub within-in : (low high n : ℕ) → low ≤ n → n < high → within low high n ≡ 1
-within-in low high n a b = ap (λ t. cond t 0 (cond (ltb n high) 1 0)) (le-ltb n low a) ∙ ap (λ t. cond t 1 0) (lt-ltb n high b)
+within-in low high n a b = ap (λ t. cond t 0 (cond (ltb n high) 1 0)) (le-ltb n low a)
+    ∙ ap (λ t. cond t 1 0) (lt-ltb n high b)
 
 pub within-before : (low high n : ℕ) → n < low → within low high n ≡ 0
 within-before low high n a = ap (λ t. cond t 0 (cond (ltb n high) 1 0)) (lt-ltb n low a)
 
 pub within-after : (low high n : ℕ) → high ≤ n → within low high n ≡ 0
 within-after low high n b = dite (dec_lt n low) (λ a. within-before low high n a)
-    (λ a. ap (λ t. cond t 0 (cond (ltb n high) 1 0)) (le-ltb n low (omega arith)) ∙ ap (λ t. cond t 1 0) (le-ltb n high b))
+    (λ a. ap (λ t. cond t 0 (cond (ltb n high) 1 0)) (le-ltb n low (omega arith))
+    ∙ ap (λ t. cond t 1 0) (le-ltb n high b))
 
 pub within_le : (low high n : ℕ) → within low high n ≤ 1
 within_le low high n = dite (dec_lt n low) (λ a. omega (arith, within-before low high n a))
-    (λ a. dite (dec_lt n high) (λ b. omega (arith, within-in low high n (omega arith) b)) (λ b. omega (arith, within-after low high n (omega arith))))
+    (λ a. dite (dec_lt n high) (λ b. omega (arith, within-in low high n (omega arith) b))
+    (λ b. omega (arith, within-after low high n (omega arith))))
 
 pub within-is : (low high n : ℕ) → 0 < within low high n → (low ≤ n) × (n < high)
 within-is low high n h = dite (dec_lt n low) (λ a. absurd (omega (arith, within-before low high n a)))
-    (λ a. dite (dec_lt n high) (λ b. (omega arith, b)) (λ b. absurd (omega (arith, within-after low high n (omega arith)))))
+    (λ a. dite (dec_lt n high) (λ b. (omega arith, b))
+    (λ b. absurd (omega (arith, within-after low high n (omega arith)))))
 
 -- one more at the end
 pub within-more : (low high n : ℕ) → low ≤ high → within low (high + 1) n ≡ within low high n + cond (eqb n high) 1 0
 within-more low high n h = dite (ℕ_discrete n high)
-    (λ same. omega (arith, if_same n high same, within-after low high n (omega arith), within-in low (high + 1) n (omega arith) (omega arith)))
+    (λ same. omega (
+      arith,
+      if_same n high same,
+      within-after low high n (omega arith),
+      within-in low (high + 1) n
+          (omega arith) (omega arith),
+    ))
     (λ other. dite (dec_lt n low)
     (λ a. omega (arith, if_other n high other, within-before low high n a, within-before low (high + 1) n a))
     (λ a. dite (dec_lt n high)
-    (λ b. omega (arith, if_other n high other, within-in low high n (omega arith) b, within-in low (high + 1) n (omega arith) (omega arith)))
-    (λ b. omega (arith, if_other n high other, within-after low high n (omega arith), within-after low (high + 1) n (omega arith)))))
+    (λ b. omega (
+      arith,
+      if_other n high other,
+      within-in low high n (omega arith) b,
+      within-in low (high + 1) n
+          (omega arith) (omega arith),
+    ))
+    (λ b. omega (
+      arith,
+      if_other n high other,
+      within-after low high n (omega arith),
+      within-after low (high + 1) n
+          (omega arith),
+    ))))
 
 -- one less at the front
 pub within-less : (low high n : ℕ) → low < high → within (low + 1) high n + cond (eqb n low) 1 0 ≡ within low high n
 within-less low high n h = dite (ℕ_discrete n low)
-    (λ same. omega (arith, if_same n low same, within-before (low + 1) high n (omega arith), within-in low high n (omega arith) (omega arith)))
+    (λ same. omega (
+      arith,
+      if_same n low same,
+      within-before (low + 1) high n (omega arith),
+      within-in low high n
+          (omega arith) (omega arith),
+    ))
     (λ other. dite (dec_lt n low)
     (λ a. omega (arith, if_other n low other, within-before low high n a, within-before (low + 1) high n (omega arith)))
     (λ a. dite (dec_lt n high)
-    (λ b. omega (arith, if_other n low other, within-in low high n (omega arith) b, within-in (low + 1) high n (omega arith) b))
-    (λ b. omega (arith, if_other n low other, within-after low high n (omega arith), within-after (low + 1) high n (omega arith)))))
+    (λ b. omega (
+      arith,
+      if_other n low other,
+      within-in low high n (omega arith) b,
+      within-in (low + 1) high n
+          (omega arith) b,
+    ))
+    (λ b. omega (
+      arith,
+      if_other n low other,
+      within-after low high n (omega arith),
+      within-after (low + 1) high n
+          (omega arith),
+    ))))

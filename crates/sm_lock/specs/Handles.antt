@@ -20,10 +20,12 @@ module _ {T O E : Type 0} where
 
   abbrev pub IsSeatOf : (T → O) → (T → List (ℕ × E)) → Gate T O E → Seat (Option T) (View O E) → Type 0
   IsSeatOf origin story gate seat =
-      (seat.table_id ≡ gate.board.shared.table_id) × (seat.me.0.origin ≡ Some (origin (built_with gate))) × (seat.me.0.built ≡ story (built_with gate))
+      (seat.table_id ≡ gate.board.shared.table_id) × (seat.me.0.origin ≡ Some (origin (built_with gate)))
+      × (seat.me.0.built ≡ story (built_with gate))
 
 module _ {T O E : Type 0} {g : Ghosts T O E} where
-  -- the number of a pass, the list that its owner has seen, the list that its gate was built with, and the entries that it made since
+  -- the number of a pass, the list that its owner has seen, the list that its gate was built with, and the entries that
+  -- it made since
   abbrev pub number : Pass T O E g → ℕ
   number pass = pass.number
 
@@ -63,4 +65,5 @@ module _ {T O E : Type 0} {g : Ghosts T O E} where
   -- the pass of the entry's seat has seen it, after the list that the gate was built with
   abbrev pub StandsWithItsSeat : List (ℕ × E) → List (Pass T O E g) → ℕ × E → Type 0
   StandsWithItsSeat built passes entry =
-      (pass : Pass T O E g) × Contains passes pass × (number pass ≡ entry.0) × Contains (drop (length built) (seen pass)) entry
+      (pass : Pass T O E g) × Contains passes pass × (number pass ≡ entry.0)
+      × Contains (drop (length built) (seen pass)) entry

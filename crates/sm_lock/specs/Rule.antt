@@ -50,7 +50,8 @@ module _ {T O E : Type 0} (origin_of : T → O) (story_of : T → List (ℕ × E
       (value : T) × (s.homes ≡ some (Some value) ∷ []) × (story_of value ≡ log) × (origin_of value ≡ origin)
       × (total (λ v. holds v.turn) s.views ≡ 0)
 
-pub record Counted {T O E : Type 0} (origin_of : T → O) (story_of : T → List (ℕ × E)) (origin : O) (built : List (ℕ × E)) (seats : ℕ) (s : State (Option T) (View O E)) : Type 0 where
+pub record Counted {T O E : Type 0} (origin_of : T → O) (story_of : T → List (ℕ × E)) (origin : O)
+    (built : List (ℕ × E)) (seats : ℕ) (s : State (Option T) (View O E)) : Type 0 where
   -- the list of the value, wherever the value is, and what stands in it after the built list
   pub log : List (ℕ × E)
   pub added : List (ℕ × E)

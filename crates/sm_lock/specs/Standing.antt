@@ -31,4 +31,5 @@ pub record Carries {T O E : Type 0} (number : ℕ) (m : Sat T O E) : Type 0 wher
 abbrev pub AddsOne : {O E : Type 0} → View O E → List (ℕ × E) → ℕ → Type 0
 AddsOne {O} {E} v after more =
     ((more ≡ 0) × (after ≡ v.own.seen))
-    ⊎ ((number : ℕ) × (entry : E) × (more ≡ 1) × (v.own.numbers ≡ number ∷ []) × (after ≡ v.own.seen ++ (number, entry) ∷ []))
+    ⊎ ((number : ℕ) × (entry : E) × (more ≡ 1) × (v.own.numbers ≡ number ∷ [])
+    × (after ≡ v.own.seen ++ (number, entry) ∷ []))

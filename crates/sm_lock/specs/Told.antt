@@ -20,19 +20,22 @@ module _ {T O E : Type 0} where
   -- where its ticket is served, it is inside and has seen the log
   abbrev pub looked : At T → Sat T O E → ℕ → Sat T O E → Type 0
   looked st m found m' = (t : ℕ) → m.0.turn ≡ Waiting t
-      → (found ≡ t % 2 ^ 64 → (log : List (ℕ × E)) × Grows m.0.own.numbers m.0.own.seen log × (m' ≡ (turned (Inside t) (saw log m.0), m.1)))
+      → (found ≡ t % 2 ^ 64 → (log : List (ℕ × E)) × Grows m.0.own.numbers m.0.own.seen log
+      × (m' ≡ (turned (Inside t) (saw log m.0), m.1)))
       × (found ≢ t % 2 ^ 64 → m' ≡ m)
 
   module _ (origin_of : T → O) (story_of : T → List (ℕ × E)) where
     -- the value is with it
     abbrev pub took : At T → Sat T O E → ℕ → Sat T O E → Type 0
     took st m found m' = (t : ℕ) → m.0.turn ≡ Inside t
-        → (value : T) × (m' ≡ (turned (Holding t) m.0, (0, Some value) ∷ m.1)) × (story_of value ≡ m.0.own.seen) × (m.0.origin ≡ Some (origin_of value)) × (found ≡ length m.0.own.seen)
+        → (value : T) × (m' ≡ (turned (Holding t) m.0, (0, Some value) ∷ m.1)) × (story_of value ≡ m.0.own.seen)
+        × (m.0.origin ≡ Some (origin_of value)) × (found ≡ length m.0.own.seen)
 
   module _ (story_of : T → List (ℕ × E)) where
     -- its list is that of the value which it carries
     abbrev pub raised : At T → Sat T O E → ℕ → Sat T O E → Type 0
-    raised st m found m' = (value : T) (more : List (ℕ × Option T)) → m.1 ≡ (0, Some value) ∷ more → m' ≡ (saw (story_of value) m.0, m.1)
+    raised st m found m' = (value : T) (more : List (ℕ × Option T)) → m.1 ≡ (0, Some value) ∷ more
+        → m' ≡ (saw (story_of value) m.0, m.1)
 
   -- the value is in the slot again
   abbrev pub returned : At T → Sat T O E → ℕ → Sat T O E → Type 0
@@ -43,4 +46,5 @@ module _ {T O E : Type 0} where
 
   -- what it was told is taken in, and the list that it has then extends both
   abbrev pub took_in : At T → Sat T O E → ℕ → Sat T O E → Type 0
-  took_in st m found m' = (m' ≡ (merged m.0, m.1)) × Grows m.0.own.numbers m.0.own.seen m'.0.own.seen × Grows m.0.told.numbers m.0.told.seen m'.0.own.seen
+  took_in st m found m' = (m' ≡ (merged m.0, m.1)) × Grows m.0.own.numbers m.0.own.seen m'.0.own.seen
+      × Grows m.0.told.numbers m.0.told.seen m'.0.own.seen

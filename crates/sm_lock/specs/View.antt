@@ -48,7 +48,15 @@ module _ {O E : Type 0} where
 
   -- the builder's, which gives this number next
   abbrev pub builders : O → List (ℕ × E) → ℕ → View O E
-  builders origin built next = record { turn = Out; origin = Some origin; built = built; own = nothing; told = nothing; given = next }
+  builders origin built next = record {
+    turn = Out;
+    origin = Some origin;
+    built = built;
+    own = nothing;
+    told =
+        nothing;
+    given = next;
+  }
 
   -- the builder's, before it gave any number
   abbrev pub first_view : O → List (ℕ × E) → View O E
@@ -69,11 +77,27 @@ module _ {O E : Type 0} where
 
   -- the view of the seat that is given the builder's next number
   abbrev pub newcomer : View O E → View O E
-  newcomer v = record { turn = Out; origin = v.origin; built = v.built; own = known v.built (v.given ∷ []); told = nothing; given = 0 }
+  newcomer v = record {
+    turn = Out;
+    origin = v.origin;
+    built = v.built;
+    own = known v.built (v.given ∷ []);
+    told =
+        nothing;
+    given = 0;
+  }
 
   -- the view of a note, which has a copy of the list and no number
   abbrev pub noted : View O E → View O E
-  noted v = record { turn = Out; origin = v.origin; built = v.built; own = known v.own.seen []; told = nothing; given = 0 }
+  noted v = record {
+    turn = Out;
+    origin = v.origin;
+    built = v.built;
+    own = known v.own.seen [];
+    told = nothing;
+    given =
+        0;
+  }
 
   -- what the other knew, put beside what it knows
   abbrev pub beside : View O E → View O E → View O E

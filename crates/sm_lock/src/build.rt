@@ -11,7 +11,7 @@ use crate::pass::Pass;
 use crate::plays::Number;
 use crate::storied::Storied;
 use atomic_table::{Refused, Table};
-use sm_model::List;
+use sm_base::List;
 use std::alloc::Global;
 use std::snapshot::Snapshot;
 
@@ -35,7 +35,8 @@ fn lay<T: Storied>(
 ) -> Result<(Board<T>, Place<T>), BuildRefused<T>>
     ensures sized { IfOk result (λ r. (r.0.shared.table_id.words ≡ 3) × (r.0.shared.table_id.slots ≡ 1)) }
     ensures key { IfOk result (λ r. (r.0.shared.key.seats ≡ seats) × (r.0.shared.key.built.value ≡ value)) }
-    ensures builder { IfOk result (λ r. (r.1.table_id ≡ r.0.shared.table_id) × (r.1.me ≡ (first_view (T.origin value) (T.story value), []))) }
+    ensures builder { IfOk result (λ r. (r.1.table_id ≡ r.0.shared.table_id)
+        × (r.1.me ≡ (first_view (T.origin value) (T.story value), []))) }
     ensures err { IfErr result (λ e. e ≡ Memory value) }
 {
     let about = Key {
@@ -65,7 +66,8 @@ impl<T: Storied> Gate<T> {
         ensures gate { IfOk result (λ r. (built_with r.0 ≡ value) × (seats_of r.0 ≡ seats)) }
         ensures count { IfOk result (λ r. length r.1 ≡ seats) }
         ensures numbers { IfOk result (λ r. map number r.1 ≡ range_with_len 1 seats) }
-        ensures seen { IfOk result (λ r. All (λ pass. IsIn r.0 pass × (seen pass ≡ T.story value) × (mine pass ≡ [])) r.1) }
+        ensures seen { IfOk result (λ r.
+            All (λ pass. IsIn r.0 pass × (seen pass ≡ T.story value) × (mine pass ≡ [])) r.1) }
         ensures err { IfErr result (λ e. e ≡ Memory value) }
     {
         let Ok(passes) = Vec::with_capacity(alloc, seats as usize) else {
@@ -92,12 +94,14 @@ impl<T: Storied> Gate<T> {
         count: u64,
         mut passes: Vec<Pass<T>>,
     ) -> Vec<Pass<T>>
-        requires place { (builder.table_id ≡ self.now.board.shared.table_id) × (builder.me ≡ (first_view (T.origin (built_with self.now)) (T.story (built_with self.now)), [])) }
+        requires place { (builder.table_id ≡ self.now.board.shared.table_id)
+            × (builder.me ≡ (first_view (T.origin (built_with self.now)) (T.story (built_with self.now)), [])) }
         requires count { count ≡ length (T.story (built_with self.now)) }
         requires room { (vec_len passes ≡ 0) × (seats_of self.now ≤ vec_capacity passes) }
         ensures count { vec_len result ≡ seats_of self.now }
         ensures numbers { map number result.items ≡ range_with_len 1 (seats_of self.now) }
-        ensures seen { All (λ pass. IsIn self.now pass × (seen pass ≡ T.story (built_with self.now)) × (mine pass ≡ [])) result.items }
+        ensures seen { All (λ pass. IsIn self.now pass × (seen pass ≡ T.story (built_with self.now))
+            × (mine pass ≡ [])) result.items }
     {
         for number in 1..self.seats + 1 {
             let place = self.board.shared.split_seat::<Number>(&mut builder);

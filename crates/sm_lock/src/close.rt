@@ -8,7 +8,7 @@ use crate::board::Place;
 use crate::gate::Gate;
 use crate::pass::Pass;
 use crate::storied::Storied;
-use sm_model::List;
+use sm_base::List;
 
 impl<T: Storied> Gate<T> {
     /// Takes all passes, and gives the value. Its list begins with what each pass has seen, and each entry after the
@@ -17,10 +17,13 @@ impl<T: Storied> Gate<T> {
         requires gate { All (IsIn self) passes }
         requires whole { length passes ≡ seats self }
         ensures origin { T.origin result ≡ T.origin (built_with self) }
-        ensures built { T.story result ≡ T.story (built_with self) ++ drop (length (T.story (built_with self))) (T.story result) }
+        ensures built { T.story result ≡ T.story (built_with self)
+            ++ drop (length (T.story (built_with self))) (T.story result) }
         ensures seen { All (λ pass. Grows (number pass ∷ []) (seen pass) (T.story result)) passes }
-        ensures numbers { All (λ entry. Contains (map number passes) entry.0) (drop (length (T.story (built_with self))) (T.story result)) }
-        ensures stands { All (StandsWithItsSeat (T.story (built_with self)) passes) (drop (length (T.story (built_with self))) (T.story result)) }
+        ensures numbers { All (λ entry. Contains (map number passes) entry.0)
+            (drop (length (T.story (built_with self))) (T.story result)) }
+        ensures stands { All (StandsWithItsSeat (T.story (built_with self)) passes)
+            (drop (length (T.story (built_with self))) (T.story result)) }
     {
         let mut others = passes.into_vec();
         let Some(first) = others.pop() else {

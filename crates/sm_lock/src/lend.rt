@@ -9,7 +9,8 @@ use crate::storied::Storied;
 impl<T: Storied> Held<T> {
     /// The value. Whatever is written through it stays in it. It takes no memory.
     pub fn value(&mut self) -> &mut T
-        ensures* writes_back { sem 𝓛 (Lends (the_row T.row T.Origin.row T.Entry.row T.Storied) T.row self.entry result (λ w. record self.old { value = w })) }
+        ensures* writes_back { sem 𝓛 (Lends (the_row T.row T.Origin.row T.Entry.row T.Storied) T.row self.entry result
+            (λ w. record self.old { value = w })) }
         ensures value { result.now ≡ self.old.value }
     {
         &mut self.value

@@ -66,7 +66,8 @@ impl<T: Storied> Gate<T> {
     pub(crate) fn join(&self, place: &mut Place<T>, other: Place<T>)
         requires gate { IsSeatOf T.origin T.story self.now place.old × IsSeatOf T.origin T.story self.now other }
         requires place { (place.old.me.0.turn ≡ Out) × (place.old.me.0.told ≡ nothing) }
-        requires other { (other.me.0.turn ≡ Out) × (other.me.0.told ≡ nothing) × (other.me.0.given ≡ 0) × (other.me.1 ≡ []) }
+        requires other { (other.me.0.turn ≡ Out) × (other.me.0.told ≡ nothing) × (other.me.0.given ≡ 0)
+            × (other.me.1 ≡ []) }
         ensures gate { place.new.table_id ≡ place.old.table_id }
         ensures place { place.new.me ≡ (merged (beside place.old.me.0 other.me.0), place.old.me.1) }
         ensures seen { Grows place.old.me.0.own.numbers place.old.me.0.own.seen place.new.me.0.own.seen }

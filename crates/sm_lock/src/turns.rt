@@ -45,9 +45,14 @@ impl<T: Storied> Gate<T> {
     /// Sleeps until the ticket is served.
     fn wait_for<R: Wait>(&self, rt: &R, place: &mut Place<T>, ticket: u64)
         requires gate { place.old.table_id ≡ self.now.board.shared.table_id }
-        requires turn { (place.old.me.0.turn ≡ Waiting (ticket_of place.old.me.0.turn)) × (ticket ≡ ticket_of place.old.me.0.turn % 2 ^ 64) }
+        requires turn { (place.old.me.0.turn ≡ Waiting (ticket_of place.old.me.0.turn))
+            × (ticket ≡ ticket_of place.old.me.0.turn % 2 ^ 64) }
         ensures gate { place.new.table_id ≡ place.old.table_id }
-        ensures place { place.new.me ≡ (turned (Inside (ticket_of place.old.me.0.turn)) (saw place.new.me.0.own.seen place.old.me.0), place.old.me.1) }
+        ensures place { place.new.me ≡ (
+          turned (Inside (ticket_of place.old.me.0.turn))
+              (saw place.new.me.0.own.seen place.old.me.0),
+          place.old.me.1,
+        ) }
         ensures seen { Grows place.old.me.0.own.numbers place.old.me.0.own.seen place.new.me.0.own.seen }
     {
         let shared = &self.board.shared;
@@ -67,8 +72,10 @@ impl<T: Storied> Gate<T> {
         requires gate { IsSeatOf T.origin T.story self.now place.old }
         requires turn { (place.old.me.0.turn ≡ Inside (ticket_of place.old.me.0.turn)) × (place.old.me.1 ≡ []) }
         ensures gate { place.new.table_id ≡ place.old.table_id }
-        ensures place { place.new.me ≡ (turned (Holding (ticket_of place.old.me.0.turn)) place.old.me.0, (0, None) ∷ []) }
-        ensures value { (T.story result.0 ≡ place.old.me.0.own.seen) × (T.origin result.0 ≡ T.origin (built_with self.now)) }
+        ensures place { place.new.me
+            ≡ (turned (Holding (ticket_of place.old.me.0.turn)) place.old.me.0, (0, None) ∷ []) }
+        ensures value { (T.story result.0 ≡ place.old.me.0.own.seen)
+            × (T.origin result.0 ≡ T.origin (built_with self.now)) }
         ensures count { result.1 ≡ length place.old.me.0.own.seen }
     {
         let shared = &self.board.shared;
@@ -83,12 +90,14 @@ impl<T: Storied> Gate<T> {
     pub fn leave(&self, held: Held<T>) -> Pass<T>
         requires gate { IsOutOf self.now held }
         requires origin { T.origin held.value ≡ T.origin (built_with self.now) }
-        requires entry { (T.story held.value ≡ entered held) ⊎ ((entry : T.Entry) × (T.story held.value ≡ entered held ++ (holder held, entry) ∷ [])) }
+        requires entry { (T.story held.value ≡ entered held)
+            ⊎ ((entry : T.Entry) × (T.story held.value ≡ entered held ++ (holder held, entry) ∷ [])) }
         ensures gate { IsIn self.now result }
         ensures number { number result ≡ holder held }
         ensures seen { seen result ≡ T.story held.value }
         ensures kept { T.story held.value ≡ entered held → mine result ≡ holder_made held }
-        ensures added { (entry : T.Entry) → T.story held.value ≡ entered held ++ (holder held, entry) ∷ [] → mine result ≡ holder_made held ++ entry ∷ [] }
+        ensures added { (entry : T.Entry) → T.story held.value ≡ entered held ++ (holder held, entry) ∷ []
+            → mine result ≡ holder_made held ++ entry ∷ [] }
     {
         let Held { value, stay } = held;
         let Stay {
@@ -108,7 +117,8 @@ impl<T: Storied> Gate<T> {
     /// Puts the value back into its slot with so many more entries, and lets the next one in.
     fn put(&self, place: &mut Place<T>, value: T, more: u64)
         requires gate { IsSeatOf T.origin T.story self.now place.old }
-        requires turn { (place.old.me.0.turn ≡ Holding (ticket_of place.old.me.0.turn)) × (place.old.me.1 ≡ (0, None) ∷ []) }
+        requires turn { (place.old.me.0.turn ≡ Holding (ticket_of place.old.me.0.turn))
+            × (place.old.me.1 ≡ (0, None) ∷ []) }
         requires value { (T.origin value ≡ T.origin (built_with self.now)) × (length (T.story value) < 2 ^ 64) }
         requires more { AddsOne place.old.me.0 (T.story value) more }
         ensures gate { place.new.table_id ≡ place.old.table_id }

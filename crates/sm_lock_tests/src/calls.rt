@@ -4,8 +4,8 @@ ghost use Rattle.sm_lock.specs.Story.{Grows};
 ghost use Rattle.sm_lock.specs.Handles.{number, seen, mine, IsIn};
 
 use crate::tally::Tally;
+use sm_base::{List, NoMemory};
 use sm_lock::{BuildRefused, Gate, Held, Note, Pass, Storied};
-use sm_model::{List, NoMemory};
 use std::alloc::Global;
 use std::sync::Wait;
 use std::thread::{Threads, join};
@@ -40,7 +40,11 @@ impl Adds for Tally {
 }
 
 /// A lock is built and closed again, and the value is as it was.
-pub fn unchanged<T: Storied>(alloc: Global, value: T, count: u32) -> Result<T, BuildRefused<T>>
+pub fn build_and_close<T: Storied>(
+    alloc: Global,
+    value: T,
+    count: u32,
+) -> Result<T, BuildRefused<T>>
     requires { (1 ≤ count) × (count ≤ 128) }
     ensures origin { IfOk result (λ last. T.origin last ≡ T.origin value) }
     ensures list { IfOk result (λ last. T.story last ≡ T.story value) }

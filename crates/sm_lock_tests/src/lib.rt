@@ -3,6 +3,7 @@
 
 pub mod calls;
 pub mod notes;
+pub mod rounds;
 pub mod tally;
 #[cfg(test)]
 mod tests;

@@ -4,13 +4,15 @@ ghost use Rattle.sm_lock.specs.Story.{Grows};
 ghost use Rattle.sm_lock.specs.Handles.{built_with, number, seen, mine, entered, holder, IsIn, IsOutOf};
 
 use crate::calls::{Adds, add};
+use sm_base::List;
 use sm_lock::{BuildRefused, Gate, Held, Pass, Storied};
-use sm_model::List;
 use std::alloc::Global;
 use std::sync::Wait;
 
 /// The three passes of a list, and the room that it leaves.
-fn taken_apart<T: Storied>(passes: List<Pass<T>>) -> (Pass<T>, Pass<T>, Pass<T>, Vec<Pass<T>>)
+pub(crate) fn take_apart<T: Storied>(
+    passes: List<Pass<T>>,
+) -> (Pass<T>, Pass<T>, Pass<T>, Vec<Pass<T>>)
     requires { length passes ≡ 3 }
     ensures passes { passes ≡ result.0 ∷ result.1 ∷ result.2 ∷ [] }
     ensures room { (vec_len result.3 ≡ 0) × (3 ≤ vec_capacity result.3) }
@@ -29,7 +31,7 @@ fn taken_apart<T: Storied>(passes: List<Pass<T>>) -> (Pass<T>, Pass<T>, Pass<T>,
 }
 
 /// The three passes, in a list with room for them.
-fn put_together<T: Storied>(
+pub(crate) fn put_together<T: Storied>(
     first: Pass<T>,
     second: Pass<T>,
     third: Pass<T>,
@@ -45,7 +47,7 @@ fn put_together<T: Storied>(
 }
 
 /// One owner adds an entry and tells another, who hears and enters: the value's list has all that the first one saw.
-pub fn told<T: Adds, R: Wait>(
+pub fn tell_another<T: Adds, R: Wait>(
     rt: &R,
     gate: &Gate<T>,
     one: Pass<T>,
@@ -54,7 +56,8 @@ pub fn told<T: Adds, R: Wait>(
 ) -> (Pass<T>, Held<T>, bool)
     requires { IsIn gate.now one × IsIn gate.now other }
     ensures gate { IsIn gate.now result.0 × IsOutOf gate.now result.1 }
-    ensures value { (T.origin result.1.value ≡ T.origin (built_with gate.now)) × (entered result.1 ≡ T.story result.1.value) }
+    ensures value { (T.origin result.1.value ≡ T.origin (built_with gate.now))
+        × (entered result.1 ≡ T.story result.1.value) }
     ensures numbers { (number result.0 ≡ number one) × (holder result.1 ≡ number other) }
     ensures added { result.2 ≡ true → mine result.0 ≡ mine one ++ entry ∷ [] }
     ensures heard { Grows [] (seen result.0) (T.story result.1.value) }
@@ -67,7 +70,7 @@ pub fn told<T: Adds, R: Wait>(
 
 /// A lock for three seats: the first adds an entry and tells, the third hears and enters. It answers the value in the
 /// end, whether there was memory for the entry, and how long the list was when the third one entered.
-pub fn told_to_the_third<T: Adds, R: Wait>(
+pub fn tell_the_third<T: Adds, R: Wait>(
     rt: &R,
     alloc: Global,
     value: T,
@@ -78,8 +81,8 @@ where
     ensures { IfOk result (λ r. r.1 ≡ true → length (T.story value) < r.2) }
 {
     let (gate, passes) = Gate::build(alloc, value, 3)?;
-    let (one, two, three, room) = taken_apart(passes);
-    let (one, mut held, added) = told(rt, &gate, one, three, entry);
+    let (one, two, three, room) = take_apart(passes);
+    let (one, mut held, added) = tell_another(rt, &gate, one, three, entry);
     let found = held.value().length();
     let three = gate.leave(held);
     let value = gate.close(put_together(one, two, three, room));

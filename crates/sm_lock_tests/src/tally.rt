@@ -2,7 +2,7 @@
 ghost use Rattle.std.specs.Prelude.{◌≡◌, ◌+◌, ◌%◌, ◌^◌, [], ◌∷◌, ◌++◌, OnOk, OnErr};
 ghost use Rattle.sm_lock_tests.specs.Sums.{sum_of};
 
-use sm_model::NoMemory;
+use sm_base::NoMemory;
 use std::alloc::Global;
 
 #[derive(Drop)]

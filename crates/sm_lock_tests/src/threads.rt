@@ -4,14 +4,14 @@ ghost use Rattle.sm_lock.specs.Story.{entries_of};
 ghost use Rattle.sm_lock.specs.Handles.{built_with, seats, number, mine, IsIn};
 
 use crate::calls::{Adds, add};
+use sm_base::List;
 use sm_lock::{BuildRefused, Gate, Pass, Storied};
-use sm_model::List;
 use std::alloc::Global;
 use std::sync::Wait;
 use std::thread::{Threads, join};
 
 /// The two passes of a list, and the room that it leaves.
-fn taken_apart<T: Storied>(passes: List<Pass<T>>) -> (Pass<T>, Pass<T>, Vec<Pass<T>>)
+fn take_apart<T: Storied>(passes: List<Pass<T>>) -> (Pass<T>, Pass<T>, Vec<Pass<T>>)
     requires { length passes ≡ 2 }
     ensures passes { passes ≡ result.0 ∷ result.1 ∷ [] }
     ensures room { (vec_len result.2 ≡ 0) × (2 ≤ vec_capacity result.2) }
@@ -56,17 +56,19 @@ where
         → let more = drop (length (T.story (built_with gate))) (T.story result.0) in
         (entries_of 1 more ≡ first ∷ []) × (entries_of 2 more ≡ second ∷ []) × (length more ≡ 2) }
 {
-    let (one, two, room) = taken_apart(passes);
+    let (one, two, room) = take_apart(passes);
     let shared = &gate;
     let ((one, is_first), (two, is_second)) = join(
         rt,
         move ||
             requires { IsIn shared.now one × (number one ≡ 1) × (mine one ≡ []) }
-            ensures { IsIn shared.entry.now result.0 × (number result.0 ≡ 1) × (result.1 ≡ true → mine result.0 ≡ first ∷ []) }
+            ensures { IsIn shared.entry.now result.0 × (number result.0 ≡ 1)
+                × (result.1 ≡ true → mine result.0 ≡ first ∷ []) }
         { add(rt, shared, one, first) },
         move ||
             requires { IsIn shared.now two × (number two ≡ 2) × (mine two ≡ []) }
-            ensures { IsIn shared.entry.now result.0 × (number result.0 ≡ 2) × (result.1 ≡ true → mine result.0 ≡ second ∷ []) }
+            ensures { IsIn shared.entry.now result.0 × (number result.0 ≡ 2)
+                × (result.1 ≡ true → mine result.0 ≡ second ∷ []) }
         { add(rt, shared, two, second) },
     );
     let value = gate.close(put_together(one, two, room));
@@ -92,51 +94,4 @@ where
         Ok((gate, passes)) => Ok(both_add(rt, gate, passes, first, second)),
         Err(refused) => Err(refused),
     }
-}
-
-/// Adds the same entry so often. How often there was memory for it is not said.
-fn add_often<T: Adds, R: Wait>(
-    rt: &R,
-    gate: &Gate<T>,
-    mut pass: Pass<T>,
-    entry: T::Entry,
-    times: u32,
-) -> Pass<T>
-where
-    T::Entry: Copy,
-    requires { IsIn gate.now pass }
-    ensures { IsIn gate.now result }
-{
-    for _ in 0..times {
-        pass = add(rt, gate, pass, entry).0;
-    }
-    pass
-}
-
-/// Two threads that add by turns, so that each waits for the other and has to be woken.
-pub fn by_turns<T: Adds + Send, R: Threads + Wait + Sync>(
-    rt: &R,
-    alloc: Global,
-    value: T,
-    entry: T::Entry,
-    times: u32,
-) -> Result<T, BuildRefused<T>>
-where
-    T::Entry: Copy + Send,
-{
-    let (gate, passes) = Gate::build(alloc, value, 2)?;
-    let (one, two, room) = taken_apart(passes);
-    let shared = &gate;
-    let (one, two) = join(
-        rt,
-        move ||
-            requires { IsIn shared.now one }
-            ensures { IsIn shared.entry.now result }
-        { add_often(rt, shared, one, entry, times) },
-        move ||
-            requires { IsIn shared.now two }
-            ensures { IsIn shared.entry.now result }
-        { add_often(rt, shared, two, entry, times) },
-    );
-    Ok(gate.close(put_together(one, two, room)))
 }

@@ -1,10 +1,4 @@
-pub mod Characters
-pub mod Drawn
-pub mod Fails
-pub mod FirstFault
+pub mod Causes
 pub mod Needed
-pub mod Parts
-pub mod Reading
-pub mod SecretId
-pub mod Spelling
 pub mod Value
+pub mod Bounds

@@ -1,16 +1,40 @@
-//! Entries: the accepted changes of an account, and the changes of rows that they make.
-use crate::bytes::Bytes;
-use crate::memory::{Copied, NoMemory};
-use crate::moment::Moment;
+//! Entries: the accepted changes of an account, the marks of its history, and the changes of rows that entries make.
 use crate::request::Request;
-use crate::rows::SecretRow;
-use crate::text::Text;
+use crate::rows::{SecretRow, Stage};
+use crate::value::Value;
+use sm_base::{Arn, Bytes, Copied, Moment, NoMemory, Text, Token, copy_three};
 use std::alloc::Global;
+
+/// A step of a rotation.
+#[derive(Drop)]
+pub struct At {
+    /// The token of the version that is rotated to.
+    pub token: Token,
+    pub stage: Stage,
+    /// The attempt at this stage, from 1 to 5.
+    pub attempt: u32,
+}
+
+/// What a rotator answered to a step.
+#[derive(Drop)]
+pub enum Answer {
+    /// The new value, at createSecret.
+    Value(Value),
+    Yes,
+    No,
+    /// The rotator could not be asked.
+    Failed,
+}
 
 /// What an entry did.
 #[derive(Drop)]
 pub enum Act {
+    /// A request was accepted.
     Asked(Request),
+    /// A due rotation of the secret with this ARN was started.
+    Begun(Arn),
+    /// A step of the rotation of the secret with this ARN was reported.
+    Reported(Arn, At, Answer),
 }
 
 /// One accepted change.
@@ -24,6 +48,16 @@ pub struct Entry {
     pub act: Act,
 }
 
+/// What stands in an account's history. Only entries change the rows.
+#[derive(Drop)]
+pub enum Mark {
+    Entry(Entry),
+    /// At this moment somebody took up a step of the rotation of the secret with this ARN.
+    Claim(Arn, At, Moment),
+    /// The disk failed where an entry was to be written.
+    Fault,
+}
+
 /// A change of the rows.
 #[derive(Drop)]
 pub enum Change {
@@ -35,22 +69,63 @@ pub enum Change {
     Nothing,
 }
 
+impl Copied for At {
+    fn copy(&self, alloc: Global) -> Result<At, NoMemory> {
+        Ok(At {
+            token: self.token.copy(alloc)?,
+            stage: self.stage,
+            attempt: self.attempt,
+        })
+    }
+}
+
+impl Copied for Answer {
+    fn copy(&self, alloc: Global) -> Result<Answer, NoMemory> {
+        match self {
+            Answer::Value(value) => Ok(Answer::Value(value.copy(alloc)?)),
+            Answer::Yes => Ok(Answer::Yes),
+            Answer::No => Ok(Answer::No),
+            Answer::Failed => Ok(Answer::Failed),
+        }
+    }
+}
+
 impl Copied for Act {
     fn copy(&self, alloc: Global) -> Result<Act, NoMemory> {
         match self {
             Act::Asked(request) => Ok(Act::Asked(request.copy(alloc)?)),
+            Act::Begun(arn) => Ok(Act::Begun(arn.copy(alloc)?)),
+            Act::Reported(arn, at, answer) => {
+                let arn = arn.copy(alloc)?;
+                let at = at.copy(alloc)?;
+                Ok(Act::Reported(arn, at, answer.copy(alloc)?))
+            }
         }
     }
 }
 
 impl Copied for Entry {
     fn copy(&self, alloc: Global) -> Result<Entry, NoMemory> {
+        let (caller, drawn, act) = copy_three(alloc, &self.caller, &self.drawn, &self.act)?;
         Ok(Entry {
             moment: self.moment,
-            caller: self.caller.copy(alloc)?,
-            drawn: self.drawn.copy(alloc)?,
-            act: self.act.copy(alloc)?,
+            caller,
+            drawn,
+            act,
         })
+    }
+}
+
+impl Copied for Mark {
+    fn copy(&self, alloc: Global) -> Result<Mark, NoMemory> {
+        match self {
+            Mark::Entry(entry) => Ok(Mark::Entry(entry.copy(alloc)?)),
+            Mark::Claim(arn, at, moment) => {
+                let arn = arn.copy(alloc)?;
+                Ok(Mark::Claim(arn, at.copy(alloc)?, *moment))
+            }
+            Mark::Fault => Ok(Mark::Fault),
+        }
     }
 }
 

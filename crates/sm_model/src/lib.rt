@@ -1,47 +1,41 @@
-//! The plain data of a secrets account: texts, names, tokens, labels and ARNs in their spelling, the rows of
-//! secrets and versions, and the requests, replies and refusals that speak of them.
+//! The plain data of a secrets account: the rows of secrets and versions, all requests and replies, the causes of
+//! refusals with the
+//! replies' errors and messages, and the entries of an account's history.
 //!
-//! Contracts see `Text` and `Bytes` as the list of their bytes, `List<T>` as the list of its items, and a row
-//! as the record of its fields.
+//! Contracts see a row, a request or a reply as the record of its fields. The names of `sm_base` are given on.
 #![tactic(auto)]
 
-pub mod bytes;
-mod characters;
+pub mod causes;
 pub mod entry;
-pub mod fails;
-pub mod list;
-pub mod memory;
-pub mod moment;
-mod parts;
+pub mod limits;
 pub mod person;
 pub mod reply;
+mod reply_copies;
 pub mod request;
+mod request_copies;
 pub mod row_list;
 pub mod rows;
-pub mod secret_id;
-pub mod spelled;
-pub mod spelling;
-#[cfg(test)]
-mod tests;
-pub mod text;
 pub mod value;
 pub mod why;
 
-pub use bytes::Bytes;
-pub use entry::{Act, Change, Entry};
-pub use fails::Fails;
-pub use list::List;
-pub use memory::{Copied, NoMemory};
-pub use moment::Moment;
+pub use entry::{Act, Answer, At, Change, Entry, Mark};
 pub use person::Person;
-pub use reply::{CreatedSecret, GotSecret, NamedSecret, PutValue, Reply};
+pub use reply::{
+    BatchError, DeletedSecret, Described, GotSecret, NamedSecret, PolicyOfSecret, PolicyValidation,
+    PutValue, RandomPassword, Reply, RulesShown, SecretBatch, SecretPage, Staged, ValidationError,
+    VersionItem, VersionPage, VersionedSecret,
+};
 pub use request::{
-    CreateSecret, GetSecretValue, PutSecretValue, Request, UpdateSecretVersionStage, need,
+    BatchGetSecretValue, CreateSecret, DeleteSecret, Filter, GetRandomPassword, GetSecretValue,
+    ListSecretVersionIds, ListSecrets, OfSecret, PutResourcePolicy, PutSecretValue, Request,
+    RotateSecret, Rules, TagResource, UntagResource, UpdateSecret, UpdateSecretVersionStage,
+    ValidateResourcePolicy, need,
 };
 pub use row_list::RowList;
 pub use rows::{Job, Pair, Rotation, Rows, SecretRow, Stage, VersionRow};
-pub use secret_id::SecretId;
-pub use spelling::{Arn, Label, Name, ReadRefused, Token};
-pub use text::Text;
+pub use sm_base::{
+    Arn, BadKind, Bytes, Copied, Fails, Label, List, Moment, Name, NoMemory, ReadRefused, SecretId,
+    Text, Token,
+};
 pub use value::{Tag, Value};
-pub use why::{BadKind, What, Why};
+pub use why::{What, Why};

@@ -1,8 +1,7 @@
 //! Persons.
 ghost use Rattle.std.specs.Prelude.{◌≡◌, IfOk};
 
-use crate::memory::{Copied, NoMemory};
-use crate::text::Text;
+use sm_base::{Copied, NoMemory, Text};
 use std::alloc::Global;
 
 /// Who asks.

@@ -1,22 +1,33 @@
 //! Replies to accepted requests: one variant for each operation, with the members of its JSON body in snake case.
-use crate::bytes::Bytes;
-use crate::list::List;
-use crate::memory::{Copied, NoMemory};
-use crate::moment::Moment;
-use crate::spelling::{Label, Token};
-use crate::text::Text;
-use std::alloc::Global;
+use crate::value::Tag;
+use sm_base::{Bytes, Label, List, Moment, Text, Token};
 
-/// The reply to CreateSecret.
+/// The reply to CancelRotateSecret, CreateSecret, RotateSecret and UpdateSecret: it names the secret, and the version
+/// where there is one.
 #[derive(Drop)]
-pub struct CreatedSecret {
+pub struct VersionedSecret {
     pub arn: Text,
     pub name: Text,
-    /// The version that was made, where a value was given.
+    /// The version that the value, the rotation or the dropped job has.
     pub version_id: Option<Token>,
 }
 
-/// The reply to GetSecretValue.
+/// A reply that names the secret and says nothing else.
+#[derive(Drop)]
+pub struct NamedSecret {
+    pub arn: Text,
+    pub name: Text,
+}
+
+/// A secret of a batch that was refused, with the error's name and message (API Reference, APIErrorType).
+#[derive(Drop)]
+pub struct BatchError {
+    pub error_code: Text,
+    pub message: Text,
+    pub secret_id: Text,
+}
+
+/// The reply to GetSecretValue, and an item of a batch.
 #[derive(Drop)]
 pub struct GotSecret {
     pub arn: Text,
@@ -29,6 +40,98 @@ pub struct GotSecret {
     pub version_stages: List<Label>,
 }
 
+/// The reply to BatchGetSecretValue.
+#[derive(Drop)]
+pub struct SecretBatch {
+    pub errors: List<BatchError>,
+    pub next_token: Option<Text>,
+    pub secret_values: List<GotSecret>,
+}
+
+/// The reply to DeleteSecret.
+#[derive(Drop)]
+pub struct DeletedSecret {
+    /// None where no secret was there.
+    pub arn: Option<Text>,
+    pub deletion_date: Moment,
+    /// The SecretId where no secret was there.
+    pub name: Text,
+}
+
+/// The rotation rules that a secret keeps (API Reference, RotationRulesType).
+#[derive(Drop)]
+pub struct RulesShown {
+    /// AutomaticallyAfterDays.
+    pub days: Option<u32>,
+}
+
+/// A version and the labels on it, in ascending byte order.
+#[derive(Drop)]
+pub struct Staged {
+    pub id: Token,
+    pub labels: List<Label>,
+}
+
+/// The reply to DescribeSecret, and an item of ListSecrets (API Reference, SecretListEntry).
+#[derive(Drop)]
+pub struct Described {
+    pub arn: Text,
+    pub created_date: Moment,
+    /// From when on the secret is gone, where its deletion is scheduled.
+    pub deleted_date: Option<Moment>,
+    pub description: Option<Text>,
+    pub kms_key_id: Option<Text>,
+    pub last_changed_date: Moment,
+    pub last_rotated_date: Option<Moment>,
+    pub name: Text,
+    pub next_rotation_date: Option<Moment>,
+    pub rotation_enabled: bool,
+    pub rotation_lambda_arn: Option<Text>,
+    pub rotation_rules: Option<RulesShown>,
+    pub tags: List<Tag>,
+    /// The versions with a label.
+    pub version_ids_to_stages: List<Staged>,
+}
+
+/// The reply to GetRandomPassword.
+#[derive(Drop)]
+pub struct RandomPassword {
+    pub random_password: Text,
+}
+
+/// The reply to GetResourcePolicy.
+#[derive(Drop)]
+pub struct PolicyOfSecret {
+    pub arn: Text,
+    pub name: Text,
+    pub resource_policy: Option<Text>,
+}
+
+/// The reply to ListSecrets.
+#[derive(Drop)]
+pub struct SecretPage {
+    pub next_token: Option<Text>,
+    pub secret_list: List<Described>,
+}
+
+/// A version of ListSecretVersionIds (API Reference, SecretVersionsListEntry).
+#[derive(Drop)]
+pub struct VersionItem {
+    pub created_date: Moment,
+    pub version_id: Token,
+    /// None where it has no label.
+    pub version_stages: Option<List<Label>>,
+}
+
+/// The reply to ListSecretVersionIds.
+#[derive(Drop)]
+pub struct VersionPage {
+    pub arn: Text,
+    pub name: Text,
+    pub next_token: Option<Text>,
+    pub versions: List<VersionItem>,
+}
+
 /// The reply to PutSecretValue.
 #[derive(Drop)]
 pub struct PutValue {
@@ -38,75 +141,41 @@ pub struct PutValue {
     pub version_stages: List<Label>,
 }
 
-/// A reply that names the secret and says nothing else.
+/// A fault of a resource policy (API Reference, ValidationErrorsEntry).
 #[derive(Drop)]
-pub struct NamedSecret {
-    pub arn: Text,
-    pub name: Text,
+pub struct ValidationError {
+    pub check_name: Text,
+    pub error_message: Text,
+}
+
+/// The reply to ValidateResourcePolicy.
+#[derive(Drop)]
+pub struct PolicyValidation {
+    pub policy_validation_passed: bool,
+    pub validation_errors: List<ValidationError>,
 }
 
 /// A reply to an accepted request.
 #[derive(Drop)]
 pub enum Reply {
-    CreateSecret(CreatedSecret),
+    BatchGetSecretValue(SecretBatch),
+    CancelRotateSecret(VersionedSecret),
+    CreateSecret(VersionedSecret),
+    DeleteResourcePolicy(NamedSecret),
+    DeleteSecret(DeletedSecret),
+    DescribeSecret(Described),
+    GetRandomPassword(RandomPassword),
+    GetResourcePolicy(PolicyOfSecret),
     GetSecretValue(GotSecret),
+    ListSecretVersionIds(VersionPage),
+    ListSecrets(SecretPage),
+    PutResourcePolicy(NamedSecret),
     PutSecretValue(PutValue),
+    RestoreSecret(NamedSecret),
+    RotateSecret(VersionedSecret),
+    TagResource,
+    UntagResource,
+    UpdateSecret(VersionedSecret),
     UpdateSecretVersionStage(NamedSecret),
-}
-
-impl Copied for CreatedSecret {
-    fn copy(&self, alloc: Global) -> Result<CreatedSecret, NoMemory> {
-        Ok(CreatedSecret {
-            arn: self.arn.copy(alloc)?,
-            name: self.name.copy(alloc)?,
-            version_id: self.version_id.copy(alloc)?,
-        })
-    }
-}
-
-impl Copied for GotSecret {
-    fn copy(&self, alloc: Global) -> Result<GotSecret, NoMemory> {
-        Ok(GotSecret {
-            arn: self.arn.copy(alloc)?,
-            created_date: self.created_date,
-            name: self.name.copy(alloc)?,
-            secret_binary: self.secret_binary.copy(alloc)?,
-            secret_string: self.secret_string.copy(alloc)?,
-            version_id: self.version_id.copy(alloc)?,
-            version_stages: self.version_stages.copy(alloc)?,
-        })
-    }
-}
-
-impl Copied for PutValue {
-    fn copy(&self, alloc: Global) -> Result<PutValue, NoMemory> {
-        Ok(PutValue {
-            arn: self.arn.copy(alloc)?,
-            name: self.name.copy(alloc)?,
-            version_id: self.version_id.copy(alloc)?,
-            version_stages: self.version_stages.copy(alloc)?,
-        })
-    }
-}
-
-impl Copied for NamedSecret {
-    fn copy(&self, alloc: Global) -> Result<NamedSecret, NoMemory> {
-        Ok(NamedSecret {
-            arn: self.arn.copy(alloc)?,
-            name: self.name.copy(alloc)?,
-        })
-    }
-}
-
-impl Copied for Reply {
-    fn copy(&self, alloc: Global) -> Result<Reply, NoMemory> {
-        match self {
-            Reply::CreateSecret(created) => Ok(Reply::CreateSecret(created.copy(alloc)?)),
-            Reply::GetSecretValue(got) => Ok(Reply::GetSecretValue(got.copy(alloc)?)),
-            Reply::PutSecretValue(put) => Ok(Reply::PutSecretValue(put.copy(alloc)?)),
-            Reply::UpdateSecretVersionStage(named) => {
-                Ok(Reply::UpdateSecretVersionStage(named.copy(alloc)?))
-            }
-        }
-    }
+    ValidateResourcePolicy(PolicyValidation),
 }

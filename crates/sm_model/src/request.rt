@@ -1,13 +1,43 @@
-//! Requests: one variant for each operation, with the members of its JSON body in snake case.
+//! Requests: one variant for each operation, with the members of its JSON body in snake case. A member that need not be
+//! there is
+//! optional, save that a truth value is the one that counts.
 ghost use Rattle.std.specs.Prelude.{◌≡◌};
-ghost use Rattle.sm_model.specs.Needed.{needed, token_bytes};
+ghost use Rattle.sm_model.specs.Needed.{needed, token_bytes, bytes_of_length, password_bytes};
 
-use crate::bytes::Bytes;
-use crate::list::List;
-use crate::memory::{Copied, NoMemory};
-use crate::text::Text;
+use crate::limits::{PASSWORD_LENGTH, PASSWORD_LIMIT};
 use crate::value::Tag;
-use std::alloc::Global;
+use sm_base::{Bytes, List, Text};
+
+/// A filter of BatchGetSecretValue and ListSecrets (AWS Secrets Manager API Reference, Filter).
+#[derive(Drop)]
+pub struct Filter {
+    pub key: Text,
+    pub values: List<Text>,
+}
+
+/// The rotation rules of a request (AWS Secrets Manager API Reference, RotationRulesType).
+#[derive(Drop)]
+pub struct Rules {
+    /// AutomaticallyAfterDays.
+    pub days: Option<i64>,
+}
+
+/// The request of an operation that names a secret and nothing else: CancelRotateSecret, DeleteResourcePolicy,
+/// DescribeSecret,
+/// GetResourcePolicy and RestoreSecret.
+#[derive(Drop)]
+pub struct OfSecret {
+    pub secret_id: Text,
+}
+
+/// BatchGetSecretValue (AWS Secrets Manager API Reference, BatchGetSecretValue).
+#[derive(Drop)]
+pub struct BatchGetSecretValue {
+    pub filters: Option<List<Filter>>,
+    pub max_results: Option<i64>,
+    pub next_token: Option<Text>,
+    pub secret_id_list: Option<List<Text>>,
+}
 
 /// CreateSecret (AWS Secrets Manager API Reference, CreateSecret).
 #[derive(Drop)]
@@ -21,12 +51,62 @@ pub struct CreateSecret {
     pub tags: Option<List<Tag>>,
 }
 
+/// DeleteSecret (AWS Secrets Manager API Reference, DeleteSecret).
+#[derive(Drop)]
+pub struct DeleteSecret {
+    pub force_delete_without_recovery: bool,
+    /// Whole days.
+    pub recovery_window_in_days: Option<i64>,
+    pub secret_id: Text,
+}
+
+/// GetRandomPassword (AWS Secrets Manager API Reference, GetRandomPassword).
+#[derive(Drop)]
+pub struct GetRandomPassword {
+    pub exclude_characters: Option<Text>,
+    pub exclude_lowercase: bool,
+    pub exclude_numbers: bool,
+    pub exclude_punctuation: bool,
+    pub exclude_uppercase: bool,
+    pub include_space: bool,
+    pub password_length: Option<i64>,
+    /// True where the member is absent.
+    pub require_each_included_type: bool,
+}
+
 /// GetSecretValue (AWS Secrets Manager API Reference, GetSecretValue).
 #[derive(Drop)]
 pub struct GetSecretValue {
     pub secret_id: Text,
     pub version_id: Option<Text>,
     pub version_stage: Option<Text>,
+}
+
+/// ListSecretVersionIds (AWS Secrets Manager API Reference, ListSecretVersionIds).
+#[derive(Drop)]
+pub struct ListSecretVersionIds {
+    pub include_deprecated: bool,
+    pub max_results: Option<i64>,
+    pub next_token: Option<Text>,
+    pub secret_id: Text,
+}
+
+/// ListSecrets (AWS Secrets Manager API Reference, ListSecrets).
+#[derive(Drop)]
+pub struct ListSecrets {
+    pub filters: Option<List<Filter>>,
+    pub include_planned_deletion: bool,
+    pub max_results: Option<i64>,
+    pub next_token: Option<Text>,
+    pub sort_order: Option<Text>,
+}
+
+/// PutResourcePolicy (AWS Secrets Manager API Reference, PutResourcePolicy).
+#[derive(Drop)]
+pub struct PutResourcePolicy {
+    pub block_public_policy: bool,
+    pub resource_policy: Text,
+    pub secret_id: Text,
 }
 
 /// PutSecretValue (AWS Secrets Manager API Reference, PutSecretValue).
@@ -39,6 +119,42 @@ pub struct PutSecretValue {
     pub version_stages: Option<List<Text>>,
 }
 
+/// RotateSecret (AWS Secrets Manager API Reference, RotateSecret).
+#[derive(Drop)]
+pub struct RotateSecret {
+    pub client_request_token: Option<Text>,
+    /// True where the member is absent.
+    pub rotate_immediately: bool,
+    pub rotation_lambda_arn: Option<Text>,
+    pub rotation_rules: Option<Rules>,
+    pub secret_id: Text,
+}
+
+/// TagResource (AWS Secrets Manager API Reference, TagResource).
+#[derive(Drop)]
+pub struct TagResource {
+    pub secret_id: Text,
+    pub tags: List<Tag>,
+}
+
+/// UntagResource (AWS Secrets Manager API Reference, UntagResource).
+#[derive(Drop)]
+pub struct UntagResource {
+    pub secret_id: Text,
+    pub tag_keys: List<Text>,
+}
+
+/// UpdateSecret (AWS Secrets Manager API Reference, UpdateSecret).
+#[derive(Drop)]
+pub struct UpdateSecret {
+    pub client_request_token: Option<Text>,
+    pub description: Option<Text>,
+    pub kms_key_id: Option<Text>,
+    pub secret_binary: Option<Bytes>,
+    pub secret_id: Text,
+    pub secret_string: Option<Text>,
+}
+
 /// UpdateSecretVersionStage (AWS Secrets Manager API Reference, UpdateSecretVersionStage).
 #[derive(Drop)]
 pub struct UpdateSecretVersionStage {
@@ -48,30 +164,65 @@ pub struct UpdateSecretVersionStage {
     pub version_stage: Text,
 }
 
+/// ValidateResourcePolicy (AWS Secrets Manager API Reference, ValidateResourcePolicy).
+#[derive(Drop)]
+pub struct ValidateResourcePolicy {
+    pub resource_policy: Text,
+    pub secret_id: Option<Text>,
+}
+
 /// A request as its body was read. Whether its members are in their forms is not yet known.
 #[derive(Drop)]
 pub enum Request {
+    BatchGetSecretValue(BatchGetSecretValue),
+    CancelRotateSecret(OfSecret),
     CreateSecret(CreateSecret),
+    DeleteResourcePolicy(OfSecret),
+    DeleteSecret(DeleteSecret),
+    DescribeSecret(OfSecret),
+    GetRandomPassword(GetRandomPassword),
+    GetResourcePolicy(OfSecret),
     GetSecretValue(GetSecretValue),
+    ListSecretVersionIds(ListSecretVersionIds),
+    ListSecrets(ListSecrets),
+    PutResourcePolicy(PutResourcePolicy),
     PutSecretValue(PutSecretValue),
+    RestoreSecret(OfSecret),
+    RotateSecret(RotateSecret),
+    TagResource(TagResource),
+    UntagResource(UntagResource),
+    UpdateSecret(UpdateSecret),
     UpdateSecretVersionStage(UpdateSecretVersionStage),
+    ValidateResourcePolicy(ValidateResourcePolicy),
 }
 
-/// How many random bytes are drawn for a request, as its body was read: 6 for the end of a new secret's ARN,
-/// and 16 for a token that is wanted and not given.
+/// How many random bytes are drawn for a request, as its body was read: 6 for the end of a new secret's ARN, 16 for a
+/// token that is
+/// wanted and not given, and 4 for each character of a password.
 pub fn need(request: &Request) -> usize
     ensures { result ≡ needed request.now }
 {
     match request {
-        Request::CreateSecret(create) => {
-            if create.secret_string.is_some() || create.secret_binary.is_some() {
-                6 + need_for_token(&create.client_request_token)
-            } else {
-                6
-            }
-        }
+        Request::CreateSecret(create) => need_for_secret(create),
+        Request::GetRandomPassword(password) => need_for_password(password.password_length),
         Request::PutSecretValue(put) => need_for_token(&put.client_request_token),
-        Request::GetSecretValue(_) | Request::UpdateSecretVersionStage(_) => 0,
+        Request::RotateSecret(rotate) => need_for_rotation(rotate),
+        Request::UpdateSecret(update) => need_for_update(update),
+        Request::BatchGetSecretValue(_)
+        | Request::CancelRotateSecret(_)
+        | Request::DeleteResourcePolicy(_)
+        | Request::DeleteSecret(_)
+        | Request::DescribeSecret(_)
+        | Request::GetResourcePolicy(_)
+        | Request::GetSecretValue(_)
+        | Request::ListSecretVersionIds(_)
+        | Request::ListSecrets(_)
+        | Request::PutResourcePolicy(_)
+        | Request::RestoreSecret(_)
+        | Request::TagResource(_)
+        | Request::UntagResource(_)
+        | Request::UpdateSecretVersionStage(_)
+        | Request::ValidateResourcePolicy(_) => 0,
     }
 }
 
@@ -81,62 +232,52 @@ fn need_for_token(token: &Option<Text>) -> usize
     if token.is_some() { 0 } else { 16 }
 }
 
-impl Copied for CreateSecret {
-    fn copy(&self, alloc: Global) -> Result<CreateSecret, NoMemory> {
-        Ok(CreateSecret {
-            client_request_token: self.client_request_token.copy(alloc)?,
-            description: self.description.copy(alloc)?,
-            kms_key_id: self.kms_key_id.copy(alloc)?,
-            name: self.name.copy(alloc)?,
-            secret_binary: self.secret_binary.copy(alloc)?,
-            secret_string: self.secret_string.copy(alloc)?,
-            tags: self.tags.copy(alloc)?,
-        })
+fn need_for_secret(create: &CreateSecret) -> usize
+    ensures { result ≡ needed (Request.CreateSecret create.now) }
+{
+    if create.secret_string.is_some() || create.secret_binary.is_some() {
+        6 + need_for_token(&create.client_request_token)
+    } else {
+        6
     }
 }
 
-impl Copied for GetSecretValue {
-    fn copy(&self, alloc: Global) -> Result<GetSecretValue, NoMemory> {
-        Ok(GetSecretValue {
-            secret_id: self.secret_id.copy(alloc)?,
-            version_id: self.version_id.copy(alloc)?,
-            version_stage: self.version_stage.copy(alloc)?,
-        })
+fn need_for_update(update: &UpdateSecret) -> usize
+    ensures { result ≡ needed (Request.UpdateSecret update.now) }
+{
+    if update.secret_string.is_some() || update.secret_binary.is_some() {
+        need_for_token(&update.client_request_token)
+    } else {
+        0
     }
 }
 
-impl Copied for PutSecretValue {
-    fn copy(&self, alloc: Global) -> Result<PutSecretValue, NoMemory> {
-        Ok(PutSecretValue {
-            client_request_token: self.client_request_token.copy(alloc)?,
-            secret_binary: self.secret_binary.copy(alloc)?,
-            secret_id: self.secret_id.copy(alloc)?,
-            secret_string: self.secret_string.copy(alloc)?,
-            version_stages: self.version_stages.copy(alloc)?,
-        })
+fn need_for_rotation(rotate: &RotateSecret) -> usize
+    ensures { result ≡ needed (Request.RotateSecret rotate.now) }
+{
+    if rotate.rotate_immediately {
+        need_for_token(&rotate.client_request_token)
+    } else {
+        0
     }
 }
 
-impl Copied for UpdateSecretVersionStage {
-    fn copy(&self, alloc: Global) -> Result<UpdateSecretVersionStage, NoMemory> {
-        Ok(UpdateSecretVersionStage {
-            move_to_version_id: self.move_to_version_id.copy(alloc)?,
-            remove_from_version_id: self.remove_from_version_id.copy(alloc)?,
-            secret_id: self.secret_id.copy(alloc)?,
-            version_stage: self.version_stage.copy(alloc)?,
-        })
+/// Four bytes for each character, where the length is one that a password may have.
+fn need_for_password(length: Option<i64>) -> usize
+    ensures { result ≡ password_bytes length }
+{
+    match length {
+        Some(length) => bytes_of_length(length),
+        None => bytes_of_length(i64::from(PASSWORD_LENGTH)),
     }
 }
 
-impl Copied for Request {
-    fn copy(&self, alloc: Global) -> Result<Request, NoMemory> {
-        match self {
-            Request::CreateSecret(create) => Ok(Request::CreateSecret(create.copy(alloc)?)),
-            Request::GetSecretValue(get) => Ok(Request::GetSecretValue(get.copy(alloc)?)),
-            Request::PutSecretValue(put) => Ok(Request::PutSecretValue(put.copy(alloc)?)),
-            Request::UpdateSecretVersionStage(update) => {
-                Ok(Request::UpdateSecretVersionStage(update.copy(alloc)?))
-            }
-        }
+fn bytes_of_length(length: i64) -> usize
+    ensures { result ≡ bytes_of_length length }
+{
+    if 1 <= length && length <= i64::from(PASSWORD_LIMIT) {
+        4 * length as usize
+    } else {
+        0
     }
 }

@@ -1,12 +1,10 @@
 //! The rows of an account: its secrets in order of creation, each with its versions and labels.
 ghost use Rattle.std.specs.Prelude.{◌≡◌, IfOk};
 
-use crate::list::List;
-use crate::memory::{Copied, NoMemory};
-use crate::moment::Moment;
-use crate::spelling::{Arn, Label, Name, Token};
-use crate::text::Text;
 use crate::value::{Tag, Value};
+use sm_base::{
+    Arn, Copied, Label, List, Moment, Name, NoMemory, Text, Token, copy_three, copy_two,
+};
 use std::alloc::Global;
 
 /// A version of a secret. Its id is the token of the call that made it.
@@ -142,22 +140,26 @@ impl Copied for Rotation {
 
 impl Copied for SecretRow {
     fn copy(&self, alloc: Global) -> Result<SecretRow, NoMemory> {
+        let (arn, name, description) = copy_three(alloc, &self.arn, &self.name, &self.description)?;
+        let (kms, tags, versions) = copy_three(alloc, &self.kms, &self.tags, &self.versions)?;
+        let (labels, rotation) = copy_two(alloc, &self.labels, &self.rotation)?;
+        let (policy, job) = copy_two(alloc, &self.policy, &self.job)?;
         Ok(SecretRow {
             serial: self.serial,
-            arn: self.arn.copy(alloc)?,
-            name: self.name.copy(alloc)?,
+            arn,
+            name,
             created: self.created,
             changed: self.changed,
-            description: self.description.copy(alloc)?,
-            kms: self.kms.copy(alloc)?,
-            tags: self.tags.copy(alloc)?,
-            versions: self.versions.copy(alloc)?,
+            description,
+            kms,
+            tags,
+            versions,
             next_version: self.next_version,
-            labels: self.labels.copy(alloc)?,
+            labels,
             deletion: self.deletion,
-            rotation: self.rotation.copy(alloc)?,
-            policy: self.policy.copy(alloc)?,
-            job: self.job.copy(alloc)?,
+            rotation,
+            policy,
+            job,
         })
     }
 }

@@ -2,9 +2,7 @@
 ghost use Rattle.std.specs.Prelude.{◌≡◌, ◌↔◌, IsTrue, IfOk, length};
 ghost use Rattle.sm_model.specs.Value.{byte_count};
 
-use crate::bytes::Bytes;
-use crate::memory::{Copied, NoMemory};
-use crate::text::Text;
+use sm_base::{Bytes, Copied, NoMemory, Text};
 use std::alloc::Global;
 
 /// What a version keeps. Text and bytes are different values, also where their bytes are the same.

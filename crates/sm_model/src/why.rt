@@ -1,8 +1,5 @@
 //! Why a request is refused: the cause, with the value that shows it.
-use crate::memory::{Copied, NoMemory};
-use crate::moment::Moment;
-use crate::spelling::Token;
-use crate::text::Text;
+use sm_base::{BadKind, Copied, Moment, NoMemory, Text, Token};
 use std::alloc::Global;
 
 /// What a limit counts.
@@ -16,25 +13,13 @@ pub enum What {
     JournalBytes,
 }
 
-/// What is wrong with an HTTP message.
-#[derive(Clone, Copy, Debug, PartialEq, Eq)]
-pub enum BadKind {
-    /// No empty line within the longest head.
-    HeadTooLong,
-    /// The head is no complete request head, or has too many fields.
-    Head,
-    /// A Transfer-Encoding field.
-    Chunked,
-    /// A Content-Length of another spelling, or two of them.
-    Length,
-    BodyTooLong,
-}
-
 /// The cause of a refusal.
 #[derive(Drop)]
 pub enum Why {
     /// The member is not in its form.
     Form(Text),
+    /// The member is left out by name.
+    Left(Text),
     /// The label is held by this version, or by none.
     HeldBy(Option<Token>),
     /// AWSCURRENT can be moved and not removed.
@@ -45,6 +30,9 @@ pub enum Why {
     Scheduled(Moment),
     /// The version's id and the label name two versions.
     Differ,
+    /// AWSPENDING is held by this version, which is not the current one.
+    Pending(Token),
+    NoCurrent,
     NoSecret,
     NoVersion,
     /// No version of the secret has this id.
@@ -53,12 +41,27 @@ pub enum Why {
     SecretExists(Text),
     /// The version has another value.
     OtherValue(Token),
+    /// The version exists.
+    VersionExists(Token),
     /// The request would pass a limit of so many.
     Limit(u64, What),
+    /// The member of this statement of a policy, counted from 1, or of the document, 0, is wrong.
+    Malformed(u32, Text),
+    /// This statement of a policy, counted from 1, is public.
+    Public(u32),
+    BadToken,
+    /// This statement denies the request, or none allows it.
+    Denied(Option<u32>),
+    NoCredential,
+    /// No person has this key.
+    UnknownKey(Text),
     UnknownOperation,
     NotJson,
     /// The member is missing or of another type.
     BadMember(Text),
+    /// The message is wrong.
+    Http(BadKind),
+    DiskFault,
     RandomFault,
     Memory,
     /// The request names something that is not built yet.
@@ -69,20 +72,34 @@ impl Copied for Why {
     fn copy(&self, alloc: Global) -> Result<Why, NoMemory> {
         match self {
             Why::Form(member) => Ok(Why::Form(member.copy(alloc)?)),
+            Why::Left(member) => Ok(Why::Left(member.copy(alloc)?)),
             Why::HeldBy(holder) => Ok(Why::HeldBy(holder.copy(alloc)?)),
             Why::KeepsCurrent => Ok(Why::KeepsCurrent),
             Why::Empty(id) => Ok(Why::Empty(id.copy(alloc)?)),
             Why::Scheduled(deletion) => Ok(Why::Scheduled(*deletion)),
             Why::Differ => Ok(Why::Differ),
+            Why::Pending(id) => Ok(Why::Pending(id.copy(alloc)?)),
+            Why::NoCurrent => Ok(Why::NoCurrent),
             Why::NoSecret => Ok(Why::NoSecret),
             Why::NoVersion => Ok(Why::NoVersion),
             Why::NotThere(id) => Ok(Why::NotThere(id.copy(alloc)?)),
             Why::SecretExists(name) => Ok(Why::SecretExists(name.copy(alloc)?)),
             Why::OtherValue(id) => Ok(Why::OtherValue(id.copy(alloc)?)),
+            Why::VersionExists(id) => Ok(Why::VersionExists(id.copy(alloc)?)),
             Why::Limit(most, what) => Ok(Why::Limit(*most, *what)),
+            Why::Malformed(statement, member) => {
+                Ok(Why::Malformed(*statement, member.copy(alloc)?))
+            }
+            Why::Public(statement) => Ok(Why::Public(*statement)),
+            Why::BadToken => Ok(Why::BadToken),
+            Why::Denied(statement) => Ok(Why::Denied(*statement)),
+            Why::NoCredential => Ok(Why::NoCredential),
+            Why::UnknownKey(key) => Ok(Why::UnknownKey(key.copy(alloc)?)),
             Why::UnknownOperation => Ok(Why::UnknownOperation),
             Why::NotJson => Ok(Why::NotJson),
             Why::BadMember(member) => Ok(Why::BadMember(member.copy(alloc)?)),
+            Why::Http(kind) => Ok(Why::Http(*kind)),
+            Why::DiskFault => Ok(Why::DiskFault),
             Why::RandomFault => Ok(Why::RandomFault),
             Why::Memory => Ok(Why::Memory),
             Why::NotBuilt => Ok(Why::NotBuilt),

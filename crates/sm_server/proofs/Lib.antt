@@ -1,10 +1,9 @@
 pub mod KnownLemmas
-pub mod HeadLemmas
-pub mod MessageLemmas
-pub mod BodyLemmas
 pub mod ReplyLemmas
+pub mod AccountLemmas
 pub mod TurnLemmas
+pub mod TurnsLemmas
 pub mod StreamLemmas
 pub mod LegalLemmas
-pub mod StageLaws
 pub mod RunLemmas
+pub mod EndLemmas

@@ -1,58 +1,29 @@
--- The objects of replies: lists of labels, and that no reply has a float.
-use Rattle.std.proofs.Common.{◌≡◌, ℕ, ◌+◌, ◌<◌, List, [], ◌∷◌, ◌++◌, length, take, get_or, false, ◌||◌, Option, Some, None, refl, ap, sym, ◌∙◌}
-use Rattle.std.proofs.lemmas.List.{take_more}
-use Rattle.serde_json.specs.Data.{Data, string, Items, no_items, item}
-use Rattle.serde_json.specs.declared.value.Value.{Value}
-use Rattle.serde_json.specs.View.{view, items_view}
-use Rattle.serde_json.specs.Written.{has_float, items_have_float}
-use Rattle.sm_model.specs.declared.reply.Reply.{Reply}
-use Rattle.sm_model.specs.declared.reply.Reply.TheVariants as replies
-use Rattle.sm_server.specs.Shown.{text_items, created_object, got_object, reply_object}
+-- Replies that were made, and the one for want of memory.
+use Rattle.std.proofs.Common.{◌≡◌, ◌⊎◌, ℕ, List, Result, Ok, Err, IfOk, IsErr, refl, ap, ◌∙◌, inl, inr, codes, false, true}
+use Rattle.serde_json.proofs.OnLiterals.{serde_json_on_literals}
+use Rattle.sm_base.specs.declared.memory.NoMemory.{NoMemory}
+use Rattle.sm_http.specs.Framed.{framed}
+use Rattle.sm_reply.specs.Shown.{Answered}
+use Rattle.sm_server.specs.declared.reply.MadeReply.{MadeReply}
+use Rattle.sm_server.specs.Replies.{IsReply, unavailable, reply_made, framed_answer}
 
--- the items and one more
-one_more : Items → Data → Items
-one_more no_items d = item d no_items
-one_more (item e items) d = item e (one_more items d)
+-- a reply that was made is the model's, or it stands for want of memory
+pub made_reply : (result : Result MadeReply NoMemory) (answer : Answered) → IfOk result (λ reply. IsReply reply answer)
+    → (reply_made result ≡ answer) ⊎ (reply_made result ≡ unavailable)
+made_reply (Ok reply) answer is =
+    let of : ℕ → List ℕ → Answered = λ status body. record { status = status; body = body } in
+    inl (ap (λ n. of n reply.body) is.0 ∙ ap (of answer.status) is.1)
+made_reply (Err none) answer is = inr refl
 
-items_view-push : (vs : List Value) (v : Value) → items_view (vs ++ v ∷ []) ≡ one_more (items_view vs) (view v)
-unfolding one_more
-items_view-push [] v = refl
-items_view-push (w ∷ vs) v = ap (item (view w)) (items_view-push vs v)
+pub no_reply : (result : Result MadeReply NoMemory) → IsErr result → reply_made result ≡ unavailable
+no_reply (Ok reply) h = absurd (let f : false ≡ true = h in cc)
+no_reply (Err none) h = refl
 
-text_items-push : (texts : List (List ℕ)) (t : List ℕ) → text_items (texts ++ t ∷ []) ≡ one_more (text_items texts) (string t)
-unfolding one_more
-text_items-push [] t = refl
-text_items-push (u ∷ texts) t = ap (item (string u)) (text_items-push texts t)
+-- the reply for want of memory, as it stands in the code
+unavailable_body : unavailable.body ≡ codes "{\"Message\":\"out of memory\",\"__type\":\"ServiceUnavailable\"}"
+unfolding serde_json_on_literals
+unavailable_body = refl
 
-pub items_more : (vs : List Value) (texts : List (List ℕ)) (i : ℕ) (v : Value) (t : List ℕ)
-    → items_view vs ≡ text_items (take i texts) → i < length texts → t ≡ get_or texts i t → view v ≡ string t
-    → items_view (vs ++ v ∷ []) ≡ text_items (take (i + 1) texts)
-items_more vs texts i v t e h at is =
-    items_view-push vs v
-    ∙ ap (λ items. one_more items (view v)) e
-    ∙ ap (one_more (text_items (take i texts))) is
-    ∙ sym (text_items-push (take i texts) t)
-    ∙ ap (λ u. text_items (take i texts ++ u ∷ [])) at
-    ∙ ap text_items (sym (take_more texts i t h))
-
-texts_have_no_float : (texts : List (List ℕ)) → items_have_float (text_items texts) ≡ false
-texts_have_no_float [] = refl
-texts_have_no_float (text ∷ texts) = texts_have_no_float texts
-
-created_has_no_float : (arn name : List ℕ) (id : Option (List ℕ)) → has_float (created_object (record { arn = arn; name = name; version_id = id })) ≡ false
-created_has_no_float arn name None = refl
-created_has_no_float arn name (Some id) = refl
-
-got_has_no_float : (arn name id : List ℕ) (date : ℕ) (binary text : Option (List ℕ)) (labels : List (List ℕ))
-    → has_float (got_object (record { arn = arn; created_date = record { 0 = date }; name = name; secret_binary = binary; secret_string = text; version_id = id; version_stages = labels })) ≡ false
-got_has_no_float arn name id date None None labels = ap (λ b. b || false) (texts_have_no_float labels)
-got_has_no_float arn name id date None (Some text) labels = ap (λ b. b || false) (texts_have_no_float labels)
-got_has_no_float arn name id date (Some bytes) None labels = ap (λ b. b || false) (texts_have_no_float labels)
-got_has_no_float arn name id date (Some bytes) (Some text) labels = ap (λ b. b || false) (texts_have_no_float labels)
-
--- no reply has a float
-pub has_no_float : (reply : Reply) → has_float (reply_object reply) ≡ false
-has_no_float (replies.CreateSecret r) = created_has_no_float r.arn r.name r.version_id
-has_no_float (replies.GetSecretValue r) = got_has_no_float r.arn r.name r.version_id r.created_date.0 r.secret_binary r.secret_string r.version_stages
-has_no_float (replies.PutSecretValue r) = ap (λ b. b || false) (texts_have_no_float r.version_stages)
-has_no_float (replies.UpdateSecretVersionStage r) = refl
+pub unavailable_text : framed_answer unavailable
+    ≡ framed 503 (codes "{\"Message\":\"out of memory\",\"__type\":\"ServiceUnavailable\"}")
+unavailable_text = ap (framed 503) unavailable_body

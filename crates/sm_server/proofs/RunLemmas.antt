@@ -1,66 +1,98 @@
 -- How a run goes, message by message.
-use Rattle.std.proofs.Common.{◌≡◌, ◌<◌, ◌≤◌, ◌+◌, ℕ, min, List, [], ◌∷◌, ◌++◌, length, take, Option, option_copied, refl, sym, ap, subst, ◌∙◌, append_assoc, append-nil, length-append, codes, arith}
+use Rattle.std.proofs.Common.{◌≡◌, ◌<◌, ◌≤◌, ◌+◌, ℕ, min, List, [], ◌∷◌, ◌++◌, length, take, Option, Bool, true, false, refl, sym, ap, subst, ◌∙◌, append_assoc, append-nil, length-append, arith}
 use Rattle.std.proofs.lemmas.Grind.{flat_map-append}
-use Rattle.serde_json.proofs.OnLiterals.{serde_json_on_literals}
-use Rattle.sm_model.specs.declared.why.Why.TheVariants as whys
-use Rattle.sm_model.specs.declared.entry.Entry.{Entry}
-use Rattle.sm_table.specs.Kept.{RowsKept}
-use Rattle.sm_server.specs.declared.account.Account.{Account}
-use Rattle.sm_server.specs.declared.message.MessageView.{MessageView}
-use Rattle.sm_server.specs.Accounts.{Stands, no_account}
-use Rattle.sm_server.specs.Answer.{heard_of}
-use Rattle.sm_server.specs.Fronts.{Shows}
-use Rattle.sm_server.specs.Messages.{Message}
-use Rattle.sm_server.specs.Ran.{AllAnswered, CutAt, joined, count_limit}
-use Rattle.sm_server.specs.Shown.{Answered, refused}
-use Rattle.sm_server.specs.Streams.{ShowAll}
-use Rattle.sm_server.specs.Framed.{framed, framed_answer}
-use Rattle.sm_server.specs.Turns.{Told, nothing_told, told_both, unavailable, OneTurn, TurnOf, Turns, entries_of}
-use Rattle.sm_server.specs.Framed.{Sends}
-use Rattle.sm_server.specs.declared.write.Sent.{Sent}
 use Rattle.std.proofs.lemmas.List.{take_all, length-take-le}
 use Rattle.std.specs.Io.KnownBytes.{append_known}
-use Rattle.std.specs.Prelude.{Bool, true, false, MatchBool}
-use Rattle.sm_io.specs.Faults.{Rose}
+use Rattle.std.specs.Prelude.{MatchBool}
+use Rattle.sm_base.specs.Faults.{Rose}
 use Rattle.sm_io.proofs.Known.{append_known-append}
+use Rattle.sm_model.specs.declared.entry.Entry.{Entry}
+use Rattle.sm_table.specs.Sound.{Sound}
+use Rattle.sm_http.specs.declared.message.MessageView.{MessageView}
+use Rattle.sm_http.specs.declared.reply.Sent.{Sent}
+use Rattle.sm_http.specs.Framed.{Sends}
+use Rattle.sm_http.specs.Fronts.{Shows}
+use Rattle.sm_http.specs.Messages.{Message}
+use Rattle.sm_reply.specs.Shown.{Answered}
+use Rattle.sm_server.specs.declared.account.Account.{Account}
+use Rattle.sm_server.specs.Accounts.{Stands, no_account}
+use Rattle.sm_server.specs.Answer.{envelope_seen, heard_of}
+use Rattle.sm_server.specs.Outside.{Outside, Told, nothing_told, told_both, Growth, growth, Trace, Passed}
+use Rattle.sm_server.specs.Ran.{AllAnswered, CutAt, joined, count_limit}
+use Rattle.sm_server.specs.Replies.{framed_answer}
+use Rattle.sm_server.specs.Streams.{ShowAll}
+use Rattle.sm_server.specs.Turns.{Turn, TurnOf, entries_of, Brought, brought_nothing, Turns}
+use Rattle.sm_server.proofs.AccountLemmas.{nothing_sound}
 use Rattle.sm_server.proofs.KnownLemmas.{append_known-nil}
 use Rattle.sm_server.proofs.LegalLemmas.{turns_legal}
-use Rattle.sm_server.proofs.TurnLemmas.{heard_shown, turns_more}
+use Rattle.sm_server.proofs.TurnLemmas.{heard_shown}
+use Rattle.sm_server.proofs.TurnsLemmas.{with_last, turns_more}
 
--- the reply for want of memory, as it stands in the code
-pub unavailable_body : (refused whys.Memory).body ≡ codes "{\"Message\":\"out of memory\",\"__type\":\"ServiceUnavailable\"}"
-unfolding serde_json_on_literals
-unavailable_body = refl
+-- a point of a run: what the outside tells, the messages that are still behind, the account, and how many bytes are
+-- counted
+pub record Point : Type 0 where
+  pub now : Outside
+  pub behind : List MessageView
+  pub account : Account
+  pub count : ℕ
 
-pub unavailable_text : framed_answer unavailable ≡ framed 503 (codes "{\"Message\":\"out of memory\",\"__type\":\"ServiceUnavailable\"}")
-unavailable_text = ap (framed 503) unavailable_body
+-- what passed between two states of the outside, where this was written and told
+abbrev pub trace_of : Outside → Outside → List ℕ → Told → Trace
+trace_of before after written told = record {
+  written = written;
+  told = told;
+  source = growth (λ c. c.source) before after;
+  sink = growth (λ c. c.sink) before after;
+  random = growth (λ c. c.random) before after;
+}
 
 -- the messages before those that are still behind have been answered
-pub record Progress (all : List Message) (behind : List MessageView) (account : Account) (r0 r1 : ℕ) (told : Told) (written : List ℕ) (count : ℕ) : Type 0 where
+pub record Progress (all : List Message) (at : Point) (trace : Trace) : Type 0 where
   pub done : List Message
   pub rest : List Message
   pub parts : all ≡ done ++ rest
-  pub shown : ShowAll rest behind
-  pub replies : List Answered
-  pub made : List Entry
-  pub turns : Turns [] done told r0 r1 replies made
-  pub stands : Stands account made
-  pub writes : written ≡ joined replies
-  pub counts : count ≡ min (length written) count_limit
+  pub shown : ShowAll rest at.behind
+  pub brought : Brought
+  pub turns : Turns [] done brought
+  pub told : trace.told ≡ brought.told
+  pub random : trace.random ≡ brought.random
+  pub stands : Stands at.account brought.made
+  pub writes : trace.written ≡ joined brought.replies
+  pub counts : at.count ≡ min (length trace.written) count_limit
 
-pub progress_first : (all : List Message) (views : List MessageView) (r : ℕ) → ShowAll all views → Progress all views no_account r r nothing_told [] 0
-progress_first all views r shown = record {
-  done = [];
-  rest = all;
-  parts = refl;
-  shown = shown;
-  replies = [];
-  made = [];
-  turns = (refl, refl, refl, refl);
-  stands = record { rows = refl; last = refl; kept = record { serials = refl; each = tt } };
-  writes = refl;
-  counts = refl;
-}
+-- from before to the point the messages of these views were answered, save those that are still behind
+abbrev pub Reached : Outside → List MessageView → Point → Type 0
+Reached before views at = (all : List Message) → ShowAll all views → (trace : Trace) × Passed before at.now trace
+    × Progress all at trace
+
+abbrev pub first_point : Outside → List MessageView → Point
+first_point outside views = record { now = outside; behind = views; account = no_account; count = 0 }
+
+pub reached_first : (outside : Outside) (views : List MessageView) → Reached outside views (first_point outside views)
+reached_first outside views all shown = (
+  trace_of outside outside [] nothing_told,
+  record {
+    writes = sym (append_known-nil outside.taken);
+    clock = sym (append_known-nil outside.readings);
+    random = sym (append_known-nil outside.drawn);
+    source_count = refl;
+    sink_count = refl;
+    random_count = refl;
+  },
+  record {
+    done = [];
+    rest = all;
+    parts = refl;
+    shown = shown;
+    brought = brought_nothing outside.counts.random;
+    turns = refl;
+    told = refl;
+    random = refl;
+    stands = record { rows = refl; last = refl; sound = nothing_sound };
+    writes = refl;
+    counts = refl;
+  },
+)
 
 shown_front : (rest : List Message) (view : MessageView) (behind : List MessageView) → ShowAll rest (view ∷ behind)
     → (m : Message) × (more : List Message) × (rest ≡ m ∷ more) × Shows m view × ShowAll more behind
@@ -71,166 +103,204 @@ shown_none : (rest : List Message) → ShowAll rest [] → rest ≡ []
 shown_none [] shown = refl
 shown_none (m ∷ more) shown = absurd shown
 
-joined_more : (replies : List Answered) (reply : Answered) → joined (replies ++ reply ∷ []) ≡ joined replies ++ framed_answer reply
-joined_more replies reply = flat_map-append framed_answer replies (reply ∷ []) ∙ ap (λ x. joined replies ++ x) (append-nil (framed_answer reply))
-
-module _ (all : List Message) (view : MessageView) (behind : List MessageView) (account account' : Account) (r0 r1 : ℕ)
-    (told : Told) (written : List ℕ) (count : ℕ) (p : Progress all (view ∷ behind) account r0 r1 told written count)
-    (one : OneTurn)
-    (turn : TurnOf p.made (heard_of view.method.now view.path.now (option_copied view.target) view.body.now) one.told r1 one.count one.reply one.made)
-    (later : r1 ≤ one.count) (stands : Stands account' (p.made ++ entries_of one.made)) where
-  turns_now : (m : Message) → Shows m view → Turns [] (p.done ++ m ∷ []) (told_both told one.told) r0 one.count (p.replies ++ one.reply ∷ []) (p.made ++ entries_of one.made)
-  turns_now m shows =
-      turns_more m one r1 [] p.done told r0 p.replies p.made
-      (subst (λ h. TurnOf p.made h one.told r1 one.count one.reply one.made) (heard_shown m view shows) turn)
-      later (subst RowsKept stands.rows stands.kept) p.turns
-
-  -- the reply was written whole
-  pub progress_more : (count' : ℕ) → count' ≡ min (count + length (framed_answer one.reply)) count_limit
-      → Progress all behind account' r0 one.count (told_both told one.told) (written ++ framed_answer one.reply) count'
-  progress_more count' counts =
-      let f = shown_front p.rest view behind p.shown in
-      let size : length (written ++ framed_answer one.reply) ≡ length written + length (framed_answer one.reply) = length-append written (framed_answer one.reply) in
-      record {
-        done = p.done ++ f.0 ∷ [];
-        rest = f.1;
-        parts = p.parts ∙ ap (λ r. p.done ++ r) f.2 ∙ sym (append_assoc p.done (f.0 ∷ []) f.1);
-        shown = f.4;
-        replies = p.replies ++ one.reply ∷ [];
-        made = p.made ++ entries_of one.made;
-        turns = turns_now f.0 f.3;
-        stands = stands;
-        writes = ap (λ w. w ++ framed_answer one.reply) p.writes ∙ sym (joined_more p.replies one.reply);
-        counts = omega (arith, counts, p.counts, size);
-      }
-
-  -- the sink failed within the reply
-  pub progress_cut : (size count' : ℕ) → size < length (framed_answer one.reply) → count' ≡ min (count + size) count_limit
-      → length (take size (framed_answer one.reply)) ≡ size
-      → CutAt all count' (written ++ take size (framed_answer one.reply)) (told_both told one.told) r0 one.count
-  progress_cut size count' short counts taken =
-      let f = shown_front p.rest view behind p.shown in
-      let part = take size (framed_answer one.reply) in
-      let long : length (written ++ part) ≡ length written + length part = length-append written part in
-      record {
-        answered = p.done ++ f.0 ∷ [];
-        unanswered = f.1;
-        parts = p.parts ∙ ap (λ r. p.done ++ r) f.2 ∙ sym (append_assoc p.done (f.0 ∷ []) f.1);
-        earlier = p.replies;
-        last = one.reply;
-        made = p.made ++ entries_of one.made;
-        turns = turns_now f.0 f.3;
-        accepted = turns_legal [] _ _ _ _ _ _ (turns_now f.0 f.3);
-        size = size;
-        short = short;
-        writes = ap (λ w. w ++ part) p.writes;
-        counts = omega (arith, counts, p.counts, long, taken);
-      }
-
-pub progress_done : (all : List Message) (account : Account) (r0 r1 : ℕ) (told : Told) (written : List ℕ) (count : ℕ)
-    → Progress all [] account r0 r1 told written count → AllAnswered all written told r0 r1
-progress_done all account r0 r1 told written count p =
-    let whole : p.done ≡ all = sym (p.parts ∙ ap (λ r. p.done ++ r) (shown_none p.rest p.shown) ∙ append-nil p.done) in
-    record {
-      replies = p.replies;
-      made = p.made;
-      turns = subst (λ d. Turns [] d told r0 r1 p.replies p.made) whole p.turns;
-      accepted = turns_legal [] p.done told r0 r1 p.replies p.made p.turns;
-      writes = p.writes;
-    }
-
--- what the objects of the outside tell
-pub record Sides : Type 0 where
-  pub taken : Option (List ℕ)
-  pub readings : Option (List ℕ)
-  pub drawn : Option (List ℕ)
-  pub random : ℕ
-
--- from before to now the messages before those that are still behind were answered
-abbrev pub Reached : Sides → Sides → List MessageView → List MessageView → Account → ℕ → Type 0
-Reached before now views behind account count = (all : List Message) → ShowAll all views → (written : List ℕ) × (told : Told)
-    × (now.taken ≡ append_known before.taken written)
-    × (now.readings ≡ append_known before.readings told.readings)
-    × (now.drawn ≡ append_known before.drawn told.drawn)
-    × Progress all behind account before.random now.random told written count
-
-pub reached_first : (sides : Sides) (views : List MessageView) → Reached sides sides views views no_account 0
-reached_first sides views all shown = (
-  [],
-  nothing_told,
-  sym (append_known-nil sides.taken),
-  sym (append_known-nil sides.readings),
-  sym (append_known-nil sides.drawn),
-  progress_first all views sides.random shown,
-)
+joined_more : (replies : List Answered) (reply : Answered)
+    → joined (replies ++ reply ∷ []) ≡ joined replies ++ framed_answer reply
+joined_more replies reply = flat_map-append framed_answer replies (reply ∷ [])
+    ∙ ap (λ x. joined replies ++ x) (append-nil (framed_answer reply))
 
 -- what follows what was told before
-told_more : (before now after : Option (List ℕ)) (xs ys : List ℕ) → now ≡ append_known before xs → after ≡ append_known now ys → after ≡ append_known before (xs ++ ys)
+told_more : (before now after : Option (List ℕ)) (xs ys : List ℕ) → now ≡ append_known before xs
+    → after ≡ append_known now ys
+    → after ≡ append_known before (xs ++ ys)
 told_more before now after xs ys first then =
     then ∙ ap (λ known. append_known known ys) first ∙ append_known-append before xs ys
 
--- a message's turn, at any history of the account before it
-abbrev pub Turned : Sides → Sides → MessageView → Account → Account → Answered → Type 0
-Turned now after view account account' reply = (history : List Entry) → Stands account history → (told : Told) × (made : Option Entry)
-    × (after.readings ≡ append_known now.readings told.readings)
-    × (after.drawn ≡ append_known now.drawn told.drawn)
-    × TurnOf history (heard_of view.method.now view.path.now (option_copied view.target) view.body.now) told now.random after.random reply made
-    × Stands account' (history ++ entries_of made)
+-- the turn of a reply, where this was told for it and made
+abbrev pub turn_between : Outside → Outside → Answered → Told → Option Entry → Turn
+turn_between now after reply told made = record {
+  told = told;
+  reply = reply;
+  made = made;
+  random =
+      growth (λ c. c.random) now after;
+}
 
-module _ (before now after : Sides) (views : List MessageView) (view : MessageView) (behind : List MessageView) (account account' : Account) (count : ℕ)
-    (reached : Reached before now views (view ∷ behind) account count)
-    (reply : Answered) (turned : Turned now after view account account' reply) (later : now.random ≤ after.random)
-    (sent : Sent) (f f' : ℕ) (sends : Sends sent (framed_answer reply) now.taken after.taken f f')
+-- a step of a run: from this point the message of this view brought this reply, and then the outside and the account
+-- are these
+pub record Step : Type 0 where
+  pub now : Outside
+  pub account : Account
+  pub view : MessageView
+  pub after : Outside
+  pub account' : Account
+  pub reply : Answered
+
+-- a message's turn, at any history of the account before it
+abbrev pub Turned : Step → Type 0
+Turned s = (history : List Entry) → Stands s.account history → (told : Told) × (made : Option Entry)
+    × (s.after.readings ≡ append_known s.now.readings told.readings)
+    × (s.after.drawn ≡ append_known s.now.drawn told.drawn)
+    × TurnOf history (heard_of (envelope_seen s.view)) (turn_between s.now s.after s.reply told made)
+    × Stands s.account' (history ++ entries_of made)
+
+module _ (before : Outside) (views : List MessageView) (s : Step) (behind : List MessageView) (count : ℕ)
+    (reached : Reached before views (record {
+      now = s.now;
+      behind = s.view ∷ behind;
+      account = s.account;
+      count =
+          count;
+    }))
+    (turned : Turned s) (later : s.now.counts.random ≤ s.after.counts.random)
+    (sent : Sent) (sends : Sends sent (framed_answer s.reply) s.now.taken s.after.taken s.now.counts.sink
+    s.after.counts.sink)
     (count' : ℕ) (counts : count' ≡ min (count + sent.taken) count_limit) where
-  -- the reply was written whole
-  pub reached_more : sent.whole ≡ true → Reached before after views behind account' count'
+  abbrev point : Point
+  point = record { now = s.now; behind = s.view ∷ behind; account = s.account; count = count }
+
+  module _ (all : List Message) (trace : Trace) (passed : Passed before s.now trace)
+      (p : Progress all point trace) where
+    abbrev front : (m : Message) × (more : List Message) × (p.rest ≡ m ∷ more) × Shows m s.view × ShowAll more behind
+    front = shown_front p.rest s.view behind p.shown
+
+    abbrev t : (told : Told) × (made : Option Entry)
+        × (s.after.readings ≡ append_known s.now.readings told.readings)
+        × (s.after.drawn ≡ append_known s.now.drawn told.drawn)
+        × TurnOf p.brought.made (heard_of (envelope_seen s.view)) (turn_between s.now s.after s.reply told made)
+        × Stands s.account' (p.brought.made ++ entries_of made)
+    t = turned p.brought.made p.stands
+
+    abbrev one : Turn
+    one = turn_between s.now s.after s.reply t.0 t.1
+
+    -- how the random source's count grew until now
+    grew : growth (λ c. c.random) before s.now ≡ p.brought.random
+    grew = sym passed.random_count ∙ p.random
+
+    turns_now : Turns [] (p.done ++ front.0 ∷ []) (with_last p.brought one)
+    turns_now =
+        turns_more one front.0 later [] p.done p.brought
+        (subst (λ h. TurnOf p.brought.made h one) (heard_shown front.0 s.view front.3) t.4)
+        (sym (ap (λ (g : Growth). g.after) grew)) (subst Sound t.5.rows t.5.sound.rows) p.turns
+
+    parts_now : all ≡ (p.done ++ front.0 ∷ []) ++ front.1
+    parts_now = p.parts ∙ ap (λ r. p.done ++ r) front.2 ∙ sym (append_assoc p.done (front.0 ∷ []) front.1)
+
+    random_now : growth (λ c. c.random) before s.after ≡ (with_last p.brought one).random
+    random_now = ap (λ (g : Growth). record { before = g.before; after = s.after.counts.random }) grew
+
+    told_now : told_both trace.told t.0 ≡ (with_last p.brought one).told
+    told_now = ap (λ told. told_both told t.0) p.told
+
+    passed_now : (written : List ℕ) → s.after.taken ≡ append_known s.now.taken written
+        → Passed before s.after (trace_of before s.after (trace.written ++ written) (told_both trace.told t.0))
+    passed_now written takes = record {
+      writes = told_more before.taken s.now.taken s.after.taken trace.written written passed.writes takes;
+      clock = told_more before.readings s.now.readings s.after.readings trace.told.readings t.0.readings passed.clock
+          t.2;
+      random = told_more before.drawn s.now.drawn s.after.drawn trace.told.drawn t.0.drawn passed.random t.3;
+      source_count = refl;
+      sink_count = refl;
+      random_count = refl;
+    }
+
+    -- the reply was written whole
+    progress_more : sent.taken ≡ length (framed_answer s.reply)
+        → Progress all (record { now = s.after; behind = behind; account = s.account'; count = count' })
+        (trace_of before s.after (trace.written ++ framed_answer s.reply) (told_both trace.told t.0))
+    progress_more size =
+        let long : length (trace.written ++ framed_answer s.reply)
+        ≡ length trace.written + length (framed_answer s.reply)
+        = length-append trace.written (framed_answer s.reply) in
+        record {
+          done = p.done ++ front.0 ∷ [];
+          rest = front.1;
+          parts = parts_now;
+          shown = front.4;
+          brought = with_last p.brought one;
+          turns = turns_now;
+          told = told_now;
+          random = random_now;
+          stands = t.5;
+          writes = ap (λ w. w ++ framed_answer s.reply) p.writes ∙ sym (joined_more p.brought.replies s.reply);
+          counts = omega (arith, counts, p.counts, size, long);
+        }
+
+    -- the sink failed within the reply
+    progress_cut : sent.taken < length (framed_answer s.reply)
+        → CutAt all count' (trace_of before s.after (trace.written ++ take sent.taken (framed_answer s.reply))
+        (told_both trace.told t.0))
+    progress_cut short =
+        let part = take sent.taken (framed_answer s.reply) in
+        let taken : length part ≡ sent.taken = length-take-le sent.taken (framed_answer s.reply) (omega (arith, short))
+        in
+        let long : length (trace.written ++ part) ≡ length trace.written + length part =
+        length-append trace.written part in
+        record {
+          answered = p.done ++ front.0 ∷ [];
+          unanswered = front.1;
+          parts = parts_now;
+          brought = with_last p.brought one;
+          turns = turns_now;
+          accepted = turns_legal [] (p.done ++ front.0 ∷ []) (with_last p.brought one) turns_now;
+          told = told_now;
+          random = random_now;
+          earlier = p.brought.replies;
+          last = s.reply;
+          replies = refl;
+          size = sent.taken;
+          short = short;
+          writes = ap (λ w. w ++ part) p.writes;
+          counts = omega (arith, counts, p.counts, taken, long);
+        }
+
+  abbrev IfWhole : Bool → Type 0
+  IfWhole whole = MatchBool whole (sent.taken ≡ length (framed_answer s.reply))
+      ((sent.taken < length (framed_answer s.reply)) × Rose s.now.counts.sink s.after.counts.sink)
+
+  pub reached_more : sent.whole ≡ true
+      → Reached before views (record { now = s.after; behind = behind; account = s.account'; count = count' })
   reached_more whole all shown =
       let r = reached all shown in
-      let t = turned r.5.made r.5.stands in
-      let one : OneTurn = record { told = t.0; reply = reply; made = t.1; count = after.random } in
-      let size : sent.taken ≡ length (framed_answer reply) =
-      subst (λ (b : Bool). MatchBool b (sent.taken ≡ length (framed_answer reply)) ((sent.taken < length (framed_answer reply)) × Rose f f')) whole sends.whole in
-      let text : take sent.taken (framed_answer reply) ≡ framed_answer reply = take_all sent.taken (framed_answer reply) (omega (arith, size)) in (
-        r.0 ++ framed_answer reply,
-        told_both r.1 t.0,
-        told_more before.taken now.taken after.taken r.0 (framed_answer reply) r.2 (sends.bytes ∙ ap (append_known now.taken) text),
-        told_more before.readings now.readings after.readings r.1.readings t.0.readings r.3 t.2,
-        told_more before.drawn now.drawn after.drawn r.1.drawn t.0.drawn r.4 t.3,
-        progress_more all view behind account account' before.random now.random r.1 r.0 count r.5 one t.4 later t.5 count'
-            (counts ∙ ap (λ n. min (count + n) count_limit) size),
+      let size : sent.taken ≡ length (framed_answer s.reply) = subst (λ (b : Bool). IfWhole b) whole sends.whole in
+      let text : take sent.taken (framed_answer s.reply) ≡ framed_answer s.reply =
+      take_all sent.taken (framed_answer s.reply) (omega (arith, size)) in (
+        trace_of before s.after (r.0.written ++ framed_answer s.reply) (told_both r.0.told (t all r.0 r.1 r.2).0),
+        passed_now all r.0 r.1 r.2 (framed_answer s.reply) (sends.bytes ∙ ap (append_known s.now.taken) text),
+        progress_more all r.0 r.1 r.2 size,
       )
 
-  -- the sink failed within the reply
-  pub reached_cut : (f0 : ℕ) → f0 ≤ f → sent.whole ≡ false → (all : List Message) → ShowAll all views → (written : List ℕ) × (told : Told)
-      × (after.taken ≡ append_known before.taken written)
-      × (after.readings ≡ append_known before.readings told.readings)
-      × (after.drawn ≡ append_known before.drawn told.drawn)
-      × (Rose f0 f' × CutAt all count' written told before.random after.random)
-  reached_cut f0 since part all shown =
+  pub reached_cut : before.counts.sink ≤ s.now.counts.sink → sent.whole ≡ false → (all : List Message)
+      → ShowAll all views
+      → (trace : Trace) × Passed before s.after trace
+      × (Rose trace.sink.before trace.sink.after × CutAt all count' trace)
+  reached_cut since part all shown =
       let r = reached all shown in
-      let t = turned r.5.made r.5.stands in
-      let one : OneTurn = record { told = t.0; reply = reply; made = t.1; count = after.random } in
-      let cut : (sent.taken < length (framed_answer reply)) × Rose f f' =
-      subst (λ (b : Bool). MatchBool b (sent.taken ≡ length (framed_answer reply)) ((sent.taken < length (framed_answer reply)) × Rose f f')) part sends.whole in (
-        r.0 ++ take sent.taken (framed_answer reply),
-        told_both r.1 t.0,
-        told_more before.taken now.taken after.taken r.0 (take sent.taken (framed_answer reply)) r.2 sends.bytes,
-        told_more before.readings now.readings after.readings r.1.readings t.0.readings r.3 t.2,
-        told_more before.drawn now.drawn after.drawn r.1.drawn t.0.drawn r.4 t.3,
-        (
-          omega (arith, since, cut.1),
-          progress_cut all view behind account account' before.random now.random r.1 r.0 count r.5 one t.4 later t.5 sent.taken count' cut.0 counts
-              (length-take-le sent.taken (framed_answer reply) (omega (arith, cut.0))),
-        ),
+      let cut : (sent.taken < length (framed_answer s.reply)) × Rose s.now.counts.sink s.after.counts.sink =
+      subst (λ (b : Bool). IfWhole b) part sends.whole in (
+        trace_of before s.after (r.0.written ++ take sent.taken (framed_answer s.reply))
+            (told_both r.0.told (t all r.0 r.1 r.2).0),
+        passed_now all r.0 r.1 r.2 (take sent.taken (framed_answer s.reply)) sends.bytes,
+        (omega (arith, since, cut.1), progress_cut all r.0 r.1 r.2 cut.0),
       )
 
 -- no message is behind
-pub reached_all : (before now : Sides) (views : List MessageView) (account : Account) (count : ℕ) → Reached before now views [] account count
-    → (all : List Message) → ShowAll all views → (written : List ℕ) × (told : Told)
-    × (now.taken ≡ append_known before.taken written)
-    × (now.readings ≡ append_known before.readings told.readings)
-    × (now.drawn ≡ append_known before.drawn told.drawn)
-    × AllAnswered all written told before.random now.random
-reached_all before now views account count reached all shown =
+pub reached_all : (before : Outside) (views : List MessageView) (at : Point) → at.behind ≡ [] → Reached before views at
+    → (all : List Message) → ShowAll all views → (trace : Trace) × Passed before at.now trace × AllAnswered all trace
+reached_all before views at nothing reached all shown =
     let r = reached all shown in
-    (r.0, r.1, r.2, r.3, r.4, progress_done all account before.random now.random r.1 r.0 count r.5)
+    let p = r.2 in
+    let whole : p.done ≡ all =
+    sym (p.parts ∙ ap (λ x. p.done ++ x) (shown_none p.rest (subst (ShowAll p.rest) nothing p.shown))
+    ∙ append-nil p.done) in (
+      r.0,
+      r.1,
+      record {
+        brought = p.brought;
+        turns = subst (λ d. Turns [] d p.brought) whole p.turns;
+        accepted = turns_legal [] p.done p.brought p.turns;
+        told = p.told;
+        random = p.random;
+        writes = p.writes;
+      },
+    )

@@ -1,14 +1,8 @@
-pub mod Heads
-pub mod Messages
-pub mod Fronts
-pub mod Asks
-pub mod Gives
-pub mod Shown
-pub mod Framed
+pub mod Outside
+pub mod Replies
 pub mod Answer
 pub mod Turns
-pub mod Replies
 pub mod Status
-pub mod Ran
 pub mod Streams
+pub mod Ran
 pub mod Accounts

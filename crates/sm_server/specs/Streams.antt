@@ -1,11 +1,25 @@
 -- The messages that were split from a stream.
-use Rattle.std.specs.Prelude.{◌≡◌, ℕ, List, [], ◌∷◌, ◌++◌, ⊤}
-use Rattle.sm_server.specs.declared.message.MessageView.{MessageView}
+use Rattle.std.specs.Prelude.{◌≡◌, ℕ, ◌≤◌, List, [], ◌∷◌, ◌++◌, length, ⊤}
+use Rattle.sm_http.specs.declared.message.MessageView.{MessageView}
+use Rattle.sm_http.specs.Fronts.{Shows}
+use Rattle.sm_http.specs.Messages.{Message, End, Closing, Bad, Rest, Messages}
 use Rattle.sm_server.specs.declared.stream.SplitFault.{SplitFault}
 use Rattle.sm_server.specs.declared.stream.SplitFault.TheVariants.{NoStream, Memory}
-use Rattle.sm_server.specs.Fronts.{Shows}
-use Rattle.sm_server.specs.Messages.{Message, End, Messages}
-use Rattle.sm_server.specs.Ran.{EndsWell}
+
+-- how many messages are answered at most
+abbrev pub message_limit : ℕ
+message_limit = 1000
+
+-- the stream ends after a whole message
+abbrev pub EndsWell : End → Type 0
+EndsWell Closing = Unit {0}
+EndsWell (Bad kind at) = ⊥
+EndsWell (Rest n) = n ≡ 0
+
+-- the input is these whole messages, and few enough of them
+abbrev pub IsStream : List ℕ → List Message → Type 0
+IsStream input messages = (length messages ≤ message_limit)
+    × ((end : End) × Messages input 0 messages end × EndsWell end)
 
 -- each is what the server looks at in the message of its place
 abbrev pub ShowAll : List Message → List MessageView → Type 0
@@ -28,4 +42,5 @@ pub record Seen (bytes rest : List ℕ) (views : List MessageView) : Type 0 wher
   pub messages : List Message
   pub shown : ShowAll messages views
   pub goes : (more : List Message) → AreWhole rest more → AreWhole bytes (messages ++ more)
-  pub only : (all : List Message) → AreWhole bytes all → (more : List Message) × (all ≡ messages ++ more) × AreWhole rest more
+  pub only : (all : List Message) → AreWhole bytes all → (more : List Message) × (all ≡ messages ++ more)
+      × AreWhole rest more

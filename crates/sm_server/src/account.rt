@@ -1,20 +1,20 @@
 //! The account of a run: its secrets, and the moment of its last entry.
-ghost use Rattle.std.specs.Prelude.{◌≡◌, Option, IfSome, OnOk, OnErr, None, length};
-ghost use Rattle.sm_core.specs.Forms.{forms_of};
+ghost use Rattle.std.specs.Prelude.{◌≡◌, ◌≤◌, Option, IfSome, OnOk, OnErr, None, length};
+ghost use Rattle.sm_base.specs.declared.moment.TheConstants.{LAST_READING};
 ghost use Rattle.sm_core.specs.Histories.{later};
-ghost use Rattle.sm_core.specs.Judging.{judgement, IfChange};
-ghost use Rattle.sm_model.specs.declared.entry.Entry.{Entry};
+ghost use Rattle.sm_core.specs.Judging.{judgement};
+ghost use Rattle.sm_forms.specs.Forms.{forms_of};
+ghost use Rattle.sm_judging.specs.Judged.{IfChange};
 ghost use Rattle.sm_model.specs.Needed.{needed};
-ghost use Rattle.sm_server.specs.Accounts.{Changes, AnswersSo, CarriesOut, no_account};
-ghost use Rattle.sm_server.specs.Answer.{answer_judged, answer_unless};
+ghost use Rattle.sm_server.specs.Accounts.{IsSound, Brings, CarriesOut, no_account};
+ghost use Rattle.sm_server.specs.Answer.{root_key, answer_judged, answer_unless};
 ghost use Rattle.sm_table.specs.Changes.{changed, CanMake, StandsAt};
-ghost use Rattle.sm_table.specs.Kept.{RowsKept, ChangeKept};
+ghost use Rattle.sm_table.specs.Sound.{ChangeSound};
 ghost use Rattle.sm_table.specs.Sweep.{sweep};
 
-use crate::refusal::refusal;
-use crate::reply::{Answered, shown};
+use crate::reply::{MadeReply, render_refusal, render_reply};
 use sm_core::{Judged, forms, judge};
-use sm_model::{Change, Moment, NoMemory, Person, Reply, Request, Text, Why};
+use sm_model::{Change, Moment, NoMemory, Person, Reply, Request, Text};
 use sm_table::Table;
 use std::alloc::Global;
 
@@ -39,7 +39,9 @@ impl Account {
 
     /// The greater of the last entry's moment and a reading of the clock.
     pub fn moment(&self, now: Moment) -> Moment
-        ensures { result ≡ later self.now.last now }
+        requires { now.0 ≤ LAST_READING }
+        ensures later { result ≡ later self.now.last now }
+        ensures bound { self.now.last.0 ≤ LAST_READING → result.0 ≤ LAST_READING }
     {
         Moment(self.last.0.max(now.0))
     }
@@ -47,13 +49,18 @@ impl Account {
 
 /// Makes a change, for want of memory not at all.
 fn commit(account: &mut Account, change: Change, moment: Moment) -> Result<(), NoMemory>
-    requires kept { RowsKept account.old.table }
+    requires sound { IsSound account.old }
     requires can { CanMake account.old.table change }
     requires stands { StandsAt account.old.table moment change }
-    requires change_kept { ChangeKept change }
-    ensures ok { OnOk result (account.new ≡ record { table = changed (sweep account.old.table moment) change; last = moment }) }
+    requires change_sound { ChangeSound (sweep account.old.table moment) change }
+    requires bound { moment.0 ≤ LAST_READING }
+    ensures ok { OnOk result (account.new ≡ record {
+      table = changed (sweep account.old.table moment) change;
+      last =
+          moment;
+    }) }
     ensures err { OnErr result (account.new ≡ account.old) }
-    ensures kept { RowsKept account.new.table }
+    ensures sound { IsSound account.new }
 {
     let prepared = account.table.prepare(change)?;
     account.table.commit(prepared, moment);
@@ -62,26 +69,27 @@ fn commit(account: &mut Account, change: Change, moment: Moment) -> Result<(), N
 }
 
 /// Makes the change of an accepted request, if there is one, and answers it.
-fn accepted(
+fn commit_and_reply(
     alloc: Global,
     account: &mut Account,
     reply: &Reply,
     change: Option<Change>,
     moment: Moment,
-) -> Result<Answered, NoMemory>
-    requires kept { RowsKept account.old.table }
+) -> Result<MadeReply, NoMemory>
+    requires sound { IsSound account.old }
     requires can { IfSome change (CanMake account.old.table) }
     requires stands { IfSome change (StandsAt account.old.table moment) }
-    requires change_kept { IfSome change ChangeKept }
+    requires change_sound { IfSome change (ChangeSound (sweep account.old.table moment)) }
+    requires bound { moment.0 ≤ LAST_READING }
     ensures done { CarriesOut account.old account.new (Judged.Accept reply.now change) moment result }
-    ensures kept { RowsKept account.new.table }
+    ensures sound { IsSound account.new }
 {
     match change {
         Some(change) => {
             commit(account, change, moment)?;
-            shown(alloc, reply)
+            render_reply(alloc, reply)
         }
-        None => shown(alloc, reply),
+        None => render_reply(alloc, reply),
     }
 }
 
@@ -91,60 +99,69 @@ fn carry_out(
     account: &mut Account,
     judged: Judged,
     moment: Moment,
-) -> Result<Answered, NoMemory>
-    requires kept { RowsKept account.old.table }
+) -> Result<MadeReply, NoMemory>
+    requires sound { IsSound account.old }
     requires can { IfChange judged (CanMake account.old.table) }
     requires stands { IfChange judged (StandsAt account.old.table moment) }
-    requires change_kept { IfChange judged ChangeKept }
+    requires change_sound { IfChange judged (ChangeSound (sweep account.old.table moment)) }
+    requires bound { moment.0 ≤ LAST_READING }
     ensures done { CarriesOut account.old account.new judged moment result }
-    ensures kept { RowsKept account.new.table }
+    ensures sound { IsSound account.new }
 {
     match judged {
-        Judged::Accept(reply, change) => accepted(alloc, account, &reply, change, moment),
-        Judged::Refuse(why) => refusal(alloc, &why),
+        Judged::Accept(reply, change) => commit_and_reply(alloc, account, &reply, change, moment),
+        Judged::Refuse(why) => render_refusal(alloc, &why),
         Judged::Memory => Err(NoMemory),
     }
 }
 
 /// Answers a request whose members are in their forms, at a moment and with the bytes that were drawn for it.
-fn judged(
+fn judge_and_commit(
     alloc: Global,
     account: &mut Account,
     request: &Request,
     moment: Moment,
     drawn: &[u8],
-) -> Result<Answered, NoMemory>
-    requires kept { RowsKept account.old.table }
+) -> Result<MadeReply, NoMemory>
+    requires sound { IsSound account.old }
     requires forms { forms_of request.now ≡ None }
+    requires bound { moment.0 ≤ LAST_READING }
     requires drawn { length drawn.now ≡ needed request.now }
-    ensures { (made : Option Entry) × Changes account.old account.new made
-        × AnswersSo result (answer_judged moment drawn.now request.now (judgement account.old.table moment drawn.now request.now)) made }
+    ensures brings { Brings account.old account.new result
+        (answer_judged (record { moment = moment; drawn = drawn.now }) request.now
+        (judgement account.old.table moment drawn.now request.now)) }
+    ensures sound { IsSound account.new }
 {
-    let judged = judge(alloc, &account.table, &root(), moment, drawn, request);
+    let person = root();
+    let judged = judge(alloc, &account.table, &person, moment, drawn, request);
     carry_out(alloc, account, judged, moment)
 }
 
 /// Answers a request at a moment, with the bytes that were drawn for it.
-pub fn answered(
+pub fn answer_request(
     alloc: Global,
     account: &mut Account,
     request: &Request,
     moment: Moment,
     drawn: &[u8],
-) -> Result<Answered, NoMemory>
-    requires kept { RowsKept account.old.table }
+) -> Result<MadeReply, NoMemory>
+    requires sound { IsSound account.old }
+    requires bound { moment.0 ≤ LAST_READING }
     requires drawn { length drawn.now ≡ needed request.now }
-    ensures { (made : Option Entry) × Changes account.old account.new made
-        × AnswersSo result (answer_unless (forms_of request.now) account.old.table moment drawn.now request.now) made }
+    ensures { Brings account.old account.new result
+        (answer_unless (forms_of request.now) account.old.table
+        (record { moment = moment; drawn = drawn.now }) request.now) }
 {
-    match forms(request) {
-        Some(why) => refusal(alloc, &why),
-        None => judged(alloc, account, request, moment, drawn),
+    match forms(alloc, request) {
+        Some(why) => render_refusal(alloc, &why),
+        None => judge_and_commit(alloc, account, request, moment, drawn),
     }
 }
 
 /// The person who may do everything, as whom every caller is taken.
-fn root() -> Person {
+fn root() -> Person
+    ensures { result.key ≡ root_key }
+{
     Person {
         key: Text::fixed(""),
         arn: Text::fixed("arn:aws:iam::000000000000:root"),

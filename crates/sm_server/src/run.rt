@@ -1,21 +1,19 @@
 //! The top call over one stream.
-ghost use Rattle.std.specs.Prelude.{◌≡◌, ℕ, ◌≤◌, List, map, string_bytes};
-ghost use Rattle.std.specs.Io.KnownBytes.{append_known};
+ghost use Rattle.std.specs.Prelude.{◌≡◌, ◌≤◌, List, None, map, string_bytes};
 ghost use Rattle.std.specs.Str.{bytes_eq};
-ghost use Rattle.sm_server.specs.Framed.{framed, framed_answer, Sends};
-ghost use Rattle.sm_server.specs.Messages.{Message};
+ghost use Rattle.sm_http.specs.Framed.{Sends};
+ghost use Rattle.sm_http.specs.Messages.{Message};
+ghost use Rattle.sm_server.specs.Outside.{Trace, Passed};
 ghost use Rattle.sm_server.specs.Ran.{Ran, are_words, Answers, AnswersAll};
-ghost use Rattle.sm_server.specs.Replies.{reply_made};
+ghost use Rattle.sm_server.specs.Replies.{reply_made, framed_answer, unavailable};
 ghost use Rattle.sm_server.specs.Streams.{ShowAll};
-ghost use Rattle.sm_server.specs.Turns.{Told, unavailable};
 
 use crate::account::Account;
-use crate::message::MessageView;
-use crate::reply::Answered;
+use crate::reply::MadeReply;
 use crate::status::Status;
 use crate::stream::{SplitFault, split};
-use crate::turn::turn;
-use crate::write::{Sent, write};
+use crate::turn::take_turn;
+use sm_http::{MessageView, Piece, Sent, write_through};
 use sm_io::{Clock, ReadEnd, Sink, Source, Words, read_to};
 use sm_model::NoMemory;
 use std::alloc::Global;
@@ -42,18 +40,22 @@ pub fn run_once<Q: Source, K: Sink, C: Clock, W: Words>(
           taken = K.taken sink.old;
           readings = C.readings clock.old;
           drawn = W.drawn random.old;
-          source = Q.source_faults source.old;
-          sink = K.sink_faults sink.old;
-          random = W.faults random.old;
+          counts = record {
+            source = Q.source_faults source.old;
+            sink = K.sink_faults sink.old;
+            random = W.faults random.old;
+          };
         })
         (record {
           left = Q.left source.new;
           taken = K.taken sink.new;
           readings = C.readings clock.new;
           drawn = W.drawn random.new;
-          source = Q.source_faults source.new;
-          sink = K.sink_faults sink.new;
-          random = W.faults random.new;
+          counts = record {
+            source = Q.source_faults source.new;
+            sink = K.sink_faults sink.new;
+            random = W.faults random.new;
+          };
         }) }
     ensures source_later { Q.source_faults source.old ≤ Q.source_faults source.new }
     ensures sink_later { K.sink_faults sink.old ≤ K.sink_faults sink.new }
@@ -97,11 +99,24 @@ fn answer_input<K: Sink, C: Clock, W: Words>(
     clock: &mut C,
     random: &mut W,
 ) -> Status
-    ensures answered { (written : List ℕ) × (told : Told)
-        × (K.taken sink.new ≡ append_known (K.taken sink.old) written)
-        × (C.readings clock.new ≡ append_known (C.readings clock.old) told.readings)
-        × (W.drawn random.new ≡ append_known (W.drawn random.old) told.drawn)
-        × Answers result input.now written told (K.sink_faults sink.old) (K.sink_faults sink.new) (W.faults random.old) (W.faults random.new) }
+    ensures answered { (trace : Trace)
+        × Passed
+        (record {
+          left = None;
+          taken = K.taken sink.old;
+          readings = C.readings clock.old;
+          drawn = W.drawn random.old;
+          counts = record { source = 0; sink = K.sink_faults sink.old; random = W.faults random.old };
+        })
+        (record {
+          left = None;
+          taken = K.taken sink.new;
+          readings = C.readings clock.new;
+          drawn = W.drawn random.new;
+          counts = record { source = 0; sink = K.sink_faults sink.new; random = W.faults random.new };
+        })
+        trace
+        × Answers result input.now trace }
     ensures sink_later { K.sink_faults sink.old ≤ K.sink_faults sink.new }
     ensures random_later { W.faults random.old ≤ W.faults random.new }
 {
@@ -120,19 +135,33 @@ fn answer_all<K: Sink, C: Clock, W: Words>(
     clock: &mut C,
     random: &mut W,
 ) -> Status
-    ensures answered { (all : List Message) → ShowAll all messages.now → (written : List ℕ) × (told : Told)
-        × (K.taken sink.new ≡ append_known (K.taken sink.old) written)
-        × (C.readings clock.new ≡ append_known (C.readings clock.old) told.readings)
-        × (W.drawn random.new ≡ append_known (W.drawn random.old) told.drawn)
-        × AnswersAll result all written told (K.sink_faults sink.old) (K.sink_faults sink.new) (W.faults random.old) (W.faults random.new) }
+    ensures answered { (all : List Message) → ShowAll all messages.now → (trace : Trace)
+        × Passed
+        (record {
+          left = None;
+          taken = K.taken sink.old;
+          readings = C.readings clock.old;
+          drawn = W.drawn random.old;
+          counts = record { source = 0; sink = K.sink_faults sink.old; random = W.faults random.old };
+        })
+        (record {
+          left = None;
+          taken = K.taken sink.new;
+          readings = C.readings clock.new;
+          drawn = W.drawn random.new;
+          counts = record { source = 0; sink = K.sink_faults sink.new; random = W.faults random.new };
+        })
+        trace
+        × AnswersAll result all trace }
     ensures sink_later { K.sink_faults sink.old ≤ K.sink_faults sink.new }
     ensures random_later { W.faults random.old ≤ W.faults random.new }
 {
     let mut account = Account::new(alloc);
+    let mut piece = Piece::new();
     let mut count: u64 = 0;
     for message in messages {
-        let reply = turn(alloc, &mut account, message, clock, random);
-        let sent = send(sink, &reply);
+        let reply = take_turn(alloc, &mut account, message, clock, random);
+        let sent = send(sink, &mut piece, &reply);
         count = count.saturating_add(sent.taken);
         if !sent.whole {
             return Status::SinkFault(count);
@@ -142,20 +171,22 @@ fn answer_all<K: Sink, C: Clock, W: Words>(
 }
 
 /// Writes a reply, or the one that stands for want of memory.
-fn send<K: Sink>(sink: &mut K, reply: &Result<Answered, NoMemory>) -> Sent
-    ensures sent { Sends result (framed_answer (reply_made reply.now)) (K.taken sink.old) (K.taken sink.new) (K.sink_faults sink.old) (K.sink_faults sink.new) }
+fn send<K: Sink>(sink: &mut K, piece: &mut Piece, reply: &Result<MadeReply, NoMemory>) -> Sent
+    ensures sent { Sends result (framed_answer (reply_made reply.now)) (K.taken sink.old) (K.taken sink.new)
+        (K.sink_faults sink.old) (K.sink_faults sink.new) }
     ensures later { K.sink_faults sink.old ≤ K.sink_faults sink.new }
 {
     match reply {
-        Ok(reply) => write(sink, reply.status, reply.body.as_slice()),
-        Err(_) => send_unavailable(sink),
+        Ok(reply) => write_through(sink, piece, reply.status, reply.body.as_slice()),
+        Err(_) => send_unavailable(sink, piece),
     }
 }
 
 /// Writes the reply for want of memory. It takes none.
-fn send_unavailable<K: Sink>(sink: &mut K) -> Sent
-    ensures sent { Sends result (framed_answer unavailable) (K.taken sink.old) (K.taken sink.new) (K.sink_faults sink.old) (K.sink_faults sink.new) }
+fn send_unavailable<K: Sink>(sink: &mut K, piece: &mut Piece) -> Sent
+    ensures sent { Sends result (framed_answer unavailable) (K.taken sink.old) (K.taken sink.new)
+        (K.sink_faults sink.old) (K.sink_faults sink.new) }
     ensures later { K.sink_faults sink.old ≤ K.sink_faults sink.new }
 {
-    write(sink, 503, UNAVAILABLE)
+    write_through(sink, piece, 503, UNAVAILABLE)
 }

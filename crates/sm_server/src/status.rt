@@ -2,32 +2,53 @@
 ghost use Rattle.std.specs.Prelude.{◌≡◌};
 ghost use Rattle.sm_server.specs.Status.{code_of};
 
-/// How a top call ended.
+/// How a top call ended. Damaged, OpenFault, People, EdgeFault, Cut, BadMessage and Enough are not met yet.
 #[derive(Clone, Copy, Debug, PartialEq, Eq)]
 pub enum Status {
     Done,
     /// The words are not ones that are taken.
     Words,
+    /// The journal is damaged: at this byte, in the entry of this number, counted from 0.
+    Damaged(u64, u64),
+    /// The disk failed when the account was opened.
+    OpenFault,
     /// There was no memory to read the messages.
     Memory,
+    /// The text of the people is wrong at this byte.
+    People(u64),
     /// The sink failed after so many bytes of the replies.
     SinkFault(u64),
     SourceFault,
+    /// The edge failed, from which connections come.
+    EdgeFault,
+    /// The source ended with so many bytes that are no whole message.
+    Cut(u64),
+    /// A message is wrong, whose first byte has this number, counted from 0.
+    BadMessage(u64),
+    /// As many messages were answered as are answered at most.
+    Enough,
     /// What was asked for is not built yet.
     NotBuilt,
 }
 
 impl Status {
-    /// The exit code of a program that ends so.
+    /// The exit code of a program that ends so: 0, or 2 to 13.
     pub fn code(self) -> u8
         ensures { result ≡ code_of self }
     {
         match self {
             Status::Done => 0,
             Status::Words => 2,
+            Status::Damaged(_, _) => 3,
+            Status::OpenFault => 4,
             Status::Memory => 5,
+            Status::People(_) => 6,
             Status::SinkFault(_) => 7,
             Status::SourceFault => 8,
+            Status::EdgeFault => 9,
+            Status::Cut(_) => 10,
+            Status::BadMessage(_) => 11,
+            Status::Enough => 12,
             Status::NotBuilt => 13,
         }
     }

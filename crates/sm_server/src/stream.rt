@@ -1,10 +1,9 @@
 //! The messages of a stream, all of which is there.
 ghost use Rattle.std.specs.Prelude.{ℕ, ◌≤◌, List, length, IfOk, IfErr};
-ghost use Rattle.sm_server.specs.Messages.{Message};
-ghost use Rattle.sm_server.specs.Ran.{IsStream};
-ghost use Rattle.sm_server.specs.Streams.{ShowAll, OnNoStream};
+ghost use Rattle.sm_http.specs.Messages.{Message};
+ghost use Rattle.sm_server.specs.Streams.{IsStream, ShowAll, OnNoStream};
 
-use crate::message::{Front, MessageView, front_of};
+use sm_http::{Front, MessageView, field_room, front_of};
 use sm_model::NoMemory;
 use std::alloc::{AllocFailed, Global};
 
@@ -32,16 +31,19 @@ impl<T: Drop> From<AllocFailed<T>> for SplitFault {
 
 /// The whole messages that the bytes are, one after the other.
 pub fn split(alloc: Global, bytes: &[u8]) -> Result<Vec<MessageView<'_>>, SplitFault>
-    ensures found { IfOk result (λ seen. (messages : List Message) × IsStream bytes.now messages × ShowAll messages seen.items) }
-    ensures none { IfErr result (λ fault. OnNoStream fault ((messages : List Message) → IsStream bytes.now messages → ⊥)) }
+    ensures found { IfOk result (λ seen. (messages : List Message) × IsStream bytes.now messages
+        × ShowAll messages seen.items) }
+    ensures none { IfErr result (λ fault.
+        OnNoStream fault ((messages : List Message) → IsStream bytes.now messages → ⊥)) }
 {
     let mut messages = Vec::new(alloc);
+    let mut room = field_room();
     let mut rest = bytes;
     for count in 0..MESSAGE_LIMIT {
         if rest.is_empty() {
             return Ok(messages);
         }
-        match front_of(rest) {
+        match front_of(rest, &mut room) {
             Front::Whole(message, used) => {
                 let closing = message.closing;
                 messages.push(message)?;

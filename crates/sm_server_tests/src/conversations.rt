@@ -23,7 +23,8 @@ const APP: &str =
     r#"{"Name":"db/app","SecretString":"s3cret","ClientRequestToken":"11111111-1111-4111-8111-111111111111"}"#;
 
 const APP_CREATED: &str =
-    r#"{"ARN":"arn:aws:secretsmanager:us-east-1:000000000000:secret:db/app-ABCDEF","Name":"db/app","VersionId":"11111111-1111-4111-8111-111111111111"}"#;
+    "{\"ARN\":\"arn:aws:secretsmanager:us-east-1:000000000000:secret:db/app-ABCDEF\",\"Name\":\"db/app\",\
+        \"VersionId\":\"11111111-1111-4111-8111-111111111111\"}";
 
 const APP_NAMED: &str =
     r#"{"ARN":"arn:aws:secretsmanager:us-east-1:000000000000:secret:db/app-ABCDEF","Name":"db/app"}"#;
@@ -32,13 +33,15 @@ const PUT_B: &str =
     r#"{"SecretId":"db/app","SecretString":"b","ClientRequestToken":"22222222-2222-4222-8222-222222222222"}"#;
 
 const PUT_B_DONE: &str =
-    r#"{"ARN":"arn:aws:secretsmanager:us-east-1:000000000000:secret:db/app-ABCDEF","Name":"db/app","VersionId":"22222222-2222-4222-8222-222222222222","VersionStages":["AWSCURRENT"]}"#;
+    "{\"ARN\":\"arn:aws:secretsmanager:us-east-1:000000000000:secret:db/app-ABCDEF\",\"Name\":\"db/app\",\
+        \"VersionId\":\"22222222-2222-4222-8222-222222222222\",\"VersionStages\":[\"AWSCURRENT\"]}";
 
 const PUT_C: &str =
     r#"{"SecretId":"db/app","SecretString":"c","ClientRequestToken":"33333333-3333-4333-8333-333333333333"}"#;
 
 const PUT_C_DONE: &str =
-    r#"{"ARN":"arn:aws:secretsmanager:us-east-1:000000000000:secret:db/app-ABCDEF","Name":"db/app","VersionId":"33333333-3333-4333-8333-333333333333","VersionStages":["AWSCURRENT"]}"#;
+    "{\"ARN\":\"arn:aws:secretsmanager:us-east-1:000000000000:secret:db/app-ABCDEF\",\"Name\":\"db/app\",\
+        \"VersionId\":\"33333333-3333-4333-8333-333333333333\",\"VersionStages\":[\"AWSCURRENT\"]}";
 
 const NOT_FOUND: &str = r#"{"Message":"secret not found","__type":"ResourceNotFoundException"}"#;
 
@@ -52,7 +55,9 @@ const TWICE: [Exchange; 3] = [
         GET,
         r#"{"SecretId":"db/app"}"#,
         OK,
-        r#"{"ARN":"arn:aws:secretsmanager:us-east-1:000000000000:secret:db/app-ABCDEF","CreatedDate":1700000000,"Name":"db/app","SecretString":"s3cret","VersionId":"11111111-1111-4111-8111-111111111111","VersionStages":["AWSCURRENT"]}"#,
+        "{\"ARN\":\"arn:aws:secretsmanager:us-east-1:000000000000:secret:db/app-ABCDEF\",\"CreatedDate\":1700000000,\
+            \"Name\":\"db/app\",\"SecretString\":\"s3cret\",\"VersionId\":\"11111111-1111-4111-8111-111111111111\",\
+            \"VersionStages\":[\"AWSCURRENT\"]}",
     ),
 ];
 
@@ -69,13 +74,15 @@ const OTHER_VALUES: [Exchange; 4] = [
         PUT,
         r#"{"SecretId":"db/app","SecretString":"other","ClientRequestToken":"11111111-1111-4111-8111-111111111111"}"#,
         BAD,
-        r#"{"Message":"version 11111111-1111-4111-8111-111111111111 has another value","__type":"ResourceExistsException"}"#,
+        "{\"Message\":\"version 11111111-1111-4111-8111-111111111111 has another value\",\
+            \"__type\":\"ResourceExistsException\"}",
     ),
     (
         PUT,
         r#"{"SecretId":"db/app","SecretString":"s3cret","ClientRequestToken":"11111111-1111-4111-8111-111111111111"}"#,
         OK,
-        r#"{"ARN":"arn:aws:secretsmanager:us-east-1:000000000000:secret:db/app-ABCDEF","Name":"db/app","VersionId":"11111111-1111-4111-8111-111111111111","VersionStages":["AWSCURRENT"]}"#,
+        "{\"ARN\":\"arn:aws:secretsmanager:us-east-1:000000000000:secret:db/app-ABCDEF\",\"Name\":\"db/app\",\
+            \"VersionId\":\"11111111-1111-4111-8111-111111111111\",\"VersionStages\":[\"AWSCURRENT\"]}",
     ),
 ];
 
@@ -90,15 +97,19 @@ const EMPTY: [Exchange; 4] = [
     (GET, r#"{"SecretId":"empty"}"#, BAD, NO_VERSION),
     (
         PUT,
-        r#"{"SecretId":"empty","SecretString":"v","ClientRequestToken":"11111111-1111-4111-8111-111111111111","VersionStages":["AWSPENDING"]}"#,
+        "{\"SecretId\":\"empty\",\"SecretString\":\"v\",\
+            \"ClientRequestToken\":\"11111111-1111-4111-8111-111111111111\",\"VersionStages\":[\"AWSPENDING\"]}",
         OK,
-        r#"{"ARN":"arn:aws:secretsmanager:us-east-1:000000000000:secret:empty-ABCDEF","Name":"empty","VersionId":"11111111-1111-4111-8111-111111111111","VersionStages":["AWSCURRENT","AWSPENDING"]}"#,
+        "{\"ARN\":\"arn:aws:secretsmanager:us-east-1:000000000000:secret:empty-ABCDEF\",\"Name\":\"empty\",\
+            \"VersionId\":\"11111111-1111-4111-8111-111111111111\",\"VersionStages\":[\"AWSCURRENT\",\"AWSPENDING\"]}",
     ),
     (
         GET,
         r#"{"SecretId":"arn:aws:secretsmanager:us-east-1:000000000000:secret:empty","VersionStage":"AWSPENDING"}"#,
         OK,
-        r#"{"ARN":"arn:aws:secretsmanager:us-east-1:000000000000:secret:empty-ABCDEF","CreatedDate":1700000000,"Name":"empty","SecretString":"v","VersionId":"11111111-1111-4111-8111-111111111111","VersionStages":["AWSCURRENT","AWSPENDING"]}"#,
+        "{\"ARN\":\"arn:aws:secretsmanager:us-east-1:000000000000:secret:empty-ABCDEF\",\"CreatedDate\":1700000000,\
+            \"Name\":\"empty\",\"SecretString\":\"v\",\"VersionId\":\"11111111-1111-4111-8111-111111111111\",\
+            \"VersionStages\":[\"AWSCURRENT\",\"AWSPENDING\"]}",
     ),
 ];
 
@@ -111,19 +122,25 @@ const THREE_VERSIONS: [Exchange; 6] = [
         GET,
         r#"{"SecretId":"db/app","VersionStage":"AWSPREVIOUS"}"#,
         OK,
-        r#"{"ARN":"arn:aws:secretsmanager:us-east-1:000000000000:secret:db/app-ABCDEF","CreatedDate":1700000000,"Name":"db/app","SecretString":"b","VersionId":"22222222-2222-4222-8222-222222222222","VersionStages":["AWSPREVIOUS"]}"#,
+        "{\"ARN\":\"arn:aws:secretsmanager:us-east-1:000000000000:secret:db/app-ABCDEF\",\"CreatedDate\":1700000000,\
+            \"Name\":\"db/app\",\"SecretString\":\"b\",\"VersionId\":\"22222222-2222-4222-8222-222222222222\",\
+            \"VersionStages\":[\"AWSPREVIOUS\"]}",
     ),
     (
         GET,
         r#"{"SecretId":"db/app"}"#,
         OK,
-        r#"{"ARN":"arn:aws:secretsmanager:us-east-1:000000000000:secret:db/app-ABCDEF","CreatedDate":1700000000,"Name":"db/app","SecretString":"c","VersionId":"33333333-3333-4333-8333-333333333333","VersionStages":["AWSCURRENT"]}"#,
+        "{\"ARN\":\"arn:aws:secretsmanager:us-east-1:000000000000:secret:db/app-ABCDEF\",\"CreatedDate\":1700000000,\
+            \"Name\":\"db/app\",\"SecretString\":\"c\",\"VersionId\":\"33333333-3333-4333-8333-333333333333\",\
+            \"VersionStages\":[\"AWSCURRENT\"]}",
     ),
     (
         GET,
         r#"{"SecretId":"db/app","VersionId":"11111111-1111-4111-8111-111111111111"}"#,
         OK,
-        r#"{"ARN":"arn:aws:secretsmanager:us-east-1:000000000000:secret:db/app-ABCDEF","CreatedDate":1700000000,"Name":"db/app","SecretString":"s3cret","VersionId":"11111111-1111-4111-8111-111111111111","VersionStages":[]}"#,
+        "{\"ARN\":\"arn:aws:secretsmanager:us-east-1:000000000000:secret:db/app-ABCDEF\",\"CreatedDate\":1700000000,\
+            \"Name\":\"db/app\",\"SecretString\":\"s3cret\",\"VersionId\":\"11111111-1111-4111-8111-111111111111\",\
+            \"VersionStages\":[]}",
     ),
 ];
 
@@ -134,19 +151,24 @@ const MOVES: [Exchange; 10] = [
     (PUT, PUT_C, OK, PUT_C_DONE),
     (
         MOVE,
-        r#"{"SecretId":"db/app","VersionStage":"AWSCURRENT","RemoveFromVersionId":"33333333-3333-4333-8333-333333333333"}"#,
+        "{\"SecretId\":\"db/app\",\"VersionStage\":\"AWSCURRENT\",\
+            \"RemoveFromVersionId\":\"33333333-3333-4333-8333-333333333333\"}",
         BAD,
         r#"{"Message":"AWSCURRENT can be moved but not removed","__type":"InvalidParameterException"}"#,
     ),
     (
         MOVE,
-        r#"{"SecretId":"db/app","VersionStage":"AWSCURRENT","MoveToVersionId":"11111111-1111-4111-8111-111111111111","RemoveFromVersionId":"22222222-2222-4222-8222-222222222222"}"#,
+        "{\"SecretId\":\"db/app\",\"VersionStage\":\"AWSCURRENT\",\
+            \"MoveToVersionId\":\"11111111-1111-4111-8111-111111111111\",\
+            \"RemoveFromVersionId\":\"22222222-2222-4222-8222-222222222222\"}",
         BAD,
         r#"{"Message":"label is held by 33333333-3333-4333-8333-333333333333","__type":"InvalidParameterException"}"#,
     ),
     (
         MOVE,
-        r#"{"SecretId":"db/app","VersionStage":"AWSCURRENT","MoveToVersionId":"11111111-1111-4111-8111-111111111111","RemoveFromVersionId":"33333333-3333-4333-8333-333333333333"}"#,
+        "{\"SecretId\":\"db/app\",\"VersionStage\":\"AWSCURRENT\",\
+            \"MoveToVersionId\":\"11111111-1111-4111-8111-111111111111\",\
+            \"RemoveFromVersionId\":\"33333333-3333-4333-8333-333333333333\"}",
         OK,
         APP_NAMED,
     ),
@@ -154,23 +176,30 @@ const MOVES: [Exchange; 10] = [
         GET,
         r#"{"SecretId":"db/app"}"#,
         OK,
-        r#"{"ARN":"arn:aws:secretsmanager:us-east-1:000000000000:secret:db/app-ABCDEF","CreatedDate":1700000000,"Name":"db/app","SecretString":"s3cret","VersionId":"11111111-1111-4111-8111-111111111111","VersionStages":["AWSCURRENT"]}"#,
+        "{\"ARN\":\"arn:aws:secretsmanager:us-east-1:000000000000:secret:db/app-ABCDEF\",\"CreatedDate\":1700000000,\
+            \"Name\":\"db/app\",\"SecretString\":\"s3cret\",\"VersionId\":\"11111111-1111-4111-8111-111111111111\",\
+            \"VersionStages\":[\"AWSCURRENT\"]}",
     ),
     (
         GET,
         r#"{"SecretId":"db/app","VersionStage":"AWSPREVIOUS"}"#,
         OK,
-        r#"{"ARN":"arn:aws:secretsmanager:us-east-1:000000000000:secret:db/app-ABCDEF","CreatedDate":1700000000,"Name":"db/app","SecretString":"c","VersionId":"33333333-3333-4333-8333-333333333333","VersionStages":["AWSPREVIOUS"]}"#,
+        "{\"ARN\":\"arn:aws:secretsmanager:us-east-1:000000000000:secret:db/app-ABCDEF\",\"CreatedDate\":1700000000,\
+            \"Name\":\"db/app\",\"SecretString\":\"c\",\"VersionId\":\"33333333-3333-4333-8333-333333333333\",\
+            \"VersionStages\":[\"AWSPREVIOUS\"]}",
     ),
     (
         GET,
         r#"{"SecretId":"db/app","VersionId":"22222222-2222-4222-8222-222222222222"}"#,
         OK,
-        r#"{"ARN":"arn:aws:secretsmanager:us-east-1:000000000000:secret:db/app-ABCDEF","CreatedDate":1700000000,"Name":"db/app","SecretString":"b","VersionId":"22222222-2222-4222-8222-222222222222","VersionStages":[]}"#,
+        "{\"ARN\":\"arn:aws:secretsmanager:us-east-1:000000000000:secret:db/app-ABCDEF\",\"CreatedDate\":1700000000,\
+            \"Name\":\"db/app\",\"SecretString\":\"b\",\"VersionId\":\"22222222-2222-4222-8222-222222222222\",\
+            \"VersionStages\":[]}",
     ),
     (
         MOVE,
-        r#"{"SecretId":"db/app","VersionStage":"AWSPREVIOUS","RemoveFromVersionId":"33333333-3333-4333-8333-333333333333"}"#,
+        "{\"SecretId\":\"db/app\",\"VersionStage\":\"AWSPREVIOUS\",\
+            \"RemoveFromVersionId\":\"33333333-3333-4333-8333-333333333333\"}",
         OK,
         APP_NAMED,
     ),
@@ -227,7 +256,9 @@ const NOT_THERE: [Exchange; 11] = [
         GET,
         r#"{"SecretId":"db/app"}"#,
         OK,
-        r#"{"ARN":"arn:aws:secretsmanager:us-east-1:000000000000:secret:db/app-ABCDEF","CreatedDate":1700000000,"Name":"db/app","SecretString":"b","VersionId":"22222222-2222-4222-8222-222222222222","VersionStages":["AWSCURRENT"]}"#,
+        "{\"ARN\":\"arn:aws:secretsmanager:us-east-1:000000000000:secret:db/app-ABCDEF\",\"CreatedDate\":1700000000,\
+            \"Name\":\"db/app\",\"SecretString\":\"b\",\"VersionId\":\"22222222-2222-4222-8222-222222222222\",\
+            \"VersionStages\":[\"AWSCURRENT\"]}",
     ),
 ];
 
@@ -236,9 +267,13 @@ const LABELS: [Exchange; 3] = [
     (CREATE, APP, OK, APP_CREATED),
     (
         PUT,
-        r#"{"SecretId":"db/app","SecretString":"b","ClientRequestToken":"22222222-2222-4222-8222-222222222222","VersionStages":["t","s","r","q","p","o","n","m","l","k","j","i","h","g","f","e","d","c","b","a"]}"#,
+        "{\"SecretId\":\"db/app\",\"SecretString\":\"b\",\
+            \"ClientRequestToken\":\"22222222-2222-4222-8222-222222222222\",\"VersionStages\":[\"t\",\"s\",\"r\",\
+            \"q\",\"p\",\"o\",\"n\",\"m\",\"l\",\"k\",\"j\",\"i\",\"h\",\"g\",\"f\",\"e\",\"d\",\"c\",\"b\",\"a\"]}",
         OK,
-        r#"{"ARN":"arn:aws:secretsmanager:us-east-1:000000000000:secret:db/app-ABCDEF","Name":"db/app","VersionId":"22222222-2222-4222-8222-222222222222","VersionStages":["a","b","c","d","e","f","g","h","i","j","k","l","m","n","o","p","q","r","s","t"]}"#,
+        "{\"ARN\":\"arn:aws:secretsmanager:us-east-1:000000000000:secret:db/app-ABCDEF\",\"Name\":\"db/app\",\
+            \"VersionId\":\"22222222-2222-4222-8222-222222222222\",\"VersionStages\":[\"a\",\"b\",\"c\",\"d\",\"e\",\
+            \"f\",\"g\",\"h\",\"i\",\"j\",\"k\",\"l\",\"m\",\"n\",\"o\",\"p\",\"q\",\"r\",\"s\",\"t\"]}",
     ),
     (
         MOVE,
@@ -342,13 +377,15 @@ const DRAWN: [Exchange; 2] = [
         CREATE,
         r#"{"Name":"n","SecretString":"v","Colour":1}"#,
         OK,
-        r#"{"ARN":"arn:aws:secretsmanager:us-east-1:000000000000:secret:n-ABCDEF","Name":"n","VersionId":"06070809-0a0b-4c0d-8e0f-101112131415"}"#,
+        "{\"ARN\":\"arn:aws:secretsmanager:us-east-1:000000000000:secret:n-ABCDEF\",\"Name\":\"n\",\
+            \"VersionId\":\"06070809-0a0b-4c0d-8e0f-101112131415\"}",
     ),
     (
         PUT,
         r#"{"SecretId":"n","SecretString":"w"}"#,
         OK,
-        r#"{"ARN":"arn:aws:secretsmanager:us-east-1:000000000000:secret:n-ABCDEF","Name":"n","VersionId":"16171819-1a1b-4c1d-9e1f-202122232425","VersionStages":["AWSCURRENT"]}"#,
+        "{\"ARN\":\"arn:aws:secretsmanager:us-east-1:000000000000:secret:n-ABCDEF\",\"Name\":\"n\",\
+            \"VersionId\":\"16171819-1a1b-4c1d-9e1f-202122232425\",\"VersionStages\":[\"AWSCURRENT\"]}",
     ),
 ];
 

@@ -159,7 +159,8 @@ fn creates(
         }
         None => {
             let reply = format!(in alloc;
-                "{{\"ARN\":\"arn:aws:secretsmanager:us-east-1:000000000000:secret:{name}-ABCDEF\",\"Name\":\"{name}\",\"VersionId\":\"06070809-0a0b-4c0d-8e0f-101112131415\"}}"
+                "{{\"ARN\":\"arn:aws:secretsmanager:us-east-1:000000000000:secret:{name}-ABCDEF\",\
+                    \"Name\":\"{name}\",\"VersionId\":\"06070809-0a0b-4c0d-8e0f-101112131415\"}}"
             )?;
             add_reply(alloc, &mut output, "200 OK", reply.as_str())?;
         }

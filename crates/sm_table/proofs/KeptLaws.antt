@@ -2,7 +2,7 @@
 use Rattle.std.proofs.Common.{◌≡◌, ℕ, ◌+◌, ◌≤◌, eqb, leb, Bool, true, false, cond, List, [], ◌∷◌, ◌++◌, refl, sym, ap, arith}
 use Rattle.std.proofs.lemmas.Bool.{and_parts, and_from, eqb-true}
 use Rattle.std.proofs.lemmas.Bool.Decides.{nat_tests}
-use Rattle.sm_model.specs.declared.moment.Moment.{Moment}
+use Rattle.sm_base.specs.declared.moment.Moment.{Moment}
 use Rattle.sm_model.specs.declared.entry.Change.{Change}
 use Rattle.sm_model.specs.declared.entry.Change.TheVariants.{Add, Replace, Drop, Nothing}
 use Rattle.sm_model.specs.declared.rows.SecretRow.{SecretRow}
@@ -25,26 +25,34 @@ rises_past low n ns next h =
     let parts = and_parts (leb low n) (rises (n + 1) ns next) h in
     rises_from low (n + 1) ns next (grind (arith, nat_tests, parts.0)) parts.1
 
-rises_on : (low n : ℕ) (ns ms : List ℕ) (next : ℕ) → rises low (n ∷ ns) next ≡ true → (rises (n + 1) ns next ≡ true → rises (n + 1) ms next ≡ true) → rises low (n ∷ ms) next ≡ true
+rises_on : (low n : ℕ) (ns ms : List ℕ) (next : ℕ) → rises low (n ∷ ns) next ≡ true
+    → (rises (n + 1) ns next ≡ true → rises (n + 1) ms next ≡ true) → rises low (n ∷ ms) next ≡ true
 rises_on low n ns ms next h step =
-    let parts = and_parts (leb low n) (rises (n + 1) ns next) h in and_from (leb low n) (rises (n + 1) ms next) parts.0 (step parts.1)
+    let parts = and_parts (leb low n) (rises (n + 1) ns next) h in
+    and_from (leb low n) (rises (n + 1) ms next) parts.0 (step parts.1)
 
-swept_rises : (rows : List SecretRow) (moment : Moment) (low next : ℕ) → rises low (row_serials rows) next ≡ true → rises low (row_serials (swept rows moment)) next ≡ true
+swept_rises : (rows : List SecretRow) (moment : Moment) (low next : ℕ) → rises low (row_serials rows) next ≡ true
+    → rises low (row_serials (swept rows moment)) next ≡ true
 swept_rises [] moment low next h = h
-swept_rises (r ∷ rs) moment low next h = by (is_gone r moment) (swept_rises rs moment low next) (swept_rises rs moment (r.serial + 1) next)
+swept_rises (r ∷ rs) moment low next h =
+    by (is_gone r moment) (swept_rises rs moment low next) (swept_rises rs moment (r.serial + 1) next)
   where
     by : (b : Bool) → (rises low (row_serials rs) next ≡ true → rises low (row_serials (swept rs moment)) next ≡ true)
-        → (rises (r.serial + 1) (row_serials rs) next ≡ true → rises (r.serial + 1) (row_serials (swept rs moment)) next ≡ true)
+        → (rises (r.serial + 1) (row_serials rs) next ≡ true
+        → rises (r.serial + 1) (row_serials (swept rs moment)) next ≡ true)
         → rises low (row_serials (cond b (swept rs moment) (r ∷ swept rs moment))) next ≡ true
     by true gone stays = gone (rises_past low r.serial (row_serials rs) next h)
     by false gone stays = rises_on low r.serial (row_serials rs) (row_serials (swept rs moment)) next h stays
 
-dropped_rises : (rows : List SecretRow) (serial low next : ℕ) → rises low (row_serials rows) next ≡ true → rises low (row_serials (dropped rows serial)) next ≡ true
+dropped_rises : (rows : List SecretRow) (serial low next : ℕ) → rises low (row_serials rows) next ≡ true
+    → rises low (row_serials (dropped rows serial)) next ≡ true
 dropped_rises [] serial low next h = h
-dropped_rises (r ∷ rs) serial low next h = by (eqb r.serial serial) (dropped_rises rs serial low next) (dropped_rises rs serial (r.serial + 1) next)
+dropped_rises (r ∷ rs) serial low next h =
+    by (eqb r.serial serial) (dropped_rises rs serial low next) (dropped_rises rs serial (r.serial + 1) next)
   where
     by : (b : Bool) → (rises low (row_serials rs) next ≡ true → rises low (row_serials (dropped rs serial)) next ≡ true)
-        → (rises (r.serial + 1) (row_serials rs) next ≡ true → rises (r.serial + 1) (row_serials (dropped rs serial)) next ≡ true)
+        → (rises (r.serial + 1) (row_serials rs) next ≡ true
+        → rises (r.serial + 1) (row_serials (dropped rs serial)) next ≡ true)
         → rises low (row_serials (cond b (dropped rs serial) (r ∷ dropped rs serial))) next ≡ true
     by true gone stays = gone (rises_past low r.serial (row_serials rs) next h)
     by false gone stays = rises_on low r.serial (row_serials rs) (row_serials (dropped rs serial)) next h stays
@@ -53,11 +61,13 @@ replaced_serials : (rows : List SecretRow) (row : SecretRow) → row_serials (re
 replaced_serials [] row = refl
 replaced_serials (r ∷ rs) row = by (eqb r.serial row.serial) refl (replaced_serials rs row)
   where
-    by : (b : Bool) → b ≡ eqb r.serial row.serial → row_serials (replaced rs row) ≡ row_serials rs → row_serials (cond b (row ∷ rs) (r ∷ replaced rs row)) ≡ r.serial ∷ row_serials rs
+    by : (b : Bool) → b ≡ eqb r.serial row.serial → row_serials (replaced rs row) ≡ row_serials rs
+        → row_serials (cond b (row ∷ rs) (r ∷ replaced rs row)) ≡ r.serial ∷ row_serials rs
     by true e rest = ap (λ n. n ∷ row_serials rs) (sym (eqb-true r.serial row.serial (sym e)))
     by false e rest = ap (λ ns. r.serial ∷ ns) rest
 
-serials_push : (rows : List SecretRow) (row : SecretRow) → row_serials (rows ++ row ∷ []) ≡ row_serials rows ++ row.serial ∷ []
+serials_push : (rows : List SecretRow) (row : SecretRow) → row_serials (rows ++ row ∷ []) ≡ row_serials rows
+    ++ row.serial ∷ []
 serials_push [] row = refl
 serials_push (r ∷ rs) row = ap (λ ns. r.serial ∷ ns) (serials_push rs row)
 
@@ -79,7 +89,8 @@ dropped_each (r ∷ rs) serial each = by (eqb r.serial serial) (dropped_each rs 
     by true rest = rest
     by false rest = (each.0, rest)
 
-replaced_each : (rows : List SecretRow) (row : SecretRow) → CurrentKept row → EachKept rows → EachKept (replaced rows row)
+replaced_each : (rows : List SecretRow) (row : SecretRow) → CurrentKept row → EachKept rows
+    → EachKept (replaced rows row)
 replaced_each [] row kept each = each
 replaced_each (r ∷ rs) row kept each = by (eqb r.serial row.serial) (replaced_each rs row kept each.1)
   where
@@ -106,9 +117,11 @@ IsNext rows (Drop serial) = Unit {0}
 IsNext rows Nothing = Unit {0}
 
 -- a change keeps it, where its row is kept and an added row has the next serial
-pub change_keeps : (rows : Rows) (change : Change) → IsNext rows change → ChangeKept change → RowsKept rows → RowsKept (changed rows change)
+pub change_keeps : (rows : Rows) (change : Change) → IsNext rows change → ChangeKept change → RowsKept rows
+    → RowsKept (changed rows change)
 change_keeps rows (Add row) next new kept = record {
-  serials = rw (serials_push rows.secrets row) (rw next (rises_push 0 (row_serials rows.secrets) rows.next kept.serials));
+  serials = rw (serials_push rows.secrets row)
+      (rw next (rises_push 0 (row_serials rows.secrets) rows.next kept.serials));
   each = push_each rows.secrets row new kept.each;
 }
 change_keeps rows (Replace row) next new kept = record {
@@ -128,6 +141,7 @@ next_from rows moment (Drop serial) can = tt
 next_from rows moment Nothing can = tt
 
 -- what a commit leaves is kept
-pub commit_keeps : (rows : Rows) (moment : Moment) (change : Change) → CanMake rows change → RowsKept rows → ChangeKept change → RowsKept (changed (sweep rows moment) change)
+pub commit_keeps : (rows : Rows) (moment : Moment) (change : Change) → CanMake rows change → RowsKept rows
+    → ChangeKept change → RowsKept (changed (sweep rows moment) change)
 commit_keeps rows moment change can kept new =
     change_keeps (sweep rows moment) change (next_from rows moment change can) new (sweep_keeps rows moment kept)

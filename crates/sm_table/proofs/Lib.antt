@@ -3,3 +3,5 @@ pub mod FoundLemmas
 pub mod KeptLaws
 pub mod NameLaws
 pub mod FoundLaws
+pub mod PropLemmas
+pub mod SoundLaws

@@ -1,11 +1,12 @@
 -- Changes of the rows.
-use Rattle.std.specs.Prelude.{◌≡◌, ℕ, ◌+◌, ◌-◌, ◌^◌, ◌<◌, nat_eq, ⊤, List, [], ◌∷◌, ◌++◌, length, Option, Some, None, IsSome, IsNone, IsSomeAnd, if◌then◌else◌}
-use Rattle.sm_model.specs.declared.moment.Moment.{Moment}
+use Rattle.std.specs.Prelude.{◌≡◌, ℕ, ◌+◌, ◌<◌, nat_eq, ⊤, List, [], ◌∷◌, ◌++◌, Option, Some, None, IsSome, IsNone, IsSomeAnd, if◌then◌else◌}
+use Rattle.sm_base.specs.declared.moment.Moment.{Moment}
+use Rattle.sm_model.specs.declared.limits.TheConstants.{NO_SERIAL}
 use Rattle.sm_model.specs.declared.entry.Change.{Change}
 use Rattle.sm_model.specs.declared.entry.Change.TheVariants.{Add, Replace, Drop, Nothing}
 use Rattle.sm_model.specs.declared.rows.SecretRow.{SecretRow}
 use Rattle.sm_model.specs.declared.rows.Rows.{Rows}
-use Rattle.sm_model.specs.Drawn.{drawn_arn}
+use Rattle.sm_versions.specs.Sound.{IsArnOf}
 use Rattle.sm_table.specs.Sweep.{swept}
 use Rattle.sm_table.specs.Found.{row_named}
 
@@ -31,15 +32,12 @@ changed rows (Replace row) = record rows { secrets = replaced rows.secrets row }
 changed rows (Drop serial) = record rows { secrets = dropped rows.secrets serial }
 changed rows Nothing = rows
 
--- the ARN is one that a secret of this name may have: it ends in six characters of random bytes
-abbrev pub IsArnOf : List ℕ → List ℕ → Type 0
-IsArnOf arn name = (six : List ℕ) × (length six ≡ 6) × (arn ≡ drawn_arn name six)
-
--- An added row has the next serial, which is not the last number, and an ARN of its name. A replaced or dropped serial is there, and a
--- replacing row has the name and the ARN of the row that it replaces.
+-- An added row has the next serial, which is not the last number, and an ARN of its name. A replaced or dropped serial
+-- is there, and a replacing row has the name and the ARN of the row that it replaces.
 abbrev pub CanMake : Rows → Change → Type 0
-CanMake rows (Add row) = (row.serial ≡ rows.next) × (rows.next < 2 ^ 64 - 1) × IsArnOf row.arn row.name
-CanMake rows (Replace row) = IsSomeAnd (row_with rows.secrets row.serial) (λ old. (row.name ≡ old.name) × (row.arn ≡ old.arn))
+CanMake rows (Add row) = (row.serial ≡ rows.next) × (rows.next < NO_SERIAL) × IsArnOf row.arn row.name
+CanMake rows (Replace row) =
+    IsSomeAnd (row_with rows.secrets row.serial) (λ old. (row.name ≡ old.name) × (row.arn ≡ old.arn))
 CanMake rows (Drop serial) = IsSome (row_with rows.secrets serial)
 CanMake rows Nothing = ⊤
 

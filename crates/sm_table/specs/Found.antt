@@ -1,11 +1,11 @@
 -- The row that a name or an ARN names.
 -- AWS Secrets Manager API Reference: DescribeSecret (SecretId).
 use Rattle.std.specs.Prelude.{ℕ, ◌-◌, List, [], ◌∷◌, length, take, Option, Some, None, if◌then◌else◌}
-use Rattle.sm_model.specs.declared.moment.Moment.{Moment}
+use Rattle.sm_base.specs.declared.moment.Moment.{Moment}
 use Rattle.sm_model.specs.declared.rows.SecretRow.{SecretRow}
 use Rattle.sm_model.specs.declared.rows.Rows.{Rows}
-use Rattle.sm_model.specs.declared.secret_id.SecretId.{SecretId}
-use Rattle.sm_model.specs.declared.secret_id.SecretId.TheVariants.{Name, Arn}
+use Rattle.sm_base.specs.declared.secret_id.SecretId.{SecretId}
+use Rattle.sm_base.specs.declared.secret_id.SecretId.TheVariants.{Name, Arn}
 use Rattle.sm_versions.specs.Texts.{same_text}
 use Rattle.sm_table.specs.Sweep.{sweep}
 
@@ -45,3 +45,7 @@ named_by rows (Arn arn) = row_by_arn rows arn
 -- the row of those still there at the moment that the SecretId names, or none
 abbrev pub found : Rows → Moment → SecretId → Option SecretRow
 found rows moment id = named_by (sweep rows moment).secrets id
+
+-- the row of those still there at the moment that has exactly this ARN, or none
+abbrev pub found_arn : Rows → Moment → List ℕ → Option SecretRow
+found_arn rows moment arn = row_with_arn (sweep rows moment).secrets arn

@@ -1,15 +1,16 @@
 -- What holds of all rows between any two changes.
-use Rattle.std.specs.Prelude.{◌≡◌, ℕ, Bool, true, ◌&&◌, List, [], ◌∷◌, Some, not, IsTrue}
-use Rattle.sm_model.specs.declared.moment.Moment.{Moment}
+use Rattle.std.specs.Prelude.{◌≡◌, ℕ, List, [], ◌∷◌, Some, IsTrue}
+use Rattle.sm_base.specs.declared.moment.Moment.{Moment}
 use Rattle.sm_model.specs.declared.entry.Change.{Change}
 use Rattle.sm_model.specs.declared.entry.Change.TheVariants.{Add, Replace, Drop, Nothing}
 use Rattle.sm_model.specs.declared.rows.SecretRow.{SecretRow}
 use Rattle.sm_model.specs.declared.rows.Rows.{Rows}
-use Rattle.sm_versions.specs.Texts.{is_among}
+use Rattle.sm_versions.specs.Texts.{once}
 use Rattle.sm_versions.specs.Serials.{rises}
 use Rattle.sm_versions.specs.Kept.{CurrentKept}
 use Rattle.sm_table.specs.Sweep.{swept}
-use Rattle.sm_table.specs.Changes.{row_with, IsArnOf}
+use Rattle.sm_versions.specs.Sound.{IsArnOf}
+use Rattle.sm_table.specs.Changes.{row_with}
 
 abbrev pub row_serials : List SecretRow → List ℕ
 row_serials [] = []
@@ -35,11 +36,6 @@ ChangeKept Nothing = Unit {0}
 abbrev pub row_names : List SecretRow → List (List ℕ)
 row_names [] = []
 row_names (r ∷ rs) = r.name ∷ row_names rs
-
--- no text stands twice
-abbrev pub once : List (List ℕ) → Bool
-once [] = true
-once (t ∷ ts) = not (is_among ts t) && once ts
 
 -- each row's ARN is one of its name
 abbrev pub EachArn : List SecretRow → Type 0

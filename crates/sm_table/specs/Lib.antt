@@ -3,3 +3,4 @@ pub mod Found
 pub mod Changes
 pub mod Ready
 pub mod Kept
+pub mod Sound

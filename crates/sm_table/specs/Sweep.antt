@@ -1,14 +1,10 @@
 -- The rows that are still there at a moment.
 -- AWS Secrets Manager API Reference: DeleteSecret (DeletionDate).
-use Rattle.std.specs.Prelude.{Bool, false, nat_le, List, [], ◌∷◌, Option, Some, None, if◌then◌else◌}
-use Rattle.sm_model.specs.declared.moment.Moment.{Moment}
+use Rattle.std.specs.Prelude.{Bool, List, [], ◌∷◌, if◌then◌else◌}
+use Rattle.sm_base.specs.declared.moment.Moment.{Moment}
 use Rattle.sm_model.specs.declared.rows.SecretRow.{SecretRow}
 use Rattle.sm_model.specs.declared.rows.Rows.{Rows}
-
--- there is a date, and the moment has reached it
-abbrev pub is_reached : Option Moment → Moment → Bool
-is_reached None moment = false
-is_reached (Some date) moment = nat_le date.0 moment.0
+use Rattle.sm_versions.specs.Due.{is_reached}
 
 -- the secret's deletion date is reached
 abbrev pub is_gone : SecretRow → Moment → Bool

@@ -1,7 +1,8 @@
 //! Changes of a list of rows.
-ghost use Rattle.std.specs.Prelude.{◌≡◌, ◌<◌, ◌≤◌, ◌+◌, not, nat_eq, nat_le, length, vec_len, vec_capacity};
+ghost use Rattle.std.specs.Prelude.{◌≡◌, ◌<◌, ◌≤◌, ◌+◌, not, nat_eq, nat_le, nat_lt, length, vec_len, vec_capacity};
 ghost use Rattle.std.specs.Prelude.{[], ◌∷◌, ◌++◌};
 ghost use Rattle.std.specs.List.{position};
+ghost use Rattle.std.specs.Vec.{vec_ptr};
 ghost use Rattle.sm_table.specs.Sweep.{is_gone, swept};
 ghost use Rattle.sm_table.specs.Changes.{replaced, dropped};
 
@@ -55,13 +56,25 @@ pub fn drop_row(rows: &mut Vec<SecretRow>, serial: u64)
     rows.retain(|row| !has_serial(row, serial));
 }
 
-/// Moves the rows into the empty room, adds the row at the end, and puts them back.
+/// Whether a row can be added without moving the others.
+pub fn has_room(rows: &Vec<SecretRow>) -> bool
+    ensures { result ≡ nat_lt (vec_len rows.now) (vec_capacity rows.now) }
+{
+    rows.len() < rows.capacity()
+}
+
+/// Adds the row at the end: in place where there is room, and else in the empty room, into which the others move.
 pub fn add(rows: &mut Vec<SecretRow>, mut room: Vec<SecretRow>, row: SecretRow)
     requires empty { room.items ≡ [] }
     requires room { vec_len rows.old + 1 ≤ vec_capacity room }
-    ensures { rows.new.items ≡ rows.old.items ++ row ∷ [] }
+    ensures rows { rows.new.items ≡ rows.old.items ++ row ∷ [] }
+    ensures in_place { vec_len rows.old < vec_capacity rows.old → vec_ptr rows.new ≡ vec_ptr rows.old }
 {
-    let _ = room.append(rows);
-    room.push_reserved(row);
-    *rows = room;
+    if has_room(rows) {
+        rows.push_reserved(row);
+    } else {
+        let _ = room.append(rows);
+        room.push_reserved(row);
+        *rows = room;
+    }
 }

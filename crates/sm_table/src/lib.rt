@@ -7,6 +7,3 @@ pub mod search;
 pub mod table;
 
 pub use table::{Prepared, Table};
-
-#[cfg(test)]
-mod tests;

@@ -57,7 +57,8 @@ fn first_with_short_arn<'a>(
     moment: Moment,
     arn: &Arn,
 ) -> Option<&'a SecretRow>
-    ensures { option_copied result ≡ find (λ r. not (is_gone r moment) && same_text (short_arn r.arn) arn.now) rows.now }
+    ensures { option_copied result
+        ≡ find (λ r. not (is_gone r moment) && same_text (short_arn r.arn) arn.now) rows.now }
 {
     rows.iter()
         .find(|row| !is_gone(row, moment) && has_short_arn(row, arn))
@@ -81,7 +82,7 @@ pub fn count(rows: &[SecretRow], moment: Moment) -> usize
 
 /// The row with the ARN at the moment.
 #[tactic(auto, using(crate::proofs::FoundLemmas::row_with_arn_is_find))]
-fn row_with_arn<'a>(rows: &'a [SecretRow], moment: Moment, arn: &Arn) -> Option<&'a SecretRow>
+pub fn row_with_arn<'a>(rows: &'a [SecretRow], moment: Moment, arn: &Arn) -> Option<&'a SecretRow>
     ensures { option_copied result ≡ row_with_arn (swept rows.now moment) arn.now }
 {
     first_with_arn(rows, moment, arn)

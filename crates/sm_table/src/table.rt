@@ -1,13 +1,17 @@
 //! The table of all secrets.
-ghost use Rattle.std.specs.Prelude.{◌≡◌, ℕ, [], IfOk, IfSome, ◌^◌, ◌<◌, ◌≤◌, length, vec_capacity, option_copied};
+ghost use Rattle.std.specs.Prelude.{◌≡◌, ℕ, [], IfOk, IfSome, ◌^◌, ◌+◌, ◌<◌, ◌≤◌, length, vec_len, vec_capacity, option_copied};
 ghost use Rattle.sm_table.specs.Sweep.{sweep, swept};
-ghost use Rattle.sm_table.specs.Found.{found, row_named};
+ghost use Rattle.sm_table.specs.Found.{found, found_arn, row_named};
 ghost use Rattle.sm_table.specs.Changes.{changed, CanMake, StandsAt, room_for, row_with, PreparedChange};
 ghost use Rattle.sm_table.specs.Kept.{RowsKept, ChangeKept, NamesKept, IsRowOf};
+ghost use Rattle.sm_table.specs.Sound.{Sound, ChangeSound};
+ghost use Rattle.sm_versions.specs.Sound.{RowSound};
 
 use crate::{edits, search};
-use sm_model::list::copies;
-use sm_model::{Change, Copied, List, Moment, Name, NoMemory, RowList, Rows, SecretId, SecretRow};
+use sm_base::list::copies;
+use sm_model::{
+    Arn, Change, Copied, List, Moment, Name, NoMemory, RowList, Rows, SecretId, SecretRow,
+};
 use std::alloc::Global;
 use std::marker::Model;
 use std::snapshot::Snapshot;
@@ -28,11 +32,13 @@ impl Model for Table {
     ghost view = { λ t. record { next = t.next; secrets = t.secrets.items } };
 }
 
-/// A change for which all memory is there.
+/// A change for which all memory is there. It holds that memory itself and nothing of a table, so that it can be made
+/// of
+/// any table that has the rows that it was prepared for.
 #[derive(Drop)]
 pub struct Prepared {
     change: Change,
-    /// Where a row is added, room for it and the others.
+    /// Where a row is added, room for it and the others, should the table have none left.
     room: Vec<SecretRow>,
     before: Snapshot<Table>,
 }
@@ -83,12 +89,30 @@ impl Table {
     pub fn find(&self, id: &SecretId, moment: Moment) -> Option<&SecretRow>
         ensures found { option_copied result ≡ found self.now moment id.now }
         ensures kept { RowsKept self.now → IfSome (option_copied result) (IsRowOf self.now moment) }
+        ensures sound { Sound self.now → IfSome (option_copied result) RowSound }
     {
-        self.named(id, moment)
+        self.find_named(id, moment)
+    }
+
+    /// The row with exactly this ARN, of those whose deletion date is not reached. It takes no memory.
+    pub fn find_arn(&self, arn: &Arn, moment: Moment) -> Option<&SecretRow>
+        ensures found { option_copied result ≡ found_arn self.now moment arn.now }
+        ensures exact { IfSome (option_copied result) (λ row. row.arn ≡ arn.now) }
+        ensures kept { RowsKept self.now → IfSome (option_copied result) (IsRowOf self.now moment) }
+        ensures sound { Sound self.now → IfSome (option_copied result) RowSound }
+    {
+        self.find_with_arn(arn, moment)
+    }
+
+    /// The same as `find_arn`.
+    fn find_with_arn(&self, arn: &Arn, moment: Moment) -> Option<&SecretRow>
+        ensures { option_copied result ≡ found_arn self.now moment arn.now }
+    {
+        search::row_with_arn(self.secrets.as_slice(), moment, arn)
     }
 
     /// The same as `find`.
-    fn named(&self, id: &SecretId, moment: Moment) -> Option<&SecretRow>
+    fn find_named(&self, id: &SecretId, moment: Moment) -> Option<&SecretRow>
         ensures { option_copied result ≡ found self.now moment id.now }
     {
         match id {
@@ -98,7 +122,7 @@ impl Table {
     }
 
     /// The row that holds the name at the moment. It takes no memory.
-    pub fn held(&self, name: &Name, moment: Moment) -> Option<&SecretRow>
+    pub fn find_name(&self, name: &Name, moment: Moment) -> Option<&SecretRow>
         ensures { option_copied result ≡ row_named (swept self.now.secrets moment) name.now }
     {
         search::row_named(self.secrets.as_slice(), moment, name)
@@ -125,7 +149,7 @@ impl Table {
         ensures prepared { IfOk result (λ p. p ≡ record { before = self.old; change = change }) }
         ensures rows { self.new ≡ self.old }
     {
-        let room = room_of(self.alloc, &change, self.secrets.len())?;
+        let room = room_of(self.alloc, &change, &self.secrets)?;
         let before = Snapshot::of(self);
         Ok(Prepared {
             change,
@@ -141,6 +165,7 @@ impl Table {
         ensures rows { self.new ≡ changed (sweep self.old moment) prepared.change }
         ensures kept { RowsKept self.old → ChangeKept prepared.change → RowsKept self.new }
         ensures named { RowsKept self.old → NamesKept self.old → NamesKept self.new }
+        ensures sound { Sound self.old → ChangeSound (sweep self.old moment) prepared.change → Sound self.new }
     {
         self.make(prepared, moment);
     }
@@ -181,14 +206,31 @@ impl RowList for Table {
     }
 }
 
-/// Room for a row beside so many others, where the change adds one.
-fn room_of(alloc: Global, change: &Change, count: usize) -> Result<Vec<SecretRow>, NoMemory>
-    requires { count < 2 ^ 63 }
+/// Room for these rows and one more where the change adds one, and for twice as many where they have none left.
+fn room_of(
+    alloc: Global,
+    change: &Change,
+    rows: &Vec<SecretRow>,
+) -> Result<Vec<SecretRow>, NoMemory>
+    requires { vec_len rows.now < 2 ^ 63 }
     ensures empty { IfOk result (λ room. room.items ≡ []) }
-    ensures enough { IfOk result (λ room. room_for change.now count ≤ vec_capacity room) }
+    ensures enough { IfOk result (λ room. room_for change.now (vec_len rows.now) ≤ vec_capacity room) }
 {
     match change {
-        Change::Add(_) => Ok(Vec::with_capacity(alloc, count + 1)?),
+        Change::Add(_) => Ok(Vec::with_capacity(alloc, places(rows))?),
         Change::Replace(_) | Change::Drop(_) | Change::Nothing => Ok(Vec::new(alloc)),
+    }
+}
+
+/// How many places are asked for beside these rows: they move only where they have no room, and then it doubles.
+fn places(rows: &Vec<SecretRow>) -> usize
+    requires { vec_len rows.now < 2 ^ 63 }
+    ensures { vec_len rows.now + 1 ≤ result }
+{
+    let count = rows.len();
+    if edits::has_room(rows) {
+        count + 1
+    } else {
+        count + count.max(1)
     }
 }

@@ -4,3 +4,6 @@ pub mod VersionLemmas
 pub mod PlaceLemmas
 pub mod ValueLemmas
 pub mod KeptLaws
+pub mod ArnLemmas
+pub mod PropLemmas
+pub mod SoundLaws

@@ -9,7 +9,7 @@ use Rattle.std.proofs.lemmas.List.Elements.{All-weaker}
 use Rattle.std.proofs.lemmas.List.Sums.{AllPass-from_list_all}
 use Rattle.std.proofs.lemmas.Str.{IsUtf8-from_ascii, is_utf8-from_IsUtf8, chars-IsAscii}
 use Rattle.std.proofs.lemmas.Str.Ascii.{IsAscii-from_all}
-use Rattle.sm_model.specs.Spelling.{is_label}
+use Rattle.sm_base.specs.Spelling.{is_label}
 use Rattle.sm_versions.specs.Texts.{same_text}
 
 pub same_text_decides : (a b : List ℕ) → Decides (same_text a b) (a ≡ b)
@@ -32,9 +32,12 @@ same_text_tells a b = by (same_text a b) refl
     by false e = inr (sym e, not_from_Decides (same_text a b) (same_text_decides a b) (sym e))
 
 -- a text of 1 to 256 ASCII characters is a label
-pub ascii_label : (t : List ℕ) → list_all (λ b. ltb b 128) t ≡ true → (leb 1 (length t) && leb (length t) 256) ≡ true → IsTrue (is_label t)
+pub ascii_label : (t : List ℕ) → list_all (λ b. ltb b 128) t ≡ true → (leb 1 (length t) && leb (length t) 256) ≡ true
+    → IsTrue (is_label t)
 unfolding is_label
 ascii_label t ascii short =
-    let each : All (λ b. b < 128) t = All-weaker (λ b. ltb b 128 ≡ true) (λ b. b < 128) (λ b. ltb-true b 128) t (AllPass-from_list_all (λ b. ltb b 128) t ascii) in
+    let each : All (λ b. b < 128) t =
+    All-weaker (λ b. ltb b 128 ≡ true) (λ b. b < 128) (λ b. ltb-true b 128) t
+    (AllPass-from_list_all (λ b. ltb b 128) t ascii) in
     let plain : IsAscii t = IsAscii-from_all t each in
     rw (chars-IsAscii t plain) (grind (arith, is_utf8-from_IsUtf8 t (IsUtf8-from_ascii t plain)))

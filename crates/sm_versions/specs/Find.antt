@@ -27,23 +27,23 @@ version_held versions None = None
 version_held versions (Some id) = version_of versions id
 
 -- the version that has the label
-abbrev pub labelled : SecretRow → List ℕ → Option VersionRow
-labelled row label = version_held row.versions (holder row.labels label)
+abbrev pub version_labelled : SecretRow → List ℕ → Option VersionRow
+version_labelled row label = version_held row.versions (holder row.labels label)
 
 -- by one name
-abbrev pub by_one : Option VersionRow → Lookup
-by_one None = nowhere
-by_one (Some version) = here version
+abbrev pub lookup_of : Option VersionRow → Lookup
+lookup_of None = nowhere
+lookup_of (Some version) = here version
 
 -- by two names: each has to name a version, and both the same
-abbrev pub by_both : Option VersionRow → Option VersionRow → Lookup
-by_both None other = nowhere
-by_both (Some version) None = nowhere
-by_both (Some version) (Some other) = if same_text version.id other.id then here version else apart
+abbrev pub lookup_of_both : Option VersionRow → Option VersionRow → Lookup
+lookup_of_both None other = nowhere
+lookup_of_both (Some version) None = nowhere
+lookup_of_both (Some version) (Some other) = if same_text version.id other.id then here version else apart
 
 -- the version by its id, its label, or both; AWSCURRENT where neither is given
 abbrev pub lookup : SecretRow → Option (List ℕ) → Option (List ℕ) → Lookup
-lookup row (Some id) (Some label) = by_both (version_of row.versions id) (labelled row label)
-lookup row (Some id) None = by_one (version_of row.versions id)
-lookup row None (Some label) = by_one (labelled row label)
-lookup row None None = by_one (labelled row aws_current)
+lookup row (Some id) (Some label) = lookup_of_both (version_of row.versions id) (version_labelled row label)
+lookup row (Some id) None = lookup_of (version_of row.versions id)
+lookup row None (Some label) = lookup_of (version_labelled row label)
+lookup row None None = lookup_of (version_labelled row aws_current)

@@ -1,6 +1,8 @@
 -- What holds of a secret between any two changes.
--- AWS Secrets Manager User Guide: "Secret versions" (each label is on one version at a time; a secret always has a version labelled AWSCURRENT).
+-- AWS Secrets Manager User Guide: "Secret versions" (each label is on one version at a time; a secret always has a
+-- version labelled AWSCURRENT).
 use Rattle.std.specs.Prelude.{◌≡◌, ℕ, ◌≤◌, Bool, true, false, not, ◌&&◌, ◌||◌, List, [], ◌∷◌, Option, Some, None, is_some, is_none, IsTrue, IfSome}
+use Rattle.sm_model.specs.declared.limits.TheConstants.{ATTEMPTS_LIMIT}
 use Rattle.sm_model.specs.declared.rows.Pair.{Pair}
 use Rattle.sm_model.specs.declared.rows.VersionRow.{VersionRow}
 use Rattle.sm_model.specs.declared.rows.Job.{Job}
@@ -58,15 +60,16 @@ is_finish Finish = true
 -- a job, whether it is live or not: it has been tested exactly at Finish, and past Create its version has a value
 pub record JobFits (row : SecretRow) (job : Job) : Type 0 where
   pub first : 1 ≤ job.attempt
-  pub last : job.attempt ≤ 5
+  pub last : job.attempt ≤ ATTEMPTS_LIMIT
   pub tested : is_some job.tested ≡ is_finish job.stage
-  pub valued : IsTrue (is_create job.stage || not (has_version row.versions job.token) || has_value row.versions job.token)
+  pub valued :
+      IsTrue (is_create job.stage || not (has_version row.versions job.token) || has_value row.versions job.token)
 
 -- a live job: its version has a value exactly past Create
 pub record JobKept (row : SecretRow) (job : Job) : Type 0 where
   pub live : IsLive row job
   pub first : 1 ≤ job.attempt
-  pub last : job.attempt ≤ 5
+  pub last : job.attempt ≤ ATTEMPTS_LIMIT
   pub tested : is_some job.tested ≡ is_finish job.stage
   pub valued : has_value row.versions job.token ≡ not (is_create job.stage)
 

@@ -7,3 +7,5 @@ pub mod Settle
 pub mod Find
 pub mod Serials
 pub mod Kept
+pub mod Due
+pub mod Sound

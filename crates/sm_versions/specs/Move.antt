@@ -1,7 +1,8 @@
 -- A label moved from one version to another, or taken off.
 -- AWS Secrets Manager API Reference: UpdateSecretVersionStage.
-use Rattle.std.specs.Prelude.{◌≡◌, ℕ, Bool, true, false, ⊤, List, Option, Some, None, Result, Ok, Err, if◌then◌else◌}
-use Rattle.sm_model.specs.declared.memory.NoMemory.{NoMemory}
+use Rattle.std.specs.Prelude.{ℕ, Bool, true, false, List, Option, Some, None, Result, Ok, Err, if◌then◌else◌}
+use Rattle.sm_base.specs.declared.memory.NoMemory.{NoMemory}
+use Rattle.sm_model.specs.declared.limits.TheConstants.{LABELS_LIMIT}
 use Rattle.sm_model.specs.declared.rows.Pair.{Pair}
 use Rattle.sm_model.specs.declared.rows.VersionRow.{VersionRow}
 use Rattle.sm_model.specs.declared.rows.SecretRow.{SecretRow}
@@ -30,12 +31,13 @@ may_move held to None = is_free_for held to
 
 -- the last test, on the pairs after placing
 abbrev pub move_placed : List Pair → Moved
-move_placed pairs = if has_too_many pairs then TooManyLabels 20 else Placed
+move_placed pairs = if has_too_many pairs then TooManyLabels LABELS_LIMIT else Placed
 
 -- the tests on a target with a label other than AWSCURRENT, or with AWSCURRENT by whether the target has a value
 abbrev pub move_onto : SecretRow → List ℕ → List ℕ → Moved
 move_onto row label to =
-    if same_text label aws_current then (if has_value row.versions to then move_placed (place row.labels label to) else Empty to)
+    if same_text label aws_current then
+    (if has_value row.versions to then move_placed (place row.labels label to) else Empty to)
     else move_placed (place row.labels label to)
 
 -- the tests once the label may move
@@ -56,7 +58,8 @@ unless_missing (Some id) answer = NotThere id
 -- what a move answers where there is memory
 abbrev pub move_answer : SecretRow → List ℕ → Option (List ℕ) → Option (List ℕ) → Moved
 move_answer row label to from =
-    unless_missing (missing row.versions from) (unless_missing (missing row.versions to) (move_held row label to from))
+    unless_missing (missing row.versions from)
+    (unless_missing (missing row.versions to) (move_held row label to from))
 
 -- the pairs after a move: the label placed on the target, or taken off
 abbrev pub move_pairs : List Pair → List ℕ → Option (List ℕ) → List Pair
@@ -81,12 +84,12 @@ abbrev pub is_done : Result Moved NoMemory → Bool
 is_done (Ok moved) = is_moved moved
 is_done (Err e) = false
 
--- this answer, or want of memory
-abbrev pub OrMemory : Moved → Moved → Type 0
-OrMemory Memory answer = ⊤
-OrMemory Placed answer = Placed ≡ answer
-OrMemory (NotThere id) answer = NotThere id ≡ answer
-OrMemory (HeldBy held) answer = HeldBy held ≡ answer
-OrMemory KeepsCurrent answer = KeepsCurrent ≡ answer
-OrMemory (Empty id) answer = Empty id ≡ answer
-OrMemory (TooManyLabels n) answer = TooManyLabels n ≡ answer
+-- what a move answered, or None where it wanted memory
+abbrev pub move_told : Moved → Option Moved
+move_told Placed = Some Placed
+move_told (NotThere id) = Some (NotThere id)
+move_told (HeldBy held) = Some (HeldBy held)
+move_told KeepsCurrent = Some KeepsCurrent
+move_told (Empty id) = Some (Empty id)
+move_told (TooManyLabels n) = Some (TooManyLabels n)
+move_told Memory = None

@@ -1,8 +1,10 @@
 -- A new value for a secret.
--- AWS Secrets Manager API Reference: PutSecretValue; User Guide: "AWS Secrets Manager quotas" (versions and labels of a secret).
-use Rattle.std.specs.Prelude.{◌≡◌, ℕ, ◌+◌, ◌-◌, ◌^◌, Bool, true, false, ◌||◌, nat_le, nat_lt, ⊤, List, [], ◌∷◌, ◌++◌, length, Option, Some, None, Result, Ok, Err, if◌then◌else◌}
-use Rattle.sm_model.specs.declared.memory.NoMemory.{NoMemory}
-use Rattle.sm_model.specs.declared.moment.Moment.{Moment}
+-- AWS Secrets Manager API Reference: PutSecretValue; User Guide: "AWS Secrets Manager quotas" (versions and labels of a
+-- secret).
+use Rattle.std.specs.Prelude.{ℕ, ◌+◌, Bool, true, false, ◌||◌, nat_le, nat_lt, List, [], ◌∷◌, ◌++◌, length, Option, Some, None, Result, Ok, Err, if◌then◌else◌}
+use Rattle.sm_base.specs.declared.memory.NoMemory.{NoMemory}
+use Rattle.sm_base.specs.declared.moment.Moment.{Moment}
+use Rattle.sm_model.specs.declared.limits.TheConstants.{LABELS_LIMIT, VERSIONS_LIMIT, NO_SERIAL}
 use Rattle.sm_model.specs.declared.value.Value.{Value}
 use Rattle.sm_model.specs.declared.rows.Pair.{Pair}
 use Rattle.sm_model.specs.declared.rows.VersionRow.{VersionRow}
@@ -12,40 +14,49 @@ use Rattle.sm_versions.specs.declared.values.PutDone.TheVariants.{Added, Same, E
 use Rattle.sm_versions.specs.Labels.{place_all, labels_on, own_count}
 use Rattle.sm_versions.specs.Versions.{same_value, version_of, filled}
 
--- there are more than 20 labels besides the three of AWS
+-- there are more labels besides the three of AWS than a secret may have
 abbrev pub has_too_many : List Pair → Bool
-has_too_many pairs = nat_lt 20 (own_count pairs)
+has_too_many pairs = nat_lt LABELS_LIMIT (own_count pairs)
 
--- no version may be added: there are 1,000, or there is no serial left
+-- no version may be added: there are as many as there may be, or there is no serial left
 abbrev pub is_full : SecretRow → Bool
-is_full row = nat_le 1000 (length row.versions) || nat_le (2 ^ 64 - 1) row.next_version
+is_full row = nat_le VERSIONS_LIMIT (length row.versions) || nat_le NO_SERIAL row.next_version
 
 -- the last test, on the pairs after placing
 abbrev pub put_placed : List Pair → PutDone
-put_placed pairs = if has_too_many pairs then TooManyLabels 20 else Added
+put_placed pairs = if has_too_many pairs then TooManyLabels LABELS_LIMIT else Added
 
 -- the tests where no version has the token
 abbrev pub put_new : SecretRow → List ℕ → List (List ℕ) → PutDone
-put_new row token labels = if is_full row then TooMany 1000 else put_placed (place_all row.labels labels token)
+put_new row token labels =
+    if is_full row then TooMany VERSIONS_LIMIT else put_placed (place_all row.labels labels token)
 
 -- the tests where a version has the token, by its value
 abbrev pub put_held : SecretRow → List ℕ → Value → List (List ℕ) → Option Value → PutDone
-put_held row token value labels (Some kept) = if same_value kept value then Same (labels_on row.labels token) else Exists
+put_held row token value labels (Some kept) =
+    if same_value kept value then Same (labels_on row.labels token) else Exists
 put_held row token value labels None = put_placed (place_all row.labels labels token)
 
 -- the tests by the version that has the token, or none
-abbrev pub put_by : SecretRow → List ℕ → Value → List (List ℕ) → Option VersionRow → PutDone
-put_by row token value labels None = put_new row token labels
-put_by row token value labels (Some version) = put_held row token value labels version.value
+abbrev pub put_answer_on : SecretRow → List ℕ → Value → List (List ℕ) → Option VersionRow → PutDone
+put_answer_on row token value labels None = put_new row token labels
+put_answer_on row token value labels (Some version) = put_held row token value labels version.value
 
 -- what a put answers where there is memory
 abbrev pub put_answer : SecretRow → List ℕ → Value → List (List ℕ) → PutDone
-put_answer row token value labels = put_by row token value labels (version_of row.versions token)
+put_answer row token value labels = put_answer_on row token value labels (version_of row.versions token)
 
 -- the version that a put adds
 abbrev pub new_version : SecretRow → List ℕ → Value → Moment → VersionRow
 new_version row token value moment =
-    record { id = token; serial = row.next_version; made = moment; value = Some value; rotated = None; by_rotation = false }
+    record {
+      id = token;
+      serial = row.next_version;
+      made = moment;
+      value = Some value;
+      rotated = None;
+      by_rotation = false;
+    }
 
 -- the row with a version more
 abbrev pub added_row : SecretRow → List ℕ → Value → List (List ℕ) → Moment → SecretRow
@@ -62,13 +73,13 @@ filled_row row token value labels =
     record row { versions = filled row.versions token value; labels = place_all row.labels labels token }
 
 -- the row by the version that has the token, or none
-abbrev pub put_row_by : SecretRow → List ℕ → Value → List (List ℕ) → Moment → Option VersionRow → SecretRow
-put_row_by row token value labels moment None = added_row row token value labels moment
-put_row_by row token value labels moment (Some version) = filled_row row token value labels
+abbrev pub put_row_on : SecretRow → List ℕ → Value → List (List ℕ) → Moment → Option VersionRow → SecretRow
+put_row_on row token value labels moment None = added_row row token value labels moment
+put_row_on row token value labels moment (Some version) = filled_row row token value labels
 
 -- the row after a put: the value in the version of the token, filled or added, and the labels on it
 abbrev pub put_row : SecretRow → List ℕ → Value → List (List ℕ) → Moment → SecretRow
-put_row row token value labels moment = put_row_by row token value labels moment (version_of row.versions token)
+put_row row token value labels moment = put_row_on row token value labels moment (version_of row.versions token)
 
 abbrev pub is_added : PutDone → Bool
 is_added Added = true
@@ -83,11 +94,11 @@ abbrev pub is_done : Result PutDone NoMemory → Bool
 is_done (Ok done) = is_added done
 is_done (Err e) = false
 
--- this answer, or want of memory
-abbrev pub OrMemory : PutDone → PutDone → Type 0
-OrMemory Memory answer = ⊤
-OrMemory Added answer = Added ≡ answer
-OrMemory (Same labels) answer = Same labels ≡ answer
-OrMemory Exists answer = Exists ≡ answer
-OrMemory (TooMany n) answer = TooMany n ≡ answer
-OrMemory (TooManyLabels n) answer = TooManyLabels n ≡ answer
+-- what a put answered, or None where it wanted memory
+abbrev pub put_told : PutDone → Option PutDone
+put_told Added = Some Added
+put_told (Same labels) = Some (Same labels)
+put_told Exists = Some Exists
+put_told (TooMany n) = Some (TooMany n)
+put_told (TooManyLabels n) = Some (TooManyLabels n)
+put_told Memory = None

@@ -9,7 +9,8 @@ use Rattle.sm_versions.specs.Texts.{aws_current, aws_pending}
 use Rattle.sm_versions.specs.Labels.{holder, is_held_by}
 use Rattle.sm_versions.specs.Versions.{has_version, has_value}
 
--- the secret is not scheduled for deletion, and the version of the job's token exists, holds AWSPENDING and does not hold AWSCURRENT
+-- the secret is not scheduled for deletion, and the version of the job's token exists, holds AWSPENDING and does not
+-- hold AWSCURRENT
 abbrev pub is_live : SecretRow → Job → Bool
 is_live row job =
     is_none row.deletion && has_version row.versions job.token
@@ -26,14 +27,14 @@ is_create Test = false
 is_create Finish = false
 
 -- at Create a job whose version has a value goes to Set, attempt 1
-abbrev pub advanced : SecretRow → Job → Job
-advanced row job =
+abbrev pub advanced_job : SecretRow → Job → Job
+advanced_job row job =
     if is_create job.stage && has_value row.versions job.token then record job { stage = Set; attempt = 1 } else job
 
 -- a job that is not live is dropped
 abbrev pub settled_job : SecretRow → Option Job → Option Job
 settled_job row None = None
-settled_job row (Some job) = if is_live row job then Some (advanced row job) else None
+settled_job row (Some job) = if is_live row job then Some (advanced_job row job) else None
 
 -- the row with its job settled
 abbrev pub settle : SecretRow → SecretRow

@@ -15,6 +15,3 @@ pub use moving::{Moved, move_label};
 pub use settling::{is_live, settle};
 pub use values::{PutDone, put};
 pub use versions::same;
-
-#[cfg(test)]
-mod tests;

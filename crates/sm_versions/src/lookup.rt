@@ -1,7 +1,7 @@
 //! A version by its id, by a label, or by both (AWS Secrets Manager API Reference, GetSecretValue).
 ghost use Rattle.std.specs.Prelude.{◌≡◌, option_copied};
 ghost use Rattle.sm_versions.specs.Texts.{aws_current};
-ghost use Rattle.sm_versions.specs.Find.{looked_up, labelled, by_one, by_both, lookup};
+ghost use Rattle.sm_versions.specs.Find.{looked_up, version_labelled, lookup_of, lookup_of_both, lookup};
 
 use crate::labels::{current, holder, is_same_id};
 use crate::versions::version_of;
@@ -17,8 +17,8 @@ pub enum Found<'a> {
 }
 
 /// The version that has the label.
-fn labelled<'a>(row: &'a SecretRow, label: &Label) -> Option<&'a VersionRow>
-    ensures { option_copied result ≡ labelled row.now label.now }
+fn version_labelled<'a>(row: &'a SecretRow, label: &Label) -> Option<&'a VersionRow>
+    ensures { option_copied result ≡ version_labelled row.now label.now }
 {
     match holder(row.labels.as_slice(), label) {
         Some(id) => version_of(row.versions.as_slice(), id),
@@ -27,8 +27,8 @@ fn labelled<'a>(row: &'a SecretRow, label: &Label) -> Option<&'a VersionRow>
 }
 
 /// What one name found.
-fn by_one(version: Option<&VersionRow>) -> Found<'_>
-    ensures { looked_up result ≡ by_one (option_copied version.entry) }
+fn lookup_of(version: Option<&VersionRow>) -> Found<'_>
+    ensures { looked_up result ≡ lookup_of (option_copied version.entry) }
 {
     match version {
         Some(version) => Found::Version(version),
@@ -37,8 +37,8 @@ fn by_one(version: Option<&VersionRow>) -> Found<'_>
 }
 
 /// What two names found.
-fn by_both<'a>(version: Option<&'a VersionRow>, other: Option<&'a VersionRow>) -> Found<'a>
-    ensures { looked_up result ≡ by_both (option_copied version.entry) (option_copied other.entry) }
+fn lookup_of_both<'a>(version: Option<&'a VersionRow>, other: Option<&'a VersionRow>) -> Found<'a>
+    ensures { looked_up result ≡ lookup_of_both (option_copied version.entry) (option_copied other.entry) }
 {
     match version {
         Some(version) => match other {
@@ -57,9 +57,9 @@ fn by_both<'a>(version: Option<&'a VersionRow>, other: Option<&'a VersionRow>) -
 
 /// The version with AWSCURRENT.
 fn the_current(row: &SecretRow) -> Option<&VersionRow>
-    ensures { option_copied result ≡ labelled row.now aws_current }
+    ensures { option_copied result ≡ version_labelled row.now aws_current }
 {
-    labelled(row, &current())
+    version_labelled(row, &current())
 }
 
 /// The version that the id, the label or both name, or without them the one with AWSCURRENT. It takes no memory.
@@ -70,13 +70,13 @@ pub fn find<'a>(row: &'a SecretRow, id: Option<&Token>, label: Option<&Label>) -
         Some(id) => {
             let version = version_of(row.versions.as_slice(), id);
             match label {
-                Some(label) => by_both(version, labelled(row, label)),
-                None => by_one(version),
+                Some(label) => lookup_of_both(version, version_labelled(row, label)),
+                None => lookup_of(version),
             }
         }
         None => match label {
-            Some(label) => by_one(labelled(row, label)),
-            None => by_one(the_current(row)),
+            Some(label) => lookup_of(version_labelled(row, label)),
+            None => lookup_of(the_current(row)),
         },
     }
 }

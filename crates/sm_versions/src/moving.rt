@@ -1,14 +1,16 @@
 //! Labels moved from version to version (AWS Secrets Manager API Reference, UpdateSecretVersionStage).
 ghost use Rattle.std.specs.Prelude.{◌≡◌, ◌⊎◌, IfOk, IsSome, option_copied, if◌then◌else◌};
+ghost use Rattle.sm_base.specs.Outcomes.{OrMemory};
 ghost use Rattle.sm_versions.specs.Texts.{aws_current};
 ghost use Rattle.sm_versions.specs.Labels.{holder};
-ghost use Rattle.sm_versions.specs.Move.{missing, may_move, move_placed, move_onto, move_to, move_held, move_answer, move_pairs, move_row, is_moved, is_done, OrMemory};
+ghost use Rattle.sm_versions.specs.Move.{missing, may_move, move_placed, move_onto, move_to, move_held, move_answer, move_pairs, move_row, is_moved, is_done, move_told};
 ghost use Rattle.sm_versions.specs.Kept.{KeptUnsettled};
 
 use crate::labels::{holder, is_current, is_same_id};
 use crate::placing::{place, remove};
-use crate::values::{MOST_LABELS, has_too_many};
+use crate::values::has_too_many;
 use crate::versions::{has_value, has_version};
+use sm_model::limits::LABELS_LIMIT;
 use sm_model::{Copied, Label, List, NoMemory, Pair, SecretRow, Token, VersionRow};
 use std::alloc::Global;
 
@@ -30,7 +32,7 @@ pub enum Moved {
 }
 
 /// The id, where it is given and names no version.
-fn missing<'a>(versions: &[VersionRow], id: Option<&'a Token>) -> Option<&'a Token>
+fn missing_id<'a>(versions: &[VersionRow], id: Option<&'a Token>) -> Option<&'a Token>
     ensures { option_copied result ≡ missing versions.now (option_copied id.entry) }
 {
     match id {
@@ -78,11 +80,11 @@ fn moved_pairs(
 }
 
 /// The last test, on the pairs after placing.
-fn limited(pairs: &List<Pair>) -> Moved
+fn accept_within_limit(pairs: &List<Pair>) -> Moved
     ensures { result ≡ move_placed pairs.now }
 {
     if has_too_many(pairs.as_slice()) {
-        Moved::TooManyLabels(MOST_LABELS)
+        Moved::TooManyLabels(LABELS_LIMIT)
     } else {
         Moved::Ok
     }
@@ -102,7 +104,7 @@ fn move_onto(
         return Ok(Moved::Empty(to.copy(alloc)?));
     }
     let pairs = moved_pairs(alloc, &row.labels, label, Some(to))?;
-    let moved = limited(&pairs);
+    let moved = accept_within_limit(&pairs);
     if let Moved::Ok = moved {
         row.labels = pairs;
     }
@@ -146,7 +148,8 @@ fn move_between(
     to: Option<&Token>,
     from: Option<&Token>,
 ) -> Result<Moved, NoMemory>
-    ensures answer { IfOk result (λ moved. moved ≡ move_held row.old label.now (option_copied to.entry) (option_copied from.entry)) }
+    ensures answer { IfOk result
+        (λ moved. moved ≡ move_held row.old label.now (option_copied to.entry) (option_copied from.entry)) }
     ensures row { row.new ≡ (if is_done result then move_row row.old label.now (option_copied to.entry) else row.old) }
 {
     if !may_leave(row, label, to, from) {
@@ -166,13 +169,14 @@ fn try_move(
     to: Option<&Token>,
     from: Option<&Token>,
 ) -> Result<Moved, NoMemory>
-    ensures answer { IfOk result (λ moved. moved ≡ move_answer row.old label.now (option_copied to.entry) (option_copied from.entry)) }
+    ensures answer { IfOk result
+        (λ moved. moved ≡ move_answer row.old label.now (option_copied to.entry) (option_copied from.entry)) }
     ensures row { row.new ≡ (if is_done result then move_row row.old label.now (option_copied to.entry) else row.old) }
 {
-    if let Some(id) = missing(row.versions.as_slice(), from) {
+    if let Some(id) = missing_id(row.versions.as_slice(), from) {
         return Ok(Moved::NotThere(id.copy(alloc)?));
     }
-    if let Some(id) = missing(row.versions.as_slice(), to) {
+    if let Some(id) = missing_id(row.versions.as_slice(), to) {
         return Ok(Moved::NotThere(id.copy(alloc)?));
     }
     move_between(alloc, row, label, to, from)
@@ -188,7 +192,8 @@ pub fn move_label(
     from: Option<&Token>,
 ) -> Moved
     requires { IsSome to ⊎ IsSome from }
-    ensures answer { OrMemory result (move_answer row.old label.now (option_copied to.entry) (option_copied from.entry)) }
+    ensures answer { OrMemory (move_told result)
+        (move_answer row.old label.now (option_copied to.entry) (option_copied from.entry)) }
     ensures row { row.new ≡ (if is_moved result then move_row row.old label.now (option_copied to.entry) else row.old) }
     ensures kept { KeptUnsettled row.old → KeptUnsettled row.new }
 {

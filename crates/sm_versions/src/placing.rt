@@ -97,7 +97,8 @@ fn place_others(
     labels: &[Label],
     id: &Token,
 ) -> Result<(), NoMemory>
-    ensures { OnOk result (pairs.new.items ≡ place_each pairs.old.items (others (firsts labels.now) aws_current) id.now) }
+    ensures { OnOk result
+        (pairs.new.items ≡ place_each pairs.old.items (others (firsts labels.now) aws_current) id.now) }
 {
     for (i, label) in labels.iter().enumerate() {
         if !is_current(label) && !is_among(&labels[..i], label) {

@@ -1,7 +1,7 @@
 //! The settling of a rotation under way.
 ghost use Rattle.std.specs.Prelude.{◌≡◌, ◌&&◌};
 ghost use Rattle.sm_versions.specs.Versions.{has_value};
-ghost use Rattle.sm_versions.specs.Settle.{is_live, is_create, advanced, settled_job, settle};
+ghost use Rattle.sm_versions.specs.Settle.{is_live, is_create, advanced_job, settled_job, settle};
 ghost use Rattle.sm_versions.specs.Kept.{KeptUnsettled, CurrentKept};
 
 use crate::labels::{current, holder, is_held_by, pending};
@@ -28,8 +28,8 @@ fn has_its_value(row: &SecretRow, job: &Job) -> bool
 }
 
 /// The job, moved from createSecret to setSecret where its version has a value.
-fn advanced(row: &SecretRow, mut job: Job) -> Job
-    ensures { result ≡ advanced row.now job }
+fn advance_job(row: &SecretRow, mut job: Job) -> Job
+    ensures { result ≡ advanced_job row.now job }
 {
     if has_its_value(row, &job) {
         job.stage = Stage::Set;
@@ -39,13 +39,13 @@ fn advanced(row: &SecretRow, mut job: Job) -> Job
 }
 
 /// The job where it is live, moved on as far as it is done.
-fn settled(row: &SecretRow, job: Option<Job>) -> Option<Job>
+fn settle_job(row: &SecretRow, job: Option<Job>) -> Option<Job>
     ensures { result ≡ settled_job row.now job }
 {
     match job {
         Some(job) => {
             if is_live(row, &job) {
-                Some(advanced(row, job))
+                Some(advance_job(row, job))
             } else {
                 None
             }
@@ -62,5 +62,5 @@ pub fn settle(row: &mut SecretRow)
     ensures kept { KeptUnsettled row.old → CurrentKept row.new }
 {
     let job = row.job.take();
-    row.job = settled(row, job);
+    row.job = settle_job(row, job);
 }

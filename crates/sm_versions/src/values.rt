@@ -1,21 +1,17 @@
 //! A new value for a secret (AWS Secrets Manager API Reference, PutSecretValue).
 ghost use Rattle.std.specs.Prelude.{◌≡◌, IsTrue, IfOk, if◌then◌else◌};
+ghost use Rattle.sm_base.specs.Outcomes.{OrMemory};
 ghost use Rattle.sm_versions.specs.Labels.{place_all, labels_on};
-ghost use Rattle.sm_versions.specs.Put.{has_too_many, is_full, put_placed, put_new, put_answer, new_version, added_row, filled_row, put_row, is_added, is_done, OrMemory};
+ghost use Rattle.sm_versions.specs.Put.{has_too_many, is_full, put_placed, put_new, put_answer, new_version, added_row, filled_row, put_row, is_added, is_done, put_told};
 ghost use Rattle.sm_versions.specs.Kept.{KeptUnsettled, will_have_current};
 
 use crate::labels::{labels_on, own_count};
 use crate::placing::place_all;
 use crate::versions::{fill, is_same_value, version_of};
+use sm_model::limits::{LABELS_LIMIT, NO_SERIAL, VERSIONS_LIMIT};
 use sm_model::{Copied, Label, List, Moment, NoMemory, Pair, SecretRow, Token, Value, VersionRow};
 use std::alloc::Global;
 use std::mem;
-
-/// The most versions of a secret.
-pub const MOST_VERSIONS: u64 = 1000;
-
-/// The most labels of a secret besides AWSCURRENT, AWSPREVIOUS and AWSPENDING.
-pub const MOST_LABELS: u64 = 20;
 
 /// What a put did.
 #[derive(Drop)]
@@ -37,18 +33,18 @@ pub enum PutDone {
 fn is_full(row: &SecretRow) -> bool
     ensures { result ≡ is_full row.now }
 {
-    row.versions.len() >= MOST_VERSIONS as usize || row.next_version == u64::MAX
+    row.versions.len() >= VERSIONS_LIMIT as usize || row.next_version == NO_SERIAL
 }
 
 /// Whether there are more labels than a secret may have.
 pub fn has_too_many(pairs: &[Pair]) -> bool
     ensures { result ≡ has_too_many pairs.now }
 {
-    own_count(pairs) > MOST_LABELS as usize
+    own_count(pairs) > LABELS_LIMIT as usize
 }
 
 /// The pairs with all labels placed on the version.
-fn placed(
+fn place_on_copy(
     alloc: Global,
     pairs: &List<Pair>,
     labels: &[Label],
@@ -72,9 +68,9 @@ fn fill_version(
     ensures answer { IfOk result (λ done. done ≡ put_placed (place_all row.old.labels labels.now token.now)) }
     ensures row { row.new ≡ (if is_done result then filled_row row.old token.now value.now labels.now else row.old) }
 {
-    let placed = placed(alloc, &row.labels, labels, token)?;
+    let placed = place_on_copy(alloc, &row.labels, labels, token)?;
     if has_too_many(placed.as_slice()) {
-        return Ok(PutDone::TooManyLabels(MOST_LABELS));
+        return Ok(PutDone::TooManyLabels(LABELS_LIMIT));
     }
     let value = value.copy(alloc)?;
     let mut versions = mem::replace(&mut row.versions, List::empty(alloc)).into_vec();
@@ -114,14 +110,15 @@ fn add_version(
     moment: Moment,
 ) -> Result<PutDone, NoMemory>
     ensures answer { IfOk result (λ done. done ≡ put_new row.old token.now labels.now) }
-    ensures row { row.new ≡ (if is_done result then added_row row.old token.now value.now labels.now moment else row.old) }
+    ensures row { row.new ≡
+        (if is_done result then added_row row.old token.now value.now labels.now moment else row.old) }
 {
     if is_full(row) {
-        return Ok(PutDone::TooMany(MOST_VERSIONS));
+        return Ok(PutDone::TooMany(VERSIONS_LIMIT));
     }
-    let placed = placed(alloc, &row.labels, labels, token)?;
+    let placed = place_on_copy(alloc, &row.labels, labels, token)?;
     if has_too_many(placed.as_slice()) {
-        return Ok(PutDone::TooManyLabels(MOST_LABELS));
+        return Ok(PutDone::TooManyLabels(LABELS_LIMIT));
     }
     let version = new_version(alloc, row, token, value, moment)?;
     row.versions.push(version)?;
@@ -132,7 +129,8 @@ fn add_version(
 
 /// The answer where the version of the token has a value already.
 fn repeat(alloc: Global, row: &SecretRow, token: &Token, is_same: bool) -> Result<PutDone, NoMemory>
-    ensures { IfOk result (λ done. done ≡ (if is_same then PutDone.Same (labels_on row.now.labels token.now) else PutDone.Exists)) }
+    ensures { IfOk result
+        (λ done. done ≡ (if is_same then PutDone.Same (labels_on row.now.labels token.now) else PutDone.Exists)) }
 {
     if is_same {
         Ok(PutDone::Same(labels_on(alloc, row.labels.as_slice(), token)?))
@@ -151,7 +149,8 @@ fn try_put(
     moment: Moment,
 ) -> Result<PutDone, NoMemory>
     ensures answer { IfOk result (λ done. done ≡ put_answer row.old token.now value.now labels.now) }
-    ensures row { row.new ≡ (if is_done result then put_row row.old token.now value.now labels.now moment else row.old) }
+    ensures row { row.new ≡
+        (if is_done result then put_row row.old token.now value.now labels.now moment else row.old) }
 {
     match version_of(row.versions.as_slice(), token) {
         Some(version) => match &version.value {
@@ -175,8 +174,9 @@ pub fn put(
     labels: &[Label],
     moment: Moment,
 ) -> PutDone
-    ensures answer { OrMemory result (put_answer row.old token.now value.now labels.now) }
-    ensures row { row.new ≡ (if is_added result then put_row row.old token.now value.now labels.now moment else row.old) }
+    ensures answer { OrMemory (put_told result) (put_answer row.old token.now value.now labels.now) }
+    ensures row { row.new ≡
+        (if is_added result then put_row row.old token.now value.now labels.now moment else row.old) }
     ensures kept { KeptUnsettled row.old → IsTrue (will_have_current row.old labels.now) → KeptUnsettled row.new }
 {
     match try_put(alloc, row, token, value, labels, moment) {

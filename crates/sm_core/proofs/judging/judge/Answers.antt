@@ -1,25 +1,40 @@
-use Rattle.sm_table.specs.Changes.{CanMake, StandsAt, changed}
-use Rattle.sm_table.specs.Kept.{ChangeKept}
+use Rattle.sm_table.specs.Changes.{CanMake, StandsAt}
+use Rattle.sm_table.specs.Sound.{ChangeSound}
 use Rattle.sm_table.specs.Sweep.{sweep}
-use Rattle.std.proofs.Common.{◌≡◌}
-use Rattle.sm_core.specs.Effects.{effect, entry_of}
-use Rattle.sm_core.specs.Judging.{judgement}
-use Rattle.sm_core.proofs.ChangeLemmas.{IsChange, or_same, if_change, if_change_then, change_is_entry}
+use Rattle.sm_judging.proofs.JudgedLemmas.{if_change_then}
+use Rattle.sm_core.specs.Effects.{entry_of, Makes}
+use Rattle.sm_core.proofs.JudgingLemmas.{judges, judgement_is_no_memory}
 use Rattle.sm_core.proofs.judging.judge.Goals as goal
 
 pub returns-in-Ok : goal.returns-in-Ok
 returns-in-Ok c =
     let rows = c.args.table.now in
     let moment = c.args.moment in
+    let key = c.args.person.now.key in
     let drawn = c.args.drawn.now in
     let request = c.args.request.now in
-    let same = or_same c.in-Ok.judged (judgement rows moment drawn request) c.in-Ok.ensures in
-    let all = if_change (IsChange rows moment (effect rows (entry_of moment drawn request))) c.in-Ok.judged (judgement rows moment drawn request) same
-    (change_is_entry rows moment drawn request c.requires.kept c.requires.drawn) in
+    let judged = c.in-Ok.judged in
+    let is = judges rows moment key drawn request judged c.requires.sound c.requires.moment c.requires.forms
+    c.requires.drawn c.in-Ok.ensures in
     record {
-      judged = same;
-      makes = if_change_then c.in-Ok.judged _ (λ change. changed (sweep rows moment) change ≡ effect rows (entry_of moment drawn request)) (λ change h. h.makes) all;
-      can = if_change_then c.in-Ok.judged _ (CanMake rows) (λ change h. h.can) all;
-      stands = if_change_then c.in-Ok.judged _ (StandsAt rows moment) (λ change h. h.stands) all;
-      change_kept = if_change_then c.in-Ok.judged _ ChangeKept (λ change h. h.kept) all;
+      judged = is.judged;
+      judgement_is_no_memory = judgement_is_no_memory rows moment drawn request;
+      refused = is.refused;
+      unchanged = is.unchanged;
+      makes = if_change_then judged _ (Makes rows (entry_of moment key drawn request)) (λ change h. h.makes) is.change;
+      can = if_change_then judged _ (CanMake rows) (λ change h. h.can) is.change;
+      stands = if_change_then judged _ (StandsAt rows moment) (λ change h. h.stands) is.change;
+      change_sound = if_change_then judged _ (ChangeSound (sweep rows moment)) (λ change h. h.sound) is.change;
     }
+
+pub returns-in-Err : goal.returns-in-Err
+returns-in-Err c = record {
+  judged = tt;
+  judgement_is_no_memory = judgement_is_no_memory c.args.table.now c.args.moment c.args.drawn.now c.args.request.now;
+  refused = tt;
+  unchanged = tt;
+  makes = tt;
+  can = tt;
+  stands = tt;
+  change_sound = tt;
+}

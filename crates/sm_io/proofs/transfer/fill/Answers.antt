@@ -8,7 +8,8 @@ loop-at-preserved g c =
     let step = c.in-Ok.ensures in (
       omega (arith, step.within),
       step.there,
-      prepend_known-piece _ _ _ c.loop-at.vec.items c.take_at.new.vec.items c.loop-at.at c.in-Ok.count before.2 step.front step.bytes,
+      prepend_known-piece _ _ _ c.loop-at.vec.items c.take_at.new.vec.items c.loop-at.at c.in-Ok.count before.2
+          step.front step.bytes,
       omega (arith, step.later),
       cc (step.beside, before.4),
     )

@@ -8,7 +8,10 @@ use Rattle.sm_lock.proofs.build.lay.Goals as goal
 pub new-requires : goal.new-requires
 new-requires g c =
     let org = g.T.Storied.origin in let sty = g.T.Storied.story in let value = c.of.result.value in
-    let slots : c.push_reserved.new.self.items ≡ Some c.args.value ∷ [] = c.push_reserved.ensures.items ∙ ap (λ (l : List (Option g.row.T.Denot)). l ++ Some c.args.value ∷ []) (c.in-Ok.ensures.items) in
-    subst (λ (l : List (Option g.row.T.Denot)). Counted org sty (org value) (sty value) c.args.seats (opening (0 ∷ 0 ∷ c.length.result ∷ []) l (first_view (org value) (sty value)))) (sym slots)
-    (opens org sty (org value) (sty value) c.args.seats (0 ∷ 0 ∷ c.length.result ∷ []) c.args.value (ap (λ n. 0 ∷ 0 ∷ n ∷ []) (c.length.ensures ∙ ap (λ x. length (sty x)) (sym c.of.ensures)))
+    let slots : c.push_reserved.new.self.items ≡ Some c.args.value ∷ [] = c.push_reserved.ensures.items
+    ∙ ap (λ (l : List (Option g.row.T.Denot)). l ++ Some c.args.value ∷ []) (c.in-Ok.ensures.items) in
+    subst (λ (l : List (Option g.row.T.Denot)). Counted org sty (org value) (sty value) c.args.seats
+    (opening (0 ∷ 0 ∷ c.length.result ∷ []) l (first_view (org value) (sty value)))) (sym slots)
+    (opens org sty (org value) (sty value) c.args.seats (0 ∷ 0 ∷ c.length.result ∷ []) c.args.value
+    (ap (λ n. 0 ∷ 0 ∷ n ∷ []) (c.length.ensures ∙ ap (λ x. length (sty x)) (sym c.of.ensures)))
     (ap sty (sym c.of.ensures)) (ap org (sym c.of.ensures)))

@@ -4,4 +4,5 @@ use Rattle.sm_versions.proofs.moving.move_label.Goals as goal
 
 pub returns-in-Ok-clause-kept : goal.returns-in-Ok-clause-kept
 returns-in-Ok-clause-kept c =
-    after_move c.in-Ok.moved c.args.row.now _ c.args.label.now (option_copied c.args.to) (option_copied c.args.from) c.in-Ok.ensures.answer c.in-Ok.ensures.row
+    after_move c.in-Ok.moved c.args.row.now _ c.args.label.now (option_copied c.args.to) (option_copied c.args.from)
+    c.in-Ok.ensures.answer c.in-Ok.ensures.row

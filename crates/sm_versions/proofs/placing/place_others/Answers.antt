@@ -5,5 +5,6 @@ use Rattle.sm_versions.proofs.placing.place_others.Goals as goal
 
 pub loop-i-preserved : goal.loop-i-preserved
 loop-i-preserved c =
-    let e = place_others_more c.args.pairs.now.items c.args.labels.now c.loop-i.i c.index-labels-i.result c.args.id.now c.loop-i-test.true c.index-labels-i.is in
+    let e = place_others_more c.args.pairs.now.items c.args.labels.now c.loop-i.i c.index-labels-i.result c.args.id.now
+    c.loop-i-test.true c.index-labels-i.is in
     grind (arith, common_steps)

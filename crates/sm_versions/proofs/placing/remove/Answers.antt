@@ -6,5 +6,6 @@ use Rattle.sm_versions.proofs.placing.remove.Goals as goal
 
 pub returns : goal.returns
 returns c =
-    filter_same _ (λ p. not (same_text p.label c.args.label.now)) _ (λ x b q k. search rules) _ _ c.retain.ensures.filtered
+    filter_same _ (λ p. not (same_text p.label c.args.label.now)) _ (λ x b q k. search rules) _ _
+    c.retain.ensures.filtered
     ∙ without_is_filter c.args.pairs.now.items c.args.label.now

@@ -1,8 +1,8 @@
 use Rattle.std.proofs.Common.{◌≡◌, [], ◌∷◌, ◌++◌, length, Some, None, refl, arith}
 use Rattle.sm_disk.specs.OneFile.{EachHas}
-use Rattle.sm_journal.specs.Records.{front, entry_of, AtRest, Loose, Gated, RecoversEither}
+use Rattle.sm_journal.specs.Records.{first_format, front, entry_of, AtRest, Loose, Gated, RecoversEither}
 use Rattle.sm_journal.proofs.Front.{length-front, size-push, within-push}
-use Rattle.sm_journal.proofs.Standing.{loose_either, gated_either, ends_either, opened, sure_ends, closed_gated, now_has, less, both, at_err}
+use Rattle.sm_journal.proofs.Standing.{loose_either, gated_either, ends_either, whole, opened, sure_ends, closed_gated, now_has, less, both, at_err}
 use Rattle.sm_journal.specs.declared.tail.Tail.TheVariants.{Sure}
 use Rattle.sm_journal.proofs.journal.Journal.write.Goals as goal
 
@@ -10,32 +10,47 @@ pub returns-in_err-stage-clause-any_moment : goal.returns-in_err-stage-clause-an
 returns-in_err-stage-clause-any_moment g c bodies stands =
     let journal = c.args.self.now in
     let body = c.args.body.now in
-    let at : journal.gate ≡ length (front bodies) = omega (arith, stands.length, length-front bodies) in
-    let rest : EachHas journal.file (AtRest (front bodies)) (g.D.Disk.sight journal.disk).images = λ image was. sure_ends journal.tail bodies None c.requires.sure (image journal.file) (stands.ends image was) in
-    let staging = c.stage.ensures.run (front bodies) at rest in
-    less journal.file (Loose (front bodies)) (RecoversEither bodies (Some body)) _ _ (loose_either bodies (Some body) stands.within) staging
+    let at : journal.gate ≡ length (front first_format bodies) =
+    omega (arith, stands.length, length-front first_format bodies) in
+    let rest : EachHas journal.file (AtRest (front first_format bodies)) (g.D.Disk.sight journal.disk).images =
+    λ image was. sure_ends journal.tail bodies None c.requires.sure (image journal.file) (stands.ends image was) in
+    let staging = c.stage.ensures.run (front first_format bodies) at rest in
+    less journal.file (Loose (front first_format bodies)) (RecoversEither bodies (Some body)) _ _
+    (loose_either bodies (Some body) stands.within) staging
 
 pub returns-in_err-set_gate-clause-any_moment : goal.returns-in_err-set_gate-clause-any_moment
 returns-in_err-set_gate-clause-any_moment g c bodies stands =
     let journal = c.args.self.now in
     let body = c.args.body.now in
-    let at : journal.gate ≡ length (front bodies) = omega (arith, stands.length, length-front bodies) in
-    let rest : EachHas journal.file (AtRest (front bodies)) (g.D.Disk.sight journal.disk).images = λ image was. sure_ends journal.tail bodies None c.requires.sure (image journal.file) (stands.ends image was) in
-    let staging = c.stage.ensures.run (front bodies) at rest in
-    let staged : EachHas journal.file (Gated (front bodies) (entry_of body ++ 0 ∷ [])) (g.D.Disk.sight c.stage.new.disk).images = λ image was. closed_gated _ _ _ (c.in_ok-stage.ensures.staged (front bodies) at rest image was) in
-    let setting = c.set_gate.ensures.run (front bodies) (entry_of body ++ 0 ∷ []) at staged in
-    both journal.file (Loose (front bodies)) (Gated (front bodies) (entry_of body ++ 0 ∷ [])) (RecoversEither bodies (Some body)) _ _ _ (loose_either bodies (Some body) stands.within) (gated_either bodies body stands.within c.requires.room.0) staging setting
+    let at : journal.gate ≡ length (front first_format bodies) =
+    omega (arith, stands.length, length-front first_format bodies) in
+    let rest : EachHas journal.file (AtRest (front first_format bodies)) (g.D.Disk.sight journal.disk).images =
+    λ image was. sure_ends journal.tail bodies None c.requires.sure (image journal.file) (stands.ends image was) in
+    let staging = c.stage.ensures.run (front first_format bodies) at rest in
+    let staged : EachHas journal.file (Gated (front first_format bodies) (entry_of body ++ 0 ∷ []))
+    (g.D.Disk.sight c.stage.new.disk).images = λ image was.
+    closed_gated _ _ _ (c.in_ok-stage.ensures.staged (front first_format bodies) at rest image was) in
+    let setting = c.set_gate.ensures.run (front first_format bodies) (entry_of body ++ 0 ∷ []) at staged in
+    both journal.file (Loose (front first_format bodies)) (Gated (front first_format bodies) (entry_of body ++ 0 ∷ []))
+    (RecoversEither bodies (Some body)) _ _ _ (loose_either bodies (Some body) stands.within)
+    (gated_either bodies body stands.within c.requires.room.0) staging setting
 
 pub returns-clause-any_moment : goal.returns-clause-any_moment
 returns-clause-any_moment g c bodies stands =
     let journal = c.args.self.now in
     let body = c.args.body.now in
-    let at : journal.gate ≡ length (front bodies) = omega (arith, stands.length, length-front bodies) in
-    let rest : EachHas journal.file (AtRest (front bodies)) (g.D.Disk.sight journal.disk).images = λ image was. sure_ends journal.tail bodies None c.requires.sure (image journal.file) (stands.ends image was) in
-    let staging = c.stage.ensures.run (front bodies) at rest in
-    let staged : EachHas journal.file (Gated (front bodies) (entry_of body ++ 0 ∷ [])) (g.D.Disk.sight c.stage.new.disk).images = λ image was. closed_gated _ _ _ (c.in_ok-stage.ensures.staged (front bodies) at rest image was) in
-    let setting = c.set_gate.ensures.run (front bodies) (entry_of body ++ 0 ∷ []) at staged in
-    both journal.file (Loose (front bodies)) (Gated (front bodies) (entry_of body ++ 0 ∷ [])) (RecoversEither bodies (Some body)) _ _ _ (loose_either bodies (Some body) stands.within) (gated_either bodies body stands.within c.requires.room.0) staging setting
+    let at : journal.gate ≡ length (front first_format bodies) =
+    omega (arith, stands.length, length-front first_format bodies) in
+    let rest : EachHas journal.file (AtRest (front first_format bodies)) (g.D.Disk.sight journal.disk).images =
+    λ image was. sure_ends journal.tail bodies None c.requires.sure (image journal.file) (stands.ends image was) in
+    let staging = c.stage.ensures.run (front first_format bodies) at rest in
+    let staged : EachHas journal.file (Gated (front first_format bodies) (entry_of body ++ 0 ∷ []))
+    (g.D.Disk.sight c.stage.new.disk).images = λ image was.
+    closed_gated _ _ _ (c.in_ok-stage.ensures.staged (front first_format bodies) at rest image was) in
+    let setting = c.set_gate.ensures.run (front first_format bodies) (entry_of body ++ 0 ∷ []) at staged in
+    both journal.file (Loose (front first_format bodies)) (Gated (front first_format bodies) (entry_of body ++ 0 ∷ []))
+    (RecoversEither bodies (Some body)) _ _ _ (loose_either bodies (Some body) stands.within)
+    (gated_either bodies body stands.within c.requires.room.0) staging setting
 
 pub returns-in_err-stage-clause-err : goal.returns-in_err-stage-clause-err
 returns-in_err-stage-clause-err g c = at_err c.from_residual.result (
@@ -43,10 +58,14 @@ returns-in_err-stage-clause-err g c = at_err c.from_residual.result (
   λ bodies stands.
       let journal = c.args.self.now in
       let body = c.args.body.now in
-      let at : journal.gate ≡ length (front bodies) = omega (arith, stands.length, length-front bodies) in
-      let rest : EachHas journal.file (AtRest (front bodies)) (g.D.Disk.sight journal.disk).images = λ image was. sure_ends journal.tail bodies None c.requires.sure (image journal.file) (stands.ends image was) in
-      let staging = c.stage.ensures.run (front bodies) at rest in
-      let loose = now_has journal.file (Loose (front bodies)) (Loose (front bodies)) _ _ staging in
+      let at : journal.gate ≡ length (front first_format bodies) =
+      omega (arith, stands.length, length-front first_format bodies) in
+      let rest : EachHas journal.file (AtRest (front first_format bodies)) (g.D.Disk.sight journal.disk).images =
+      λ image was. sure_ends journal.tail bodies None c.requires.sure (image journal.file) (stands.ends image was)
+      in
+      let staging = c.stage.ensures.run (front first_format bodies) at rest in
+      let loose = now_has journal.file (Loose (front first_format bodies))
+      (Loose (front first_format bodies)) _ _ staging in
       record {
         length = stands.length;
         within = stands.within;
@@ -62,12 +81,18 @@ returns-in_err-set_gate-clause-err g c = at_err c.from_residual-in_err-set_gate.
   λ bodies stands.
       let journal = c.args.self.now in
       let body = c.args.body.now in
-      let at : journal.gate ≡ length (front bodies) = omega (arith, stands.length, length-front bodies) in
-      let rest : EachHas journal.file (AtRest (front bodies)) (g.D.Disk.sight journal.disk).images = λ image was. sure_ends journal.tail bodies None c.requires.sure (image journal.file) (stands.ends image was) in
-      let staging = c.stage.ensures.run (front bodies) at rest in
-      let staged : EachHas journal.file (Gated (front bodies) (entry_of body ++ 0 ∷ [])) (g.D.Disk.sight c.stage.new.disk).images = λ image was. closed_gated _ _ _ (c.in_ok-stage.ensures.staged (front bodies) at rest image was) in
-      let setting = c.set_gate.ensures.run (front bodies) (entry_of body ++ 0 ∷ []) at staged in
-      let gated = now_has journal.file (Gated (front bodies) (entry_of body ++ 0 ∷ [])) (Gated (front bodies) (entry_of body ++ 0 ∷ [])) _ _ setting in
+      let at : journal.gate ≡ length (front first_format bodies) =
+      omega (arith, stands.length, length-front first_format bodies) in
+      let rest : EachHas journal.file (AtRest (front first_format bodies)) (g.D.Disk.sight journal.disk).images =
+      λ image was. sure_ends journal.tail bodies None c.requires.sure (image journal.file) (stands.ends image was)
+      in
+      let staging = c.stage.ensures.run (front first_format bodies) at rest in
+      let staged : EachHas journal.file (Gated (front first_format bodies) (entry_of body ++ 0 ∷ []))
+      (g.D.Disk.sight c.stage.new.disk).images = λ image was.
+      closed_gated _ _ _ (c.in_ok-stage.ensures.staged (front first_format bodies) at rest image was) in
+      let setting = c.set_gate.ensures.run (front first_format bodies) (entry_of body ++ 0 ∷ []) at staged in
+      let gated = now_has journal.file (Gated (front first_format bodies) (entry_of body ++ 0 ∷ []))
+      (Gated (front first_format bodies) (entry_of body ++ 0 ∷ [])) _ _ setting in
       record {
         length = stands.length;
         within = stands.within;
@@ -83,18 +108,29 @@ returns-clause-ok g c = (
   λ bodies stands.
       let journal = c.args.self.now in
       let body = c.args.body.now in
-      let at : journal.gate ≡ length (front bodies) = omega (arith, stands.length, length-front bodies) in
-      let rest : EachHas journal.file (AtRest (front bodies)) (g.D.Disk.sight journal.disk).images = λ image was. sure_ends journal.tail bodies None c.requires.sure (image journal.file) (stands.ends image was) in
-      let staging = c.stage.ensures.run (front bodies) at rest in
-      let staged : EachHas journal.file (Gated (front bodies) (entry_of body ++ 0 ∷ [])) (g.D.Disk.sight c.stage.new.disk).images = λ image was. closed_gated _ _ _ (c.in_ok-stage.ensures.staged (front bodies) at rest image was) in
-      let setting = c.set_gate.ensures.run (front bodies) (entry_of body ++ 0 ∷ []) at staged in
+      let at : journal.gate ≡ length (front first_format bodies) =
+      omega (arith, stands.length, length-front first_format bodies) in
+      let rest : EachHas journal.file (AtRest (front first_format bodies)) (g.D.Disk.sight journal.disk).images =
+      λ image was. sure_ends journal.tail bodies None c.requires.sure (image journal.file) (stands.ends image was)
+      in
+      let staging = c.stage.ensures.run (front first_format bodies) at rest in
+      let staged : EachHas journal.file (Gated (front first_format bodies) (entry_of body ++ 0 ∷ []))
+      (g.D.Disk.sight c.stage.new.disk).images = λ image was.
+      closed_gated _ _ _ (c.in_ok-stage.ensures.staged (front first_format bodies) at rest image was) in
+      let setting = c.set_gate.ensures.run (front first_format bodies) (entry_of body ++ 0 ∷ []) at staged in
       let within = within-push bodies body stands.within c.requires.room.0 in
-      let rests : EachHas journal.file (AtRest (front (bodies ++ body ∷ []))) (g.D.Disk.sight c.set_gate.new.disk).images = λ image was. opened bodies body _ (c.in_ok-set_gate.ensures.set (front bodies) (entry_of body ++ 0 ∷ []) at staged image was) in
-      record {
-        length = omega (arith, stands.length, size-push bodies body);
-        within = within;
-        last = tt;
-        recovers = λ image was. ends_either Sure (bodies ++ body ∷ []) None within tt _ (rests image was);
-        ends = rests;
-      },
+      let rests : EachHas journal.file (AtRest (front first_format (bodies ++ body ∷ [])))
+      (g.D.Disk.sight c.set_gate.new.disk).images =
+      λ image was. opened bodies body _
+      (c.in_ok-set_gate.ensures.set (front first_format bodies) (entry_of body ++ 0 ∷ []) at staged image was) in (
+        record {
+          length = omega (arith, stands.length, size-push bodies body);
+          within = within;
+          last = tt;
+          recovers = λ image was. ends_either Sure (bodies ++ body ∷ []) None within tt _ (rests image was);
+          ends = rests;
+        },
+        λ image was. whole bodies body _ (c.in_ok-set_gate.ensures.set (front first_format bodies)
+            (entry_of body ++ 0 ∷ []) at staged image was),
+      ),
 )

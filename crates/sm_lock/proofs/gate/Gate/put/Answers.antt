@@ -10,7 +10,8 @@ fetch_add-requires g c =
     let put = c.exchange-before.ensures.3 in let value = c.args.value in (
       search rules,
       search rules,
-      raises g.T.Storied.origin g.T.Storied.story _ _ _ _ _ c.exchange-before.new.seat.me _ value _ (ap (λ m. m.0.turn) put ∙ c.requires.turn.0)
+      raises g.T.Storied.origin g.T.Storied.story _ _ _ _ _ c.exchange-before.new.seat.me _ value _
+          (ap (λ m. m.0.turn) put ∙ c.requires.turn.0)
           (ap (λ m. m.1) put ∙ ap (λ l. (0, Some value) ∷ rest l) c.requires.turn.1) c.requires.value.1
           (subst (λ v. AddsOne v (g.T.Storied.story value) c.args.more) (sym (ap (λ m. m.0) put)) c.requires.more),
     )
@@ -22,7 +23,8 @@ load-requires g c =
     let raised = c.fetch_add.ensures.2 value [] carries in (
       search rules,
       search rules,
-      returns_value g.T.Storied.origin g.T.Storied.story _ _ _ _ _ c.fetch_add.new.seat.me _ value (ap (λ m. m.0.turn) raised ∙ (ap (λ m. m.0.turn) put ∙ c.requires.turn.0))
+      returns_value g.T.Storied.origin g.T.Storied.story _ _ _ _ _ c.fetch_add.new.seat.me _ value
+          (ap (λ m. m.0.turn) raised ∙ (ap (λ m. m.0.turn) put ∙ c.requires.turn.0))
           (ap (λ m. m.1) raised ∙ carries) (sym (ap (λ m. m.0.own.seen) raised)) c.requires.value.0,
     )
 

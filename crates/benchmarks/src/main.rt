@@ -1,0 +1,114 @@
+//! Work to be timed from outside: `benchmarks table 100` makes so many secrets in a table, and says how many there are.
+#![tactic(auto)]
+
+ghost use Rattle.std.specs.Prelude.{◌≡◌, IfOk};
+ghost use Rattle.sm_versions.specs.Sound.{IsArnOf};
+
+use sm_model::{
+    Arn, Change, Copied, List, Moment, Name, NoMemory, ReadRefused, Rotation, RowList, SecretId,
+    SecretRow,
+};
+use sm_table::Table;
+use std::alloc::Global;
+use std::env::Env;
+use std::process::ExitCode;
+use std::{env, io};
+
+const NOW: Moment = Moment(1_700_000_000);
+
+fn main(rt: HostRuntime) -> ExitCode {
+    let made = match words(&rt, rt.alloc()) {
+        Ok(words) => run(rt.alloc(), words.as_slice()),
+        Err(_) => None,
+    };
+    match made {
+        Some(count) => {
+            let _ = println!(rt; "{count} secrets");
+            ExitCode::SUCCESS
+        }
+        None => {
+            let _ = eprintln!(rt; "benchmarks: table <count>");
+            ExitCode::from(2)
+        }
+    }
+}
+
+/// The words behind the program's name.
+fn words(rt: &(impl Env + AllocGlobal), alloc: Global) -> io::Result<Vec<String>> {
+    let mut words = Vec::new(alloc);
+    for word in env::args(rt)?.skip(1) {
+        words.push(word)?;
+    }
+    Ok(words)
+}
+
+/// How many secrets were made, or nothing where the words or the memory did not do.
+fn run(alloc: Global, words: &[String]) -> Option<usize> {
+    match words {
+        [work, count] if work.as_str() == "table" => match count.as_str().parse::<u32>() {
+            Ok(count) => fill(alloc, count).ok(),
+            Err(_) => None,
+        },
+        _ => None,
+    }
+}
+
+/// The name of a secret.
+fn name_text(alloc: Global, number: u32) -> Result<String, NoMemory> {
+    Ok(format!(in alloc; "{number:08}")?)
+}
+
+/// A table of so many secrets.
+fn fill(alloc: Global, count: u32) -> Result<usize, ReadRefused> {
+    let mut table = Table::new(alloc);
+    for number in 0..count {
+        let text = name_text(alloc, number)?;
+        let name = Name::read(alloc, text.as_bytes())?;
+        add(alloc, &mut table, name)?;
+    }
+    Ok(table.count())
+}
+
+/// Adds a secret, unless the name is held.
+fn add(alloc: Global, table: &mut Table, name: Name) -> Result<(), ReadRefused> {
+    let serial = table.next();
+    let id = SecretId::Name(name.copy(alloc)?);
+    if serial == u64::MAX || table.find(&id, NOW).is_some() {
+        return Ok(());
+    }
+    let row = fresh(alloc, serial, name)?;
+    let prepared = table.prepare(Change::Add(row))?;
+    table.commit(prepared, NOW);
+    Ok(())
+}
+
+/// A secret without versions.
+#[tactic(auto, using(sm_versions::proofs::ArnLemmas::drawn_is_arn_of))]
+fn fresh(alloc: Global, serial: u64, name: Name) -> Result<SecretRow, ReadRefused>
+    ensures { IfOk result (λ row. (row.serial ≡ serial) × (row.name ≡ name) × IsArnOf row.arn row.name) }
+{
+    let arn = Arn::drawn(alloc, &name, &[0; 6])?;
+    Ok(SecretRow {
+        serial,
+        arn,
+        name,
+        created: NOW,
+        changed: NOW,
+        description: None,
+        kms: None,
+        tags: List::empty(alloc),
+        versions: List::empty(alloc),
+        next_version: 0,
+        labels: List::empty(alloc),
+        deletion: None,
+        rotation: Rotation {
+            enabled: false,
+            lambda: None,
+            days: None,
+            next: None,
+            last: None,
+        },
+        policy: None,
+        job: None,
+    })
+}

@@ -1,0 +1,11 @@
+pub mod ArnLemmas
+pub mod ArnShapeLemmas
+pub mod CharacterLemmas
+pub mod DrawnLemmas
+pub mod FaultCounts
+pub mod FaultLemmas
+pub mod LabelLemmas
+pub mod PartLemmas
+pub mod RunLemmas
+pub mod SecretIdLemmas
+pub mod SpelledLemmas

@@ -1,0 +1,10 @@
+pub mod Characters
+pub mod Drawn
+pub mod Fails
+pub mod Faults
+pub mod FirstFault
+pub mod Outcomes
+pub mod Parts
+pub mod Reading
+pub mod SecretId
+pub mod Spelling

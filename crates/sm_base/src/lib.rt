@@ -1,0 +1,29 @@
+//! What every layer stands on: texts, bytes and lists, want of memory and copies, moments, faults that are told, and
+//! names,
+//! tokens, labels and ARNs in their spelling.
+//!
+//! Contracts see `Text` and `Bytes` as the list of their bytes, and `List<T>` as the list of its items.
+#![tactic(auto)]
+
+pub mod bad_kind;
+pub mod bytes;
+mod characters;
+pub mod fails;
+pub mod list;
+pub mod memory;
+pub mod moment;
+mod parts;
+pub mod secret_id;
+pub mod spelled;
+pub mod spelling;
+pub mod text;
+
+pub use bad_kind::BadKind;
+pub use bytes::Bytes;
+pub use fails::Fails;
+pub use list::List;
+pub use memory::{Copied, NoMemory, copy_three, copy_two};
+pub use moment::Moment;
+pub use secret_id::SecretId;
+pub use spelling::{Arn, Label, Name, ReadRefused, Token};
+pub use text::Text;

@@ -1,0 +1,128 @@
+//! Texts.
+ghost use Rattle.std.specs.Prelude.{◌≡◌, ℕ, ◌↔◌, IsTrue, IfOk, IsUtf8, length, string_bytes};
+ghost use Rattle.std.specs.Str.{is_utf8};
+
+use crate::memory::{Copied, NoMemory};
+use std::alloc::Global;
+use std::borrow::CowStr;
+use std::marker::Model;
+use std::str;
+
+/// UTF-8 text, which contracts see as the list of its bytes. A text that the program itself has, such as the
+/// name of a member, takes no memory.
+#[derive(Drop)]
+pub struct Text {
+    kept: CowStr<'static>,
+}
+
+impl Model for Text {
+    ghost use Rattle.std.specs.Prelude.{List, ℕ};
+    ghost use Rattle.std.specs.Cow.{cow_str_bytes};
+
+    ghost Value = { List ℕ };
+
+    ghost view = { λ t. cow_str_bytes t.kept };
+}
+
+impl Text {
+    /// The text of a string. It takes no memory.
+    pub fn new(string: String) -> Text
+        ensures { result ≡ string_bytes string }
+    {
+        Text {
+            kept: CowStr::Owned(string),
+        }
+    }
+
+    /// A text of the program's own. It takes no memory.
+    pub fn fixed(text: &'static str) -> Text
+        ensures { result ≡ text.now }
+    {
+        Text {
+            kept: CowStr::Borrowed(text),
+        }
+    }
+
+    /// A text with these characters.
+    pub fn from_str(alloc: Global, text: &str) -> Result<Text, NoMemory>
+        ensures { IfOk result (λ t. t ≡ text.now) }
+    {
+        Ok(Text::new(String::from_str(alloc, text)?))
+    }
+
+    /// The text of bytes that are UTF-8.
+    #[tactic(auto, using(crate::proofs::FaultLemmas::utf8_is_text))]
+    pub fn from_utf8(alloc: Global, bytes: &[u8]) -> Result<Text, NoMemory>
+        requires { IsTrue (is_utf8 bytes.now) }
+        ensures { IfOk result (λ t. t ≡ bytes.now) }
+    {
+        match str::from_utf8(bytes) {
+            Ok(text) => Text::from_str(alloc, text),
+            Err(_) => unreachable!(),
+        }
+    }
+
+    /// The text as a string. It takes memory only for a text of the program's own.
+    pub fn into_string(self, alloc: Global) -> Result<String, NoMemory>
+        ensures { IfOk result (λ s. string_bytes s ≡ self) }
+    {
+        let Text { kept } = self;
+        Ok(kept.into_owned(alloc)?)
+    }
+
+    pub fn as_str(&self) -> &str
+        ensures { result.now ≡ self.now }
+    {
+        self.kept.as_str()
+    }
+
+    pub fn as_bytes(&self) -> &[u8]
+        ensures value { result.now ≡ self.now }
+        ensures utf8 { IsUtf8 result.now }
+    {
+        self.kept.as_str().as_bytes()
+    }
+
+    /// How many bytes it has.
+    pub fn len(&self) -> usize
+        ensures { result ≡ length self.now }
+    {
+        self.kept.as_str().len()
+    }
+
+    pub fn is_empty(&self) -> bool
+        ensures { IsTrue result ↔ (length self.now ≡ 0) }
+    {
+        self.len() == 0
+    }
+
+    /// Whether both have the same bytes.
+    pub fn equals(&self, other: &Text) -> bool
+        ensures { IsTrue result ↔ (self.now ≡ other.now) }
+    {
+        self.as_str() == other.as_str()
+    }
+}
+
+impl Copied for Text {
+    fn copy(&self, alloc: Global) -> Result<Text, NoMemory> {
+        match &self.kept {
+            CowStr::Borrowed(text) => Ok(Text::fixed(text)),
+            CowStr::Owned(string) => Text::from_str(alloc, string.as_str()),
+        }
+    }
+}
+
+impl PartialEq for Text {
+    ghost use Rattle.std.specs.Cmp.Lexicographic.{pointwise, nat_list_eq_equiv};
+    ghost use Rattle.std.specs.Cmp.{partial_equiv_from_equiv};
+    ghost use Rattle.std.specs.Prelude.{nat_eq};
+
+    ghost eq = { pointwise nat_eq };
+
+    ghost laws = { partial_equiv_from_equiv nat_list_eq_equiv };
+
+    fn eq(&self, other: &Text) -> bool {
+        self.as_str() == other.as_str()
+    }
+}

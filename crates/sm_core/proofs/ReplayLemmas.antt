@@ -1,0 +1,94 @@
+-- An entry that is judged again: it is accepted exactly where it is legal, and its change is the entry's.
+use Rattle.std.proofs.Common.{◌≡◌, ℕ, ◌≤◌, Bool, true, false, cond, nat_eq, List, [], length, Option, Some, None, IsSome, refl, sym, subst, arith}
+use Rattle.std.proofs.lemmas.Bool.Decides.{nat_tests}
+use Rattle.sm_base.specs.declared.moment.Moment.{Moment}
+use Rattle.sm_base.specs.declared.moment.TheConstants.{LAST_READING}
+use Rattle.sm_base.specs.Outcomes.{OrMemory}
+use Rattle.sm_model.specs.declared.entry.Act.{Act}
+use Rattle.sm_model.specs.declared.entry.Act.TheVariants.{Asked, Begun, Reported}
+use Rattle.sm_model.specs.declared.entry.Change.{Change}
+use Rattle.sm_model.specs.declared.entry.Entry.{Entry}
+use Rattle.sm_model.specs.declared.rows.Rows.{Rows}
+use Rattle.sm_model.specs.declared.why.Why.{Why}
+use Rattle.sm_model.specs.Needed.{needed}
+use Rattle.sm_table.specs.Sound.{Sound}
+use Rattle.sm_table.specs.Sweep.{sweep}
+use Rattle.sm_forms.specs.Forms.{forms_of}
+use Rattle.sm_judging.specs.declared.judged.Judged.{Judged}
+use Rattle.sm_judging.specs.declared.judged.Judged.TheVariants as judged
+use Rattle.sm_judging.specs.Changes.{settled, IsChange}
+use Rattle.sm_judging.specs.Judged.{IfChange}
+use Rattle.sm_core.specs.declared.replaying.Replayed.{Replayed}
+use Rattle.sm_core.specs.declared.replaying.Replayed.TheVariants.{Accept, Refuse, Memory}
+use Rattle.sm_core.specs.Effects.{act_effect, effect}
+use Rattle.sm_core.specs.Histories.{IsDue, LegalAct}
+use Rattle.sm_core.specs.Judging.{judgement}
+use Rattle.sm_core.specs.Replaying.{again_told, IfReplayed, AsLegal, change_of, change_unless, replayed_act, replayed}
+use Rattle.sm_core.proofs.JudgingLemmas.{change_is_entry}
+
+-- there is a change exactly where the entry is legal, and it is the entry's
+abbrev Agrees : Type 0 → (Change → Type 0) → Option Change → Type 0
+Agrees L P None = L → ⊥
+Agrees L P (Some change) = L × P change
+
+-- the change of what is judged
+judged_agrees : (judged : Judged) (P : Change → Type 0) → IfChange judged P → Agrees (IsDue judged) P (change_of judged)
+judged_agrees (judged.Accept reply None) P h = λ due. absurd (let f : IsSome {T = Change} None = due in cc)
+judged_agrees (judged.Accept reply (Some change)) P h = (refl, h)
+judged_agrees (judged.Refuse why) P h = λ due. due
+judged_agrees judged.Memory P h = λ due. due
+
+request_agrees : (n m : ℕ) (enough : Bool) (forms : Option Why) (L : Type 0) (P : Change → Type 0)
+    (change : Option Change)
+    → nat_eq n m ≡ enough → (n ≡ m → forms ≡ None → Agrees L P change)
+    → Agrees ((n ≡ m) × (forms ≡ None) × L) P (cond enough (change_unless forms change) None)
+request_agrees n m true None L P None e h = λ legal. h legal.0 refl legal.2
+request_agrees n m true None L P (Some change) e h =
+    let same : n ≡ m = grind (arith, nat_tests, e) in let k = h same refl in ((same, refl, k.0), k.1)
+request_agrees n m true (Some why) L P change e h = λ legal. absurd (let f : Some why ≡ None = legal.1 in cc)
+request_agrees n m false forms L P change e h = λ legal. absurd (grind (arith, nat_tests, e, legal.0))
+
+act_agrees : (rows : Rows) (moment : Moment) (drawn : List ℕ) (act : Act) → Sound rows → moment.0 ≤ LAST_READING
+    → Agrees (LegalAct rows moment drawn act) (IsChange rows moment
+    (settled (act_effect (sweep rows moment) moment drawn act)))
+    (replayed_act rows moment drawn act)
+act_agrees rows moment drawn (Asked request) sound early =
+    request_agrees (length drawn) (needed request) (nat_eq (length drawn) (needed request)) (forms_of request)
+    (IsDue (judgement rows moment drawn request)) _ (change_of (judgement rows moment drawn request)) refl
+    (λ room forms. judged_agrees (judgement rows moment drawn request) _
+    (change_is_entry rows moment [] drawn request sound early forms room))
+act_agrees rows moment drawn (Begun arn) sound early = λ legal. legal
+act_agrees rows moment drawn (Reported arn at answer) sound early = λ legal. legal
+
+-- all that is said of an entry that is judged again
+pub record IsReplayed (rows : Rows) (entry : Entry) (result : Replayed) : Type 0 where
+  pub legal : AsLegal result (LegalAct rows entry.moment entry.drawn entry.act)
+  pub change : IfReplayed result (IsChange rows entry.moment (effect rows entry))
+
+by_change : (rows : Rows) (entry : Entry) (result : Replayed) (change : Option Change)
+    → OrMemory (again_told result) change
+    → Agrees (LegalAct rows entry.moment entry.drawn entry.act) (IsChange rows entry.moment (effect rows entry)) change
+    → IsReplayed rows entry result
+by_change rows entry (Accept made) change e agrees =
+    let is = subst (Agrees (LegalAct rows entry.moment entry.drawn entry.act)
+    (IsChange rows entry.moment (effect rows entry))) (sym e) agrees in
+    record { legal = is.0; change = is.1 }
+by_change rows entry Refuse change e agrees =
+    record {
+      legal = subst (Agrees (LegalAct rows entry.moment entry.drawn entry.act)
+          (IsChange rows entry.moment (effect rows entry))) (sym e) agrees;
+      change = tt;
+    }
+by_change rows entry Memory change e agrees = record { legal = tt; change = tt }
+
+pub replays : (rows : Rows) (entry : Entry) (result : Replayed) → Sound rows → entry.moment.0 ≤ LAST_READING
+    → OrMemory (again_told result) (replayed rows entry) → IsReplayed rows entry result
+replays rows entry result sound early e =
+    by_change rows entry result (replayed rows entry) e (act_agrees rows entry.moment entry.drawn entry.act sound early)
+
+-- one part of what is asked of a change
+pub if_replayed_then : (result : Replayed) (P Q : Change → Type 0) → ((change : Change) → P change → Q change)
+    → IfReplayed result P → IfReplayed result Q
+if_replayed_then (Accept change) P Q f h = f change h
+if_replayed_then Refuse P Q f h = tt
+if_replayed_then Memory P Q f h = tt

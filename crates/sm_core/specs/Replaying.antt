@@ -1,0 +1,62 @@
+-- An entry that is judged again.
+use Rattle.std.specs.Prelude.{ℕ, nat_eq, if◌then◌else◌, List, length, Option, Some, None, ⊤}
+use Rattle.sm_base.specs.declared.moment.Moment.{Moment}
+use Rattle.sm_model.specs.declared.entry.Act.{Act}
+use Rattle.sm_model.specs.declared.entry.Act.TheVariants.{Asked, Begun, Reported}
+use Rattle.sm_model.specs.declared.entry.Change.{Change}
+use Rattle.sm_model.specs.declared.entry.Entry.{Entry}
+use Rattle.sm_model.specs.declared.request.Request.{Request}
+use Rattle.sm_model.specs.declared.rows.Rows.{Rows}
+use Rattle.sm_model.specs.declared.why.Why.{Why}
+use Rattle.sm_model.specs.Needed.{needed}
+use Rattle.sm_forms.specs.Forms.{forms_of}
+use Rattle.sm_judging.specs.declared.judged.Judged.{Judged}
+use Rattle.sm_judging.specs.declared.judged.Judged.TheVariants as judged
+use Rattle.sm_core.specs.declared.replaying.Replayed.{Replayed}
+use Rattle.sm_core.specs.declared.replaying.Replayed.TheVariants.{Accept, Refuse, Memory}
+use Rattle.sm_core.specs.Judging.{judgement}
+
+-- the change, or that there is none; none of either where memory is wanted
+abbrev pub again_told : Replayed → Option (Option Change)
+again_told (Accept change) = Some (Some change)
+again_told Refuse = Some None
+again_told Memory = None
+
+-- a fact of the change, where there is one
+abbrev pub IfReplayed : Replayed → (Change → Type 0) → Type 0
+IfReplayed (Accept change) P = P change
+IfReplayed Refuse P = ⊤
+IfReplayed Memory P = ⊤
+
+-- accepted where this holds, and refused where it does not
+abbrev pub AsLegal : Replayed → Type 0 → Type 0
+AsLegal (Accept change) L = L
+AsLegal Refuse L = L → ⊥
+AsLegal Memory L = ⊤
+
+-- the change of what was judged
+abbrev pub change_of : Judged → Option Change
+change_of (judged.Accept reply change) = change
+change_of (judged.Refuse why) = None
+change_of judged.Memory = None
+
+-- the change of a request whose forms pass
+abbrev pub change_unless : Option Why → Option Change → Option Change
+change_unless None change = change
+change_unless (Some why) change = None
+
+-- the change of a request with as many random bytes as it needs
+abbrev pub replayed_request : Rows → Moment → List ℕ → Request → Option Change
+replayed_request rows moment drawn request =
+    if nat_eq (length drawn) (needed request) then change_unless (forms_of request)
+    (change_of (judgement rows moment drawn request))
+    else None
+
+abbrev pub replayed_act : Rows → Moment → List ℕ → Act → Option Change
+replayed_act rows moment drawn (Asked request) = replayed_request rows moment drawn request
+replayed_act rows moment drawn (Begun arn) = None
+replayed_act rows moment drawn (Reported arn at answer) = None
+
+-- the change of an entry, where it is legal at the rows
+abbrev pub replayed : Rows → Entry → Option Change
+replayed rows entry = replayed_act rows entry.moment entry.drawn entry.act

@@ -1,0 +1,100 @@
+//! Judging an entry of a history again.
+ghost use Rattle.std.specs.Prelude.{◌≡◌, ◌≤◌};
+ghost use Rattle.sm_base.specs.Outcomes.{OrMemory};
+ghost use Rattle.sm_base.specs.declared.moment.TheConstants.{LAST_READING};
+ghost use Rattle.sm_core.specs.Effects.{Makes};
+ghost use Rattle.sm_core.specs.Histories.{LegalAct};
+ghost use Rattle.sm_core.specs.Replaying.{again_told, IfReplayed, AsLegal, change_of, replayed_request, replayed};
+ghost use Rattle.sm_table.specs.Changes.{CanMake, StandsAt};
+ghost use Rattle.sm_table.specs.Sound.{ChangeSound, Sound};
+ghost use Rattle.sm_table.specs.Sweep.{sweep};
+
+use crate::judging::judge_exactly;
+use sm_forms::forms;
+use sm_judging::Judged;
+use sm_model::{Act, Change, Entry, Moment, NoMemory, Request, Why, need};
+use sm_table::Table;
+use std::alloc::Global;
+
+/// What an entry does to the rows that stand before it.
+#[derive(Drop)]
+pub enum Replayed {
+    /// It is legal there, and makes this change.
+    Accept(Change),
+    Refuse,
+    Memory,
+}
+
+/// Judges an entry again, on the rows that stand before it. Who asked was admitted when the entry was made.
+pub fn again(alloc: Global, table: &Table, entry: &Entry) -> Replayed
+    requires sound { Sound table.now }
+    requires moment { entry.now.moment.0 ≤ LAST_READING }
+
+    // It is accepted exactly where it is legal.
+    ensures replayed { OrMemory (again_told result) (replayed table.now entry.now) }
+    ensures legal { AsLegal result (LegalAct table.now entry.now.moment entry.now.drawn entry.now.act) }
+
+    // The change makes the rows of the entry, meets what the table asks of a change, and leaves the rows sound.
+    ensures makes { IfReplayed result (Makes table.now entry.now) }
+    ensures can { IfReplayed result (CanMake table.now) }
+    ensures stands { IfReplayed result (StandsAt table.now entry.now.moment) }
+    ensures change_sound { IfReplayed result (ChangeSound (sweep table.now entry.now.moment)) }
+{
+    replay_entry(alloc, table, entry)
+}
+
+/// Judges an entry again, also on rows of which nothing is known.
+pub fn replay_entry(alloc: Global, table: &Table, entry: &Entry) -> Replayed
+    ensures { OrMemory (again_told result) (replayed table.now entry.now) }
+{
+    match &entry.act {
+        Act::Asked(request) => {
+            replay_request(alloc, table, entry.moment, entry.drawn.as_slice(), request)
+        }
+        Act::Begun(_) => Replayed::Refuse,
+        Act::Reported(_, _, _) => Replayed::Refuse,
+    }
+}
+
+/// Judges an entry of a request again.
+fn replay_request(
+    alloc: Global,
+    table: &Table,
+    moment: Moment,
+    drawn: &[u8],
+    request: &Request,
+) -> Replayed
+    ensures { OrMemory (again_told result) (replayed_request table.now moment drawn.now request.now) }
+{
+    if drawn.len() != need(request) {
+        return Replayed::Refuse;
+    }
+    match forms(alloc, request) {
+        Some(Why::Memory) => Replayed::Memory,
+        Some(_) => Replayed::Refuse,
+        None => match judge_exactly(alloc, table, moment, drawn, request) {
+            Ok(judged) => replay_judged(judged),
+            Err(NoMemory) => Replayed::Memory,
+        },
+    }
+}
+
+/// The change that was judged, where there is one.
+fn replay_judged(judged: Judged) -> Replayed
+    ensures { OrMemory (again_told result) (change_of judged) }
+{
+    match judged {
+        Judged::Accept(_, change) => replay_change(change),
+        Judged::Refuse(_) => Replayed::Refuse,
+        Judged::Memory => Replayed::Memory,
+    }
+}
+
+fn replay_change(change: Option<Change>) -> Replayed
+    ensures { OrMemory (again_told result) change }
+{
+    match change {
+        Some(change) => Replayed::Accept(change),
+        None => Replayed::Refuse,
+    }
+}

@@ -1,0 +1,140 @@
+//! A request as a row says it: the operation's word, and its members, of which `.` stands for one that is absent.
+use sm_model::{
+    CreateSecret, GetSecretValue, List, PutSecretValue, Request, Text, UpdateSecretVersionStage,
+};
+use std::alloc::Global;
+use std::test::Fail;
+
+const BEGINNING: &str = "arn:aws:secretsmanager:us-east-1:000000000000:secret:";
+
+/// The column of a row, counted from 0.
+pub fn column(row: &str, index: usize) -> &str {
+    row.split("|").nth(index).unwrap_or("").trim()
+}
+
+/// The word of a text, counted from 0.
+fn word(text: &str, index: usize) -> &str {
+    text.split_whitespace().nth(index).unwrap_or(".")
+}
+
+fn given(alloc: Global, text: &str) -> Result<Option<Text>, Fail> {
+    if text == "." {
+        return Ok(None);
+    }
+    Ok(Some(Text::from_str(alloc, text)?))
+}
+
+/// A token of 32 digits for a number, or one that is too short.
+fn token(alloc: Global, text: &str) -> Result<Option<Text>, Fail> {
+    if text == "." || text == "short" {
+        return given(alloc, text);
+    }
+    let mut token = String::new(alloc);
+    for _ in text.len()..32 {
+        token.push_str("0")?;
+    }
+    token.push_str(text)?;
+    Ok(Some(Text::new(token)))
+}
+
+/// A name, or for a text with a hyphen the ARN that ends so.
+fn secret_id(alloc: Global, text: &str) -> Result<Text, Fail> {
+    let mut id = String::new(alloc);
+    if text.contains("-") {
+        id.push_str(BEGINNING)?;
+    }
+    id.push_str(text)?;
+    Ok(Text::new(id))
+}
+
+/// Labels with commas between them. A comma alone is a list of none.
+fn labels(alloc: Global, text: &str) -> Result<Option<List<Text>>, Fail> {
+    if text == "." {
+        return Ok(None);
+    }
+    let mut labels = Vec::new(alloc);
+    for label in text.split(",") {
+        if !label.is_empty() {
+            labels.push(Text::from_str(alloc, label)?)?;
+        }
+    }
+    Ok(Some(List::new(labels)))
+}
+
+/// Where the row has none a label is the empty text.
+fn label(alloc: Global, text: &str) -> Result<Text, Fail> {
+    if text == "." {
+        return Ok(Text::fixed(""));
+    }
+    Ok(Text::from_str(alloc, text)?)
+}
+
+/// A value of so many bytes, `v` each, where the text says so.
+fn value(alloc: Global, text: &str) -> Result<Option<Text>, Fail> {
+    let Some(length) = text.strip_prefix("v*") else {
+        return given(alloc, text);
+    };
+    let mut value = String::new(alloc);
+    for _ in 0..length.parse::<u32>().unwrap_or(0) {
+        value.push_str("v")?;
+    }
+    Ok(Some(Text::new(value)))
+}
+
+/// `create NAME VALUE TOKEN`
+fn create(alloc: Global, text: &str) -> Result<Request, Fail> {
+    let value = value(alloc, word(text, 2))?;
+    Ok(Request::CreateSecret(CreateSecret {
+        client_request_token: token(alloc, word(text, 3))?,
+        description: None,
+        kms_key_id: None,
+        name: Text::from_str(alloc, word(text, 1))?,
+        secret_binary: None,
+        secret_string: value,
+        tags: None,
+    }))
+}
+
+/// `put SECRET TOKEN VALUE LABELS`
+fn put(alloc: Global, text: &str) -> Result<Request, Fail> {
+    let version_stages = labels(alloc, word(text, 4))?;
+    let secret_id = secret_id(alloc, word(text, 1))?;
+    Ok(Request::PutSecretValue(PutSecretValue {
+        client_request_token: token(alloc, word(text, 2))?,
+        secret_binary: None,
+        secret_id,
+        secret_string: given(alloc, word(text, 3))?,
+        version_stages,
+    }))
+}
+
+/// `get SECRET VERSION LABEL`
+fn get(alloc: Global, text: &str) -> Result<Request, Fail> {
+    Ok(Request::GetSecretValue(GetSecretValue {
+        secret_id: secret_id(alloc, word(text, 1))?,
+        version_id: token(alloc, word(text, 2))?,
+        version_stage: given(alloc, word(text, 3))?,
+    }))
+}
+
+/// `move SECRET LABEL TARGET SOURCE`
+fn move_label(alloc: Global, text: &str) -> Result<Request, Fail> {
+    let version_stage = label(alloc, word(text, 2))?;
+    let secret_id = secret_id(alloc, word(text, 1))?;
+    Ok(Request::UpdateSecretVersionStage(UpdateSecretVersionStage {
+        move_to_version_id: token(alloc, word(text, 3))?,
+        remove_from_version_id: token(alloc, word(text, 4))?,
+        secret_id,
+        version_stage,
+    }))
+}
+
+/// The request of a text.
+pub fn request(alloc: Global, text: &str) -> Result<Request, Fail> {
+    match word(text, 0) {
+        "create" => create(alloc, text),
+        "put" => put(alloc, text),
+        "get" => get(alloc, text),
+        _ => move_label(alloc, text),
+    }
+}

@@ -1,0 +1,159 @@
+//! What a request is answered, as a line says it.
+use sm_core::Judged;
+use sm_model::{
+    GotSecret, Label, List, NamedSecret, PutValue, Reply, Text, Token, VersionedSecret, Why,
+};
+use std::alloc::Global;
+use std::test::Fail;
+
+const BEGINNING: &str = "arn:aws:secretsmanager:us-east-1:000000000000:secret:";
+
+pub fn plain(alloc: Global, text: &str) -> Result<String, Fail> {
+    Ok(String::from_str(alloc, text)?)
+}
+
+pub fn number(id: &Token) -> &str {
+    id.as_text().as_str().trim_start_matches('0')
+}
+
+fn id_text(alloc: Global, what: &str, id: &Token) -> Result<String, Fail> {
+    let id = number(id);
+    Ok(format!(in alloc; "{what} {id}")?)
+}
+
+fn text_text(alloc: Global, what: &str, text: &Text) -> Result<String, Fail> {
+    let text = text.as_str();
+    Ok(format!(in alloc; "{what} {text}")?)
+}
+
+fn why_text(alloc: Global, why: &Why) -> Result<String, Fail> {
+    match why {
+        Why::Form(member) => text_text(alloc, "form of", member),
+        Why::HeldBy(Some(id)) => id_text(alloc, "held by", id),
+        Why::HeldBy(None) => plain(alloc, "held by none"),
+        Why::KeepsCurrent => plain(alloc, "keeps current"),
+        Why::Empty(id) => id_text(alloc, "empty", id),
+        Why::Scheduled(date) => {
+            let date = date.0;
+            Ok(format!(in alloc; "scheduled at {date}")?)
+        }
+        Why::Differ => plain(alloc, "differ"),
+        Why::NoSecret => plain(alloc, "no secret"),
+        Why::NoVersion => plain(alloc, "no version"),
+        Why::NotThere(id) => id_text(alloc, "not there", id),
+        Why::SecretExists(name) => text_text(alloc, "exists", name),
+        Why::OtherValue(id) => id_text(alloc, "other value in", id),
+        Why::Limit(most, what) => {
+            let what = *what;
+            Ok(format!(in alloc; "limit of {most} {what:?}")?)
+        }
+        Why::NotBuilt => plain(alloc, "not built"),
+        _ => plain(alloc, "another refusal"),
+    }
+}
+
+/// The end of the ARN, and the name.
+fn secret_text(alloc: Global, arn: &Text, name: &Text) -> Result<String, Fail> {
+    let end = match arn.as_str().strip_prefix(BEGINNING) {
+        Some(end) => end,
+        None => "another ARN",
+    };
+    let name = name.as_str();
+    Ok(format!(in alloc; "{end} {name}")?)
+}
+
+fn push_labels(shown: &mut String, labels: &List<Label>) -> Result<(), Fail> {
+    for label in labels.as_slice() {
+        shown.push_str(" ")?;
+        shown.push_str(label.as_text().as_str())?;
+    }
+    Ok(())
+}
+
+fn push_number(shown: &mut String, id: &Token) -> Result<(), Fail> {
+    shown.push_str(" ")?;
+    shown.push_str(number(id))?;
+    Ok(())
+}
+
+fn created_text(alloc: Global, reply: &VersionedSecret) -> Result<String, Fail> {
+    let mut shown = secret_text(alloc, &reply.arn, &reply.name)?;
+    if let Some(id) = &reply.version_id {
+        push_number(&mut shown, id)?;
+    }
+    Ok(shown)
+}
+
+fn got_text(alloc: Global, reply: &GotSecret) -> Result<String, Fail> {
+    let mut shown = secret_text(alloc, &reply.arn, &reply.name)?;
+    push_number(&mut shown, &reply.version_id)?;
+    let made = reply.created_date.0;
+    let made = format!(in alloc; " {made}")?;
+    shown.push_str(made.as_str())?;
+    if let Some(text) = &reply.secret_string {
+        shown.push_str(" text ")?;
+        shown.push_str(text.as_str())?;
+    }
+    if reply.secret_binary.is_some() {
+        shown.push_str(" bytes")?;
+    }
+    push_labels(&mut shown, &reply.version_stages)?;
+    Ok(shown)
+}
+
+fn put_text(alloc: Global, reply: &PutValue) -> Result<String, Fail> {
+    let mut shown = secret_text(alloc, &reply.arn, &reply.name)?;
+    push_number(&mut shown, &reply.version_id)?;
+    push_labels(&mut shown, &reply.version_stages)?;
+    Ok(shown)
+}
+
+fn named_text(alloc: Global, reply: &NamedSecret) -> Result<String, Fail> {
+    secret_text(alloc, &reply.arn, &reply.name)
+}
+
+fn reply_text(alloc: Global, reply: &Reply) -> Result<String, Fail> {
+    match reply {
+        Reply::CreateSecret(reply) => created_text(alloc, reply),
+        Reply::GetSecretValue(reply) => got_text(alloc, reply),
+        Reply::PutSecretValue(reply) => put_text(alloc, reply),
+        Reply::UpdateSecretVersionStage(reply) => named_text(alloc, reply),
+        _ => plain(alloc, "another reply"),
+    }
+}
+
+/// The reply or the refusal. An entry is due where a sign of it stands first.
+fn judged_text(alloc: Global, judged: &Judged) -> Result<String, Fail> {
+    match judged {
+        Judged::Accept(reply, Some(_)) => {
+            let reply = reply_text(alloc, reply)?;
+            Ok(format!(in alloc; "+ {reply}")?)
+        }
+        Judged::Accept(reply, None) => reply_text(alloc, reply),
+        Judged::Refuse(why) => why_text(alloc, why),
+        Judged::Memory => plain(alloc, "out of memory"),
+    }
+}
+
+/// What is shown as a line.
+pub trait Shown: Drop {
+    fn show(&self, alloc: Global) -> Result<String, Fail>;
+}
+
+impl Shown for Why {
+    fn show(&self, alloc: Global) -> Result<String, Fail> {
+        why_text(alloc, self)
+    }
+}
+
+impl Shown for Judged {
+    fn show(&self, alloc: Global) -> Result<String, Fail> {
+        judged_text(alloc, self)
+    }
+}
+
+/// The line of a thing, which is let go. Where its type is not known that is proved once and not for each of its
+/// variants.
+pub fn show_once<T: Shown>(alloc: Global, item: T) -> Result<String, Fail> {
+    item.show(alloc)
+}

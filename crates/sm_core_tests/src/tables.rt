@@ -1,0 +1,373 @@
+//! Tables of requests: the row's name, the request, what is answered (an entry is due where a sign of it stands first),
+//! and the labels that it leaves on the first secret, or the moment of it. A semicolon stands between rows.
+ghost use Rattle.std.specs.Prelude.{◌≡◌, IfSome, None};
+ghost use Rattle.sm_forms.specs.Forms.{forms_of};
+ghost use Rattle.sm_judging.specs.Judged.{IfChange};
+ghost use Rattle.sm_table.specs.Changes.{CanMake, StandsAt};
+ghost use Rattle.sm_table.specs.Sound.{ChangeSound};
+ghost use Rattle.sm_table.specs.Sweep.{sweep};
+
+use crate::asked::{column, request};
+use crate::rows::{secret, table_of};
+use crate::shown::{number, plain, show_once};
+use sm_core::judging::judge_exactly;
+use sm_core::{Judged, forms, judge};
+use sm_model::{Change, Moment, Person, Request, SecretRow, Text, need};
+use sm_table::Table;
+use std::alloc::Global;
+use std::marker::Model;
+use std::test::Fail;
+
+const NOW: Moment = Moment(1_700_000_000);
+
+/// The random bytes of every request.
+const DRAWN: [u8; 22] = [
+    0, 1, 2, 3, 4, 5, 6, 7, 8, 9, 10, 11, 12, 13, 14, 15, 16, 17, 18, 19, 20, 21,
+];
+
+/// Requests one after the other, on an account without secrets.
+const REQUESTS: &str =
+    "a new secret | create db/app s3cret 1 | + db/app-ABCDEF db/app 1 | AWSCURRENT=1;
+the same request again | create db/app s3cret 1 | db/app-ABCDEF db/app 1 | AWSCURRENT=1;
+its name with another value | create db/app other 1 | exists db/app | AWSCURRENT=1;
+its name with another token | create db/app s3cret 2 | exists db/app | AWSCURRENT=1;
+its name without a value | create db/app . . | exists db/app | AWSCURRENT=1;
+a version's token with another value | put db/app 1 other . | other value in 1 | AWSCURRENT=1;
+a version's token with its value, whatever its labels | put db/app 1 s3cret AWSPENDING
+  | db/app-ABCDEF db/app 1 AWSCURRENT
+  | AWSCURRENT=1;
+a secret without a value | create empty . . | + empty-ABCDEF empty | AWSCURRENT=1;
+a value that is not there | get empty . . | no version | AWSCURRENT=1;
+a first value becomes the current one | put empty 1 v AWSPENDING
+  | + empty-ABCDEF empty 1 AWSCURRENT AWSPENDING
+  | AWSCURRENT=1;
+a second value | put db/app 2 b . | + db/app-ABCDEF db/app 2 AWSCURRENT | AWSCURRENT=2 AWSPREVIOUS=1;
+a third value | put db/app 3 c . | + db/app-ABCDEF db/app 3 AWSCURRENT | AWSCURRENT=3 AWSPREVIOUS=2;
+the current value | get db/app . .
+  | db/app-ABCDEF db/app 3 1700000000 text c AWSCURRENT
+  | AWSCURRENT=3 AWSPREVIOUS=2;
+the value before it | get db/app . AWSPREVIOUS
+  | db/app-ABCDEF db/app 2 1700000000 text b AWSPREVIOUS
+  | AWSCURRENT=3 AWSPREVIOUS=2;
+a value by the whole ARN and the version | get db/app-ABCDEF 1 .
+  | db/app-ABCDEF db/app 1 1700000000 text s3cret
+  | AWSCURRENT=3 AWSPREVIOUS=2;
+a version and a label that differ | get db/app 3 AWSPREVIOUS | differ | AWSCURRENT=3 AWSPREVIOUS=2;
+a version that is not there | get db/app 9 . | no version | AWSCURRENT=3 AWSPREVIOUS=2;
+an absent version, though its label is there | get db/app 9 AWSCURRENT
+  | no version
+  | AWSCURRENT=3 AWSPREVIOUS=2;
+a label that nobody holds | get db/app . blue | no version | AWSCURRENT=3 AWSPREVIOUS=2;
+a value of an absent secret | get absent . . | no secret | AWSCURRENT=3 AWSPREVIOUS=2;
+a value for an absent secret | put absent 1 v . | no secret | AWSCURRENT=3 AWSPREVIOUS=2;
+a label of an absent secret | move absent blue 1 . | no secret | AWSCURRENT=3 AWSPREVIOUS=2;
+AWSCURRENT taken off | move db/app AWSCURRENT . 3 | keeps current | AWSCURRENT=3 AWSPREVIOUS=2;
+AWSCURRENT from another version than its holder | move db/app AWSCURRENT 1 2
+  | held by 3
+  | AWSCURRENT=3 AWSPREVIOUS=2;
+AWSCURRENT moved back | move db/app AWSCURRENT 1 3 | + db/app-ABCDEF db/app | AWSCURRENT=1 AWSPREVIOUS=3;
+a source that is not there before a target that is not | move db/app blue 9 8
+  | not there 8
+  | AWSCURRENT=1 AWSPREVIOUS=3;
+a target that is not there | move db/app blue 9 1 | not there 9 | AWSCURRENT=1 AWSPREVIOUS=3;
+a label that its source does not hold | move db/app blue 2 1 | held by none | AWSCURRENT=1 AWSPREVIOUS=3;
+a label on a version | move db/app blue 2 . | + db/app-ABCDEF db/app | AWSCURRENT=1 AWSPREVIOUS=3 blue=2;
+a label taken off | move db/app blue . 2 | + db/app-ABCDEF db/app | AWSCURRENT=1 AWSPREVIOUS=3;
+a drawn token | create n v . | + n-ABCDEF n 6070809-0a0b-4c0d-8e0f-101112131415 | AWSCURRENT=1 AWSPREVIOUS=3;
+a drawn token of a new value, and a label twice | put n . w b,a,b
+  | + n-ABCDEF n 10203-0405-4607-8809-0a0b0c0d0e0f a b
+  | AWSCURRENT=1 AWSPREVIOUS=3;
+the same drawn token again | put n . w .
+  | n-ABCDEF n 10203-0405-4607-8809-0a0b0c0d0e0f a b
+  | AWSCURRENT=1 AWSPREVIOUS=3;
+the drawn token with another value | put n . x .
+  | other value in 10203-0405-4607-8809-0a0b0c0d0e0f
+  | AWSCURRENT=1 AWSPREVIOUS=3";
+
+/// Requests of which some members are not in their forms.
+const FORMS: &str = "a name with a colon | create a:b v 1 | form of Name | none;
+the token before the name | create a:b v short | form of ClientRequestToken | none;
+a value of one byte too many | create n v*65537 1 | form of SecretString | none;
+a value as large as may be | create n v*65536 1 | + n-ABCDEF n 1 | AWSCURRENT=1;
+the secret before the version | get a:b short . | form of SecretId | AWSCURRENT=1;
+a short version | get n short . | form of VersionId | AWSCURRENT=1;
+the token before the secret | put a:b short v . | form of ClientRequestToken | AWSCURRENT=1;
+the secret before the labels | put a:b 2 v , | form of SecretId | AWSCURRENT=1;
+no labels | put n 2 . , | form of VersionStages | AWSCURRENT=1;
+more labels than may be | put n 2 v a,b,c,d,e,f,g,h,i,j,k,l,m,n,o,p,q,r,s,t,a | form of VersionStages | AWSCURRENT=1;
+no value | put n 2 . . | form of SecretString | AWSCURRENT=1;
+the target before all others | move a:b . short short | form of MoveToVersionId | AWSCURRENT=1;
+the source before the secret | move a:b . . short | form of RemoveFromVersionId | AWSCURRENT=1;
+the secret before the label | move a:b . . . | form of SecretId | AWSCURRENT=1;
+an empty label | move n . . . | form of VersionStage | AWSCURRENT=1;
+neither a target nor a source | move n blue . . | form of MoveToVersionId | AWSCURRENT=1";
+
+/// As many labels as a secret may have.
+const LABELS: &str = "a secret | create app v 1 | + app-ABCDEF app 1 | AWSCURRENT=1;
+as many labels as may be | put app 2 w t,s,r,q,p,o,n,m,l,k,j,i,h,g,f,e,d,c,b,a
+  | + app-ABCDEF app 2 a b c d e f g h i j k l m n o p q r s t
+  | AWSCURRENT=1 t=2 s=2 r=2 q=2 p=2 o=2 n=2 m=2 l=2 k=2 j=2 i=2 h=2 g=2 f=2 e=2 d=2 c=2 b=2 a=2;
+a label more by a value | put app 3 x u
+  | limit of 20 Labels
+  | AWSCURRENT=1 t=2 s=2 r=2 q=2 p=2 o=2 n=2 m=2 l=2 k=2 j=2 i=2 h=2 g=2 f=2 e=2 d=2 c=2 b=2 a=2;
+a label more by a move | move app u 1 .
+  | limit of 20 Labels
+  | AWSCURRENT=1 t=2 s=2 r=2 q=2 p=2 o=2 n=2 m=2 l=2 k=2 j=2 i=2 h=2 g=2 f=2 e=2 d=2 c=2 b=2 a=2";
+
+/// A secret with as many versions as it may have, of which the second waits for its value.
+const VERSIONS: &str = "a version more than may be | put app 1001 v . | limit of 1000 Versions | 8;
+a repeat where there is no room | put app 1000 v . | app-ABCDEF app 1000 | 8;
+an empty version is filled where there is no room | put app 2 w .
+  | + app-ABCDEF app 2 AWSCURRENT AWSPENDING
+  | 8";
+
+/// A secret whose second version waits for its value.
+const EMPTY: &str =
+    "AWSCURRENT on a version without a value | move app AWSCURRENT 2 1 | empty 2 | 8;
+a version without a value | get app . AWSPENDING | no version | 8;
+a version of bytes | get app 3 . | app-ABCDEF app 3 7 bytes | 8;
+an empty version is filled | put app 2 w . | + app-ABCDEF app 2 AWSCURRENT AWSPENDING | 8";
+
+/// A secret whose deletion is scheduled: up to its date it is there, and from then on it is absent.
+const SCHEDULED: &str = "a new secret of a scheduled name | create app v 1 | scheduled at 9 | 8;
+a scheduled secret's value | get app . . | scheduled at 9 | 8;
+a value for a scheduled secret | put app 1 v . | scheduled at 9 | 8;
+a label of a scheduled secret | move app blue 1 . | scheduled at 9 | 8;
+a new secret of a name that is free | create app v 1 | + app-ABCDEF app 1 | 9;
+a secret that is gone | get app . . | no secret | 9";
+
+/// Secrets that are as they are between any two requests.
+#[derive(Drop)]
+struct Secrets {
+    table: Table,
+}
+
+impl Model for Secrets {
+    ghost use Rattle.sm_model.specs.declared.rows.Rows.{Rows};
+    ghost use Rattle.sm_table.specs.Sound.{Sound};
+
+    ghost Value = { Rows };
+
+    ghost view = { λ s. s.table };
+
+    ghost invariant = { λ s. Sound s.table };
+}
+
+fn root() -> Person {
+    Person {
+        key: Text::fixed(""),
+        arn: Text::fixed("arn:aws:iam::000000000000:root"),
+        full: true,
+    }
+}
+
+fn no_secrets(alloc: Global) -> Secrets {
+    Secrets {
+        table: Table::new(alloc),
+    }
+}
+
+fn commit(secrets: &mut Secrets, change: Change) -> Result<(), Fail>
+    requires can { CanMake secrets.old change }
+    requires stands { StandsAt secrets.old (record { 0 = 1700000000 }) change }
+    requires sound { ChangeSound (sweep secrets.old (record { 0 = 1700000000 })) change }
+{
+    let prepared = secrets.table.prepare(change)?;
+    secrets.table.commit(prepared, NOW);
+    Ok(())
+}
+
+fn commit_any(secrets: &mut Secrets, change: Option<Change>) -> Result<(), Fail>
+    requires can { IfSome change (CanMake secrets.old) }
+    requires stands { IfSome change (StandsAt secrets.old (record { 0 = 1700000000 })) }
+    requires sound { IfSome change (ChangeSound (sweep secrets.old (record { 0 = 1700000000 }))) }
+{
+    match change {
+        Some(change) => commit(secrets, change),
+        None => Ok(()),
+    }
+}
+
+fn carry_out(secrets: &mut Secrets, judged: Judged) -> Result<(), Fail>
+    requires can { IfChange judged (CanMake secrets.old) }
+    requires stands { IfChange judged (StandsAt secrets.old (record { 0 = 1700000000 })) }
+    requires sound { IfChange judged (ChangeSound (sweep secrets.old (record { 0 = 1700000000 }))) }
+{
+    match judged {
+        Judged::Accept(_, change) => commit_any(secrets, change),
+        Judged::Refuse(_) => Ok(()),
+        Judged::Memory => Ok(()),
+    }
+}
+
+/// Judges the request, and makes its change.
+fn judge_and_commit(alloc: Global, secrets: &mut Secrets, request: &Request) -> Result<String, Fail>
+    requires { forms_of request.now ≡ None }
+{
+    let Some(drawn) = DRAWN.get(..need(request)) else {
+        return plain(alloc, "too few random bytes");
+    };
+    let shown = show_once(
+        alloc,
+        judge(alloc, &secrets.table, &root(), NOW, drawn, request),
+    )?;
+    let judged = judge(alloc, &secrets.table, &root(), NOW, drawn, request);
+    carry_out(secrets, judged)?;
+    Ok(shown)
+}
+
+fn answer(alloc: Global, secrets: &mut Secrets, request: &Request) -> Result<String, Fail> {
+    match forms(alloc, request) {
+        Some(why) => show_once(alloc, why),
+        None => judge_and_commit(alloc, secrets, request),
+    }
+}
+
+/// What can be answered on secrets, or on a table at a moment.
+trait Answered: Drop {
+    fn answer(&self, alloc: Global, secrets: &mut Secrets) -> Result<String, Fail>;
+
+    fn answer_there(&self, alloc: Global, table: &Table, moment: Moment) -> Result<String, Fail>;
+}
+
+impl Answered for Request {
+    fn answer(&self, alloc: Global, secrets: &mut Secrets) -> Result<String, Fail> {
+        answer(alloc, secrets, self)
+    }
+
+    fn answer_there(&self, alloc: Global, table: &Table, moment: Moment) -> Result<String, Fail> {
+        answer_there(alloc, table, moment, self)
+    }
+}
+
+/// Lets the request go. Where its type is not known that is proved once and not for each operation.
+fn answer_once<T: Answered>(
+    alloc: Global,
+    secrets: &mut Secrets,
+    asked: T,
+) -> Result<String, Fail> {
+    asked.answer(alloc, secrets)
+}
+
+fn answer_there_once<T: Answered>(
+    alloc: Global,
+    table: &Table,
+    moment: Moment,
+    asked: T,
+) -> Result<String, Fail> {
+    asked.answer_there(alloc, table, moment)
+}
+
+/// What the request of a row is answered.
+fn answer_row(alloc: Global, secrets: &mut Secrets, row: &str) -> Result<String, Fail> {
+    answer_once(alloc, secrets, request(alloc, column(row, 1))?)
+}
+
+fn pairs_text(alloc: Global, row: &SecretRow) -> Result<String, Fail> {
+    let mut shown = String::new(alloc);
+    for pair in row.labels.as_slice() {
+        shown.push_str(pair.label.as_text().as_str())?;
+        shown.push_str("=")?;
+        shown.push_str(number(&pair.id))?;
+        shown.push_str(" ")?;
+    }
+    Ok(shown)
+}
+
+/// The labels of the first secret.
+fn left_text(alloc: Global, table: &Table) -> Result<String, Fail> {
+    match table.row(0) {
+        Some(row) => pairs_text(alloc, row),
+        None => plain(alloc, "none"),
+    }
+}
+
+/// The name of the row, what came and what was wanted, where they differ in a column.
+fn difference(alloc: Global, row: &str, index: usize, came: &str) -> Result<String, Fail> {
+    let wanted = column(row, index);
+    if came.trim() == wanted {
+        return Ok(String::new(alloc));
+    }
+    let name = column(row, 0);
+    Ok(format!(in alloc; "{name}: came {came}, wanted {wanted}; ")?)
+}
+
+/// Makes the request of each row in turn, and says each difference.
+fn differences(alloc: Global, table: &str) -> Result<String, Fail> {
+    let mut secrets = no_secrets(alloc);
+    let mut told = String::new(alloc);
+    for row in table.split(";") {
+        let shown = answer_row(alloc, &mut secrets, row)?;
+        told.push_str(difference(alloc, row, 2, shown.as_str())?.as_str())?;
+        let left = left_text(alloc, &secrets.table)?;
+        told.push_str(difference(alloc, row, 3, left.as_str())?.as_str())?;
+    }
+    Ok(told)
+}
+
+fn judge_there(
+    alloc: Global,
+    table: &Table,
+    moment: Moment,
+    request: &Request,
+) -> Result<String, Fail>
+    requires { forms_of request.now ≡ None }
+{
+    let Some(drawn) = DRAWN.get(..need(request)) else {
+        return plain(alloc, "too few random bytes");
+    };
+    show_once(alloc, judge_exactly(alloc, table, moment, drawn, request)?)
+}
+
+fn answer_there(
+    alloc: Global,
+    table: &Table,
+    moment: Moment,
+    request: &Request,
+) -> Result<String, Fail> {
+    match forms(alloc, request) {
+        Some(why) => show_once(alloc, why),
+        None => judge_there(alloc, table, moment, request),
+    }
+}
+
+/// What the request of a row is answered at the row's moment.
+fn answer_row_there(alloc: Global, table: &Table, row: &str) -> Result<String, Fail> {
+    let moment = Moment(column(row, 3).parse::<u64>().unwrap_or(0));
+    answer_there_once(alloc, table, moment, request(alloc, column(row, 1))?)
+}
+
+/// Judges the request of each row on the same secret at the row's moment, and says each difference.
+fn differences_there(alloc: Global, table: &Table, rows: &str) -> Result<String, Fail> {
+    let mut told = String::new(alloc);
+    for row in rows.split(";") {
+        let shown = answer_row_there(alloc, table, row)?;
+        told.push_str(difference(alloc, row, 2, shown.as_str())?.as_str())?;
+    }
+    Ok(told)
+}
+
+#[test]
+fn answers_requests(rt: HostRuntime) -> Result<(), Fail> {
+    for table in [REQUESTS, FORMS, LABELS] {
+        assert_eq!(rt; differences(rt.alloc(), table)?.as_str(), "");
+    }
+    Ok(())
+}
+
+#[test]
+fn answers_requests_on_a_secret(rt: HostRuntime) -> Result<(), Fail> {
+    let full = table_of(rt.alloc(), secret(rt.alloc(), 1_000, None)?)?;
+    assert_eq!(rt;
+        differences_there(rt.alloc(), &full, VERSIONS)?.as_str(),
+        ""
+    );
+    let few = table_of(rt.alloc(), secret(rt.alloc(), 3, None)?)?;
+    assert_eq!(rt; differences_there(rt.alloc(), &few, EMPTY)?.as_str(), "");
+    let scheduled = table_of(rt.alloc(), secret(rt.alloc(), 3, Some(Moment(9)))?)?;
+    assert_eq!(rt;
+        differences_there(rt.alloc(), &scheduled, SCHEDULED)?.as_str(),
+        ""
+    );
+    Ok(())
+}

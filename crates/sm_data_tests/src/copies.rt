@@ -1,0 +1,288 @@
+//! Copies of entries, marks, persons and replies.
+use crate::requests::{OPERATIONS, bytes, copy_once, one, request, tag};
+use crate::rows::token;
+use sm_model::{
+    Act, Answer, Arn, At, BatchError, Copied, DeletedSecret, Described, Entry, GotSecret, Label,
+    List, Mark, Moment, Name, NamedSecret, NoMemory, Person, PolicyOfSecret, PolicyValidation,
+    PutValue, RandomPassword, ReadRefused, Reply, RulesShown, SecretBatch, SecretPage, Stage,
+    Staged, Text, ValidationError, Value, VersionItem, VersionPage, VersionedSecret,
+};
+use std::alloc::Global;
+use std::process::Abort;
+use std::test::Fail;
+
+fn named() -> NamedSecret {
+    NamedSecret {
+        arn: Text::fixed("arn"),
+        name: Text::fixed("n"),
+    }
+}
+
+fn versioned(alloc: Global) -> Result<VersionedSecret, NoMemory> {
+    let id = token(alloc)?;
+    Ok(VersionedSecret {
+        arn: Text::fixed("arn"),
+        name: Text::fixed("n"),
+        version_id: Some(id),
+    })
+}
+
+fn labels(alloc: Global) -> Result<List<Label>, ReadRefused> {
+    let label = Label::read(alloc, b"AWSCURRENT")?;
+    Ok(one(alloc, label)?)
+}
+
+fn got(alloc: Global) -> Result<GotSecret, ReadRefused> {
+    let binary = bytes(alloc)?;
+    let labels = labels(alloc)?;
+    let id = token(alloc)?;
+    Ok(GotSecret {
+        arn: Text::fixed("arn"),
+        created_date: Moment(3),
+        name: Text::fixed("n"),
+        secret_binary: Some(binary),
+        secret_string: Some(Text::fixed("s3cret")),
+        version_id: id,
+        version_stages: labels,
+    })
+}
+
+fn staged(alloc: Global) -> Result<List<Staged>, ReadRefused> {
+    let labels = labels(alloc)?;
+    let id = token(alloc)?;
+    let staged = Staged { id, labels };
+    Ok(one(alloc, staged)?)
+}
+
+fn described(alloc: Global) -> Result<Described, ReadRefused> {
+    let staged = staged(alloc)?;
+    let tags = one(alloc, tag())?;
+    Ok(Described {
+        arn: Text::fixed("arn"),
+        created_date: Moment(1),
+        deleted_date: Some(Moment(2)),
+        description: Some(Text::fixed("d")),
+        kms_key_id: Some(Text::fixed("k")),
+        last_changed_date: Moment(3),
+        last_rotated_date: Some(Moment(4)),
+        name: Text::fixed("n"),
+        next_rotation_date: Some(Moment(5)),
+        rotation_enabled: true,
+        rotation_lambda_arn: Some(Text::fixed("l")),
+        rotation_rules: Some(RulesShown { days: Some(30) }),
+        tags,
+        version_ids_to_stages: staged,
+    })
+}
+
+fn batch(alloc: Global) -> Result<SecretBatch, ReadRefused> {
+    let error = BatchError {
+        error_code: Text::fixed("e"),
+        message: Text::fixed("m"),
+        secret_id: Text::fixed("z"),
+    };
+    let errors = one(alloc, error)?;
+    let got = got(alloc)?;
+    let secret_values = one(alloc, got)?;
+    Ok(SecretBatch {
+        errors,
+        next_token: Some(Text::fixed("s1")),
+        secret_values,
+    })
+}
+
+fn versions(alloc: Global) -> Result<VersionPage, ReadRefused> {
+    let labels = labels(alloc)?;
+    let id = token(alloc)?;
+    let item = VersionItem {
+        created_date: Moment(3),
+        version_id: id,
+        version_stages: Some(labels),
+    };
+    let versions = one(alloc, item)?;
+    Ok(VersionPage {
+        arn: Text::fixed("arn"),
+        name: Text::fixed("n"),
+        next_token: Some(Text::fixed("v0")),
+        versions,
+    })
+}
+
+fn validation(alloc: Global) -> Result<PolicyValidation, NoMemory> {
+    let error = ValidationError {
+        check_name: Text::fixed("Syntax"),
+        error_message: Text::fixed("statement 0: policy"),
+    };
+    let validation_errors = one(alloc, error)?;
+    Ok(PolicyValidation {
+        policy_validation_passed: false,
+        validation_errors,
+    })
+}
+
+fn policy() -> PolicyOfSecret {
+    PolicyOfSecret {
+        arn: Text::fixed("arn"),
+        name: Text::fixed("n"),
+        resource_policy: Some(Text::fixed("{}")),
+    }
+}
+
+fn deleted() -> DeletedSecret {
+    DeletedSecret {
+        arn: Some(Text::fixed("arn")),
+        deletion_date: Moment(2),
+        name: Text::fixed("n"),
+    }
+}
+
+fn put(alloc: Global) -> Result<PutValue, ReadRefused> {
+    let labels = labels(alloc)?;
+    let id = token(alloc)?;
+    Ok(PutValue {
+        arn: Text::fixed("arn"),
+        name: Text::fixed("n"),
+        version_id: id,
+        version_stages: labels,
+    })
+}
+
+fn page(alloc: Global) -> Result<SecretPage, ReadRefused> {
+    let described = described(alloc)?;
+    let secret_list = one(alloc, described)?;
+    Ok(SecretPage {
+        next_token: Some(Text::fixed("s1")),
+        secret_list,
+    })
+}
+
+/// The reply of the operation with this number, in ascending order of their names.
+fn reply(alloc: Global, number: usize) -> Result<Reply, ReadRefused> {
+    match number {
+        0..=6 => first_reply(alloc, number),
+        7..=13 => middle_reply(alloc, number),
+        _ => last_reply(alloc, number),
+    }
+}
+
+fn first_reply(alloc: Global, number: usize) -> Result<Reply, ReadRefused> {
+    match number {
+        0 => Ok(Reply::BatchGetSecretValue(batch(alloc)?)),
+        1 => Ok(Reply::CancelRotateSecret(versioned(alloc)?)),
+        2 => Ok(Reply::CreateSecret(versioned(alloc)?)),
+        3 => Ok(Reply::DeleteResourcePolicy(named())),
+        4 => Ok(Reply::DeleteSecret(deleted())),
+        5 => Ok(Reply::DescribeSecret(described(alloc)?)),
+        _ => Ok(Reply::GetRandomPassword(RandomPassword {
+            random_password: Text::fixed("p"),
+        })),
+    }
+}
+
+fn middle_reply(alloc: Global, number: usize) -> Result<Reply, ReadRefused> {
+    match number {
+        7 => Ok(Reply::GetResourcePolicy(policy())),
+        8 => Ok(Reply::GetSecretValue(got(alloc)?)),
+        9 => Ok(Reply::ListSecretVersionIds(versions(alloc)?)),
+        10 => Ok(Reply::ListSecrets(page(alloc)?)),
+        11 => Ok(Reply::PutResourcePolicy(named())),
+        12 => Ok(Reply::PutSecretValue(put(alloc)?)),
+        _ => Ok(Reply::RestoreSecret(named())),
+    }
+}
+
+fn last_reply(alloc: Global, number: usize) -> Result<Reply, ReadRefused> {
+    match number {
+        14 => Ok(Reply::RotateSecret(versioned(alloc)?)),
+        15 => Ok(Reply::TagResource),
+        16 => Ok(Reply::UntagResource),
+        17 => Ok(Reply::UpdateSecret(versioned(alloc)?)),
+        18 => Ok(Reply::UpdateSecretVersionStage(named())),
+        _ => Ok(Reply::ValidateResourcePolicy(validation(alloc)?)),
+    }
+}
+
+#[test]
+fn replies_are_copied(rt: HostRuntime) -> Result<(), Fail> {
+    for number in 0..OPERATIONS {
+        copy_once(rt.alloc(), reply(rt.alloc(), number)?)?;
+    }
+    Ok(())
+}
+
+fn at(alloc: Global) -> Result<At, NoMemory> {
+    let token = token(alloc)?;
+    Ok(At {
+        token,
+        stage: Stage::Test,
+        attempt: 2,
+    })
+}
+
+fn arn(alloc: Global) -> Result<Arn, ReadRefused> {
+    let name = Name::read(alloc, b"db/app")?;
+    Ok(Arn::drawn(alloc, &name, &[0, 1, 2, 3, 4, 5])?)
+}
+
+/// The answer with this number.
+fn answer(number: usize) -> Answer {
+    match number {
+        0 => Answer::Value(Value::Text(Text::fixed("v"))),
+        1 => Answer::Yes,
+        2 => Answer::No,
+        _ => Answer::Failed,
+    }
+}
+
+/// The act with this number: of a request, and then those of a rotation.
+fn act(alloc: Global, number: usize) -> Result<Act, ReadRefused> {
+    match number {
+        0 => Ok(Act::Asked(request(alloc, 2)?)),
+        1 => Ok(Act::Begun(arn(alloc)?)),
+        _ => reported(alloc, number - 2),
+    }
+}
+
+fn reported(alloc: Global, number: usize) -> Result<Act, ReadRefused> {
+    let arn = arn(alloc)?;
+    let at = at(alloc)?;
+    Ok(Act::Reported(arn, at, answer(number)))
+}
+
+fn entry(alloc: Global, number: usize) -> Result<Mark, ReadRefused> {
+    let act = act(alloc, number)?;
+    let drawn = bytes(alloc)?;
+    Ok(Mark::Entry(Entry {
+        moment: Moment(8),
+        caller: Text::fixed("ADA"),
+        drawn,
+        act,
+    }))
+}
+
+fn claim(alloc: Global) -> Result<Mark, ReadRefused> {
+    let arn = arn(alloc)?;
+    let at = at(alloc)?;
+    Ok(Mark::Claim(arn, at, Moment(9)))
+}
+
+#[test]
+fn marks_are_copied(rt: HostRuntime) -> Result<(), Fail> {
+    for number in 0..6 {
+        copy_once(rt.alloc(), entry(rt.alloc(), number)?)?;
+    }
+    copy_once(rt.alloc(), claim(rt.alloc())?)?;
+    Ok(())
+}
+
+#[test]
+fn persons_are_copied(rt: HostRuntime) -> Result<(), Fail> {
+    let person = Person {
+        key: Text::fixed("ADA"),
+        arn: Text::fixed("arn"),
+        full: true,
+    };
+    let copy = person.copy(rt.alloc())?;
+    assert!(rt; copy.full && copy.key.equals(&person.key));
+    Ok(())
+}

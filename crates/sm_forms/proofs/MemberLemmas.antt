@@ -1,0 +1,35 @@
+-- What it says of members that their forms pass.
+use Rattle.std.proofs.Common.{◌≡◌, ℕ, List, Bool, true, false, ◌&&◌, length, nat_le, Option, Some, None, IfSome, refl}
+use Rattle.std.specs.Prelude.{IsTrue}
+use Rattle.std.specs.List.{list_all}
+use Rattle.std.proofs.lemmas.Bool.{and_parts}
+use Rattle.sm_model.specs.declared.limits.TheConstants.{LABELS_LIMIT}
+use Rattle.sm_model.specs.declared.why.Why.{Why}
+use Rattle.sm_base.specs.Spelling.{is_label}
+use Rattle.sm_forms.specs.Members.{first_why, form_unless, form_of, are_labels, labels_form, unless_unbuilt}
+
+-- neither refusal is there
+pub none_first : (one next : Option Why) → first_why one next ≡ None → (one ≡ None) × (next ≡ None)
+none_first None next h = (refl, h)
+none_first (Some why) next h = absurd (let f : Some why ≡ None = h in cc)
+
+pub passes : (fits : Bool) (name : List ℕ) → form_unless fits name ≡ None → fits ≡ true
+passes true name h = refl
+passes false name h = cc
+
+pub all_pass : (test : List ℕ → Bool) (name : List ℕ) (text : Option (List ℕ)) → form_of test name text ≡ None
+    → IfSome text (λ t. IsTrue (test t))
+all_pass test name None h = tt
+all_pass test name (Some text) h = passes (test text) name h
+
+pub labels_pass : (labels : Option (List (List ℕ))) → labels_form labels ≡ None
+    → IfSome labels (λ ls. IsTrue (list_all is_label ls))
+labels_pass None h = tt
+labels_pass (Some labels) h =
+    (and_parts (nat_le 1 (length labels) && nat_le (length labels) LABELS_LIMIT) (list_all is_label labels)
+    (passes (are_labels labels) _ h)).1
+
+pub nothing_unbuilt : (unbuilt : Bool) (forms : Option Why) → unless_unbuilt unbuilt forms ≡ None → (unbuilt ≡ false)
+    × (forms ≡ None)
+nothing_unbuilt true forms h = absurd (cc)
+nothing_unbuilt false forms h = (refl, h)

@@ -1,0 +1,4 @@
+pub mod Heads
+pub mod Messages
+pub mod Fronts
+pub mod Framed

@@ -1,6 +1,0 @@
-use Rattle.std.proofs.Common.{◌≡◌}
-use Rattle.sm_io.specs.CountWords.{count_up}
-use Rattle.sm_io.proofs.count_words.counted.Given as goal
-
-abbrev pub invariant-loop-k : goal.invariant-loop-k
-invariant-loop-k l = l.vec.items ≡ count_up l.first l.k

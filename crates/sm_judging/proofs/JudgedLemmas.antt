@@ -1,0 +1,71 @@
+-- What is said of a judgement, from the judgement of the secret's row.
+use Rattle.std.proofs.Common.{◌≡◌, Bool, [], ◌∷◌, Option, Some, None, is_none, refl, sym, subst}
+use Rattle.sm_base.specs.declared.moment.Moment.{Moment}
+use Rattle.sm_base.specs.Outcomes.{OrMemory}
+use Rattle.sm_model.specs.declared.entry.Change.{Change}
+use Rattle.sm_model.specs.declared.rows.SecretRow.{SecretRow}
+use Rattle.sm_model.specs.declared.why.Why.{Why}
+use Rattle.sm_judging.specs.declared.judged.Judged.{Judged}
+use Rattle.sm_judging.specs.declared.judged.Judged.TheVariants.{Accept, Refuse, Memory}
+use Rattle.sm_judging.specs.Judged.{judged_told, refusal_told, IfAccepted, IfChange}
+use Rattle.sm_judging.specs.Refusals.{first_refusal, scheduled_refusal, refusal_at, repeat_at}
+use Rattle.sm_judging.specs.Secrets.{unless_scheduled, on_secret}
+
+-- ---- what a call answers: the judgement, or want of memory
+
+pub told_same : (judged wanted : Judged) → judged ≡ wanted → OrMemory (judged_told judged) wanted
+told_same (Accept reply change) wanted e = e
+told_same (Refuse why) wanted e = e
+told_same Memory wanted e = tt
+
+pub told_refusal : (judged : Judged) (refusal : Option Why) → refusal_told judged ≡ Some refusal
+    → OrMemory (refusal_told judged) refusal
+told_refusal judged refusal e = subst (λ o. OrMemory o refusal) (sym e) refl
+
+-- one part of what is asked of a change
+pub if_change_then : (judged : Judged) (P Q : Change → Type 0) → ((change : Change) → P change → Q change)
+    → IfChange judged P → IfChange judged Q
+if_change_then (Accept reply None) P Q f h = tt
+if_change_then (Accept reply (Some change)) P Q f h = f change h
+if_change_then (Refuse why) P Q f h = tt
+if_change_then Memory P Q f h = tt
+
+-- ---- on a secret that is there and not scheduled for deletion
+
+first_alone : (test : Option Why) → test ≡ first_refusal (test ∷ [])
+first_alone None = refl
+first_alone (Some why) = refl
+
+unless_scheduled_refusal : (deletion : Option Moment) (judged : Judged) (test : Option Why) → refusal_told judged
+    ≡ Some test
+    → refusal_told (unless_scheduled deletion judged) ≡ Some (first_refusal (scheduled_refusal deletion ∷ test ∷ []))
+unless_scheduled_refusal None judged test e = subst (λ t. refusal_told judged ≡ Some t) (first_alone test) e
+unless_scheduled_refusal (Some date) judged test e = refl
+
+pub on_secret_refusal : (found : Option SecretRow) (judge : SecretRow → Judged) (tests : SecretRow → Option Why)
+    → ((row : SecretRow) → refusal_told (judge row) ≡ Some (tests row)) → refusal_told (on_secret found judge)
+    ≡ Some (refusal_at found tests)
+on_secret_refusal None judge tests each = refl
+on_secret_refusal (Some row) judge tests each = unless_scheduled_refusal row.deletion (judge row) (tests row) (each row)
+
+pub unless_scheduled_accepts : (deletion : Option Moment) (judged : Judged) (P : Option Change → Type 0)
+    → IfAccepted judged P
+    → IfAccepted (unless_scheduled deletion judged) P
+unless_scheduled_accepts None judged P h = h
+unless_scheduled_accepts (Some date) judged P h = tt
+
+-- nothing is changed exactly where the row shows a repeat
+pub on_secret_repeat : (found : Option SecretRow) (judge : SecretRow → Judged) (test : SecretRow → Bool)
+    → ((row : SecretRow) → IfAccepted (judge row) (λ change. is_none change ≡ test row))
+    → IfAccepted (on_secret found judge) (λ change. is_none change ≡ repeat_at found test)
+on_secret_repeat None judge test each = tt
+on_secret_repeat (Some row) judge test each =
+    unless_scheduled_accepts row.deletion (judge row) (λ change. is_none change ≡ test row) (each row)
+
+-- or always
+pub on_secret_reads : (found : Option SecretRow) (judge : SecretRow → Judged) (b : Bool)
+    → ((row : SecretRow) → IfAccepted (judge row) (λ change. is_none change ≡ b))
+    → IfAccepted (on_secret found judge) (λ change. is_none change ≡ b)
+on_secret_reads None judge b each = tt
+on_secret_reads (Some row) judge b each = unless_scheduled_accepts row.deletion (judge row)
+    (λ change. is_none change ≡ b) (each row)

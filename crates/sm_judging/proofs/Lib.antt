@@ -1,0 +1,5 @@
+pub mod SortingLemmas
+pub mod SortingLaws
+pub mod MemberLemmas
+pub mod JudgedLemmas
+pub mod ChangeLemmas

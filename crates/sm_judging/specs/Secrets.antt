@@ -1,0 +1,29 @@
+-- The secret that a request names, and the end of each change of it.
+-- AWS Secrets Manager API Reference: GetSecretValue (SecretId), DeleteSecret (a secret scheduled for deletion).
+use Rattle.std.specs.Prelude.{Option, Some, None}
+use Rattle.sm_base.specs.declared.moment.Moment.{Moment}
+use Rattle.sm_base.specs.declared.secret_id.SecretId.{SecretId}
+use Rattle.sm_model.specs.declared.rows.Rows.{Rows}
+use Rattle.sm_model.specs.declared.rows.SecretRow.{SecretRow}
+use Rattle.sm_model.specs.declared.why.Why.TheVariants.{NoSecret, Scheduled}
+use Rattle.sm_versions.specs.Settle.{settle}
+use Rattle.sm_table.specs.Found.{found}
+use Rattle.sm_judging.specs.declared.judged.Judged.{Judged}
+use Rattle.sm_judging.specs.declared.judged.Judged.TheVariants.{Refuse}
+
+-- a secret that is scheduled for deletion refuses the request
+abbrev pub unless_scheduled : Option Moment → Judged → Judged
+unless_scheduled None judged = judged
+unless_scheduled (Some date) judged = Refuse (Scheduled date)
+
+abbrev pub on_secret : Option SecretRow → (SecretRow → Judged) → Judged
+on_secret None judge = Refuse NoSecret
+on_secret (Some row) judge = unless_scheduled row.deletion (judge row)
+
+-- the row that the SecretId names has to be there and not scheduled for deletion
+abbrev pub with_secret : Rows → Moment → SecretId → (SecretRow → Judged) → Judged
+with_secret rows moment id judge = on_secret (found rows moment id) judge
+
+-- the row after a change of it: its changed moment is the request's, and its job is settled
+abbrev pub finished_row : SecretRow → Moment → SecretRow
+finished_row row moment = settle (record row { changed = moment })

@@ -1,0 +1,7 @@
+//! Tables of calls on one secret and on all secrets, with what each answers and what it leaves.
+#![tactic(auto)]
+
+#[cfg(test)]
+mod rows;
+#[cfg(test)]
+mod versions;

@@ -1,0 +1,337 @@
+//! Look-ups and changes on one table.
+ghost use Rattle.std.specs.Prelude.{◌≡◌, IfOk};
+ghost use Rattle.sm_versions.specs.Sound.{IsArnOf};
+
+use sm_model::{
+    Arn, Change, Copied, List, Moment, Name, ReadRefused, Rotation, RowList, SecretId, SecretRow,
+};
+use sm_table::Table;
+use sm_table::edits::is_gone;
+use std::alloc::Global;
+use std::test::Fail;
+
+/// A call.
+#[derive(Clone, Copy)]
+enum Call {
+    /// A secret of this name, whose ARN ends in six times the letter, is added at the moment.
+    Add(&'static str, u8, u64),
+    /// The deletion of the secret with this serial is set to a date.
+    Schedule(u64, u64),
+    /// The secret with this serial is dropped.
+    Drop(u64),
+    /// Nothing is changed at the moment.
+    Nothing(u64),
+    /// The SecretId, its ARN without the fixed beginning, and the moment.
+    Find(&'static str, u64),
+    /// The same by the whole ARN alone.
+    FindArn(&'static str, u64),
+    /// The text is read as a name.
+    Read(&'static str),
+    /// The rows are counted, and looked at by their places.
+    Places,
+}
+
+const BEGINNING: &str = "arn:aws:secretsmanager:us-east-1:000000000000:secret:";
+
+/// A secret without versions.
+#[tactic(auto, using(sm_versions::proofs::ArnLemmas::drawn_is_arn_of))]
+fn fresh(alloc: Global, serial: u64, name: Name, letter: u8) -> Result<SecretRow, Fail>
+    ensures { IfOk result (λ row. (row.serial ≡ serial) × (row.name ≡ name) × IsArnOf row.arn row.name) }
+{
+    Ok(SecretRow {
+        serial,
+        arn: Arn::drawn(alloc, &name, &[letter; 6])?,
+        name,
+        created: Moment(0),
+        changed: Moment(0),
+        description: None,
+        kms: None,
+        tags: List::empty(alloc),
+        versions: List::empty(alloc),
+        next_version: 0,
+        labels: List::empty(alloc),
+        deletion: None,
+        rotation: Rotation {
+            enabled: false,
+            lambda: None,
+            days: None,
+            next: None,
+            last: None,
+        },
+        policy: None,
+        job: None,
+    })
+}
+
+fn add(
+    alloc: Global,
+    table: &mut Table,
+    name: &str,
+    letter: u8,
+    moment: Moment,
+) -> Result<&'static str, Fail> {
+    let name = Name::read(alloc, name.as_bytes())?;
+    let id = SecretId::Name(name.copy(alloc)?);
+    let serial = table.next();
+    if table.find(&id, moment).is_some() || serial == u64::MAX {
+        return Ok("held");
+    }
+    let row = fresh(alloc, serial, name, letter)?;
+    let prepared = table.prepare(Change::Add(row))?;
+    table.commit(prepared, moment);
+    Ok("added")
+}
+
+fn schedule(
+    alloc: Global,
+    table: &mut Table,
+    serial: u64,
+    date: u64,
+) -> Result<&'static str, Fail> {
+    let mut row = match table.row(serial) {
+        Some(row) => row.copy(alloc)?,
+        None => return Ok("no secret"),
+    };
+    if is_gone(&row, Moment(0)) {
+        return Ok("gone");
+    }
+    row.deletion = Some(Moment(date));
+    let prepared = table.prepare(Change::Replace(row))?;
+    table.commit(prepared, Moment(0));
+    Ok("scheduled")
+}
+
+fn drop_secret(table: &mut Table, serial: u64) -> Result<&'static str, Fail> {
+    match table.row(serial) {
+        Some(row) => {
+            if is_gone(row, Moment(0)) {
+                return Ok("gone");
+            }
+        }
+        None => return Ok("no secret"),
+    }
+    let prepared = table.prepare(Change::Drop(serial))?;
+    table.commit(prepared, Moment(0));
+    Ok("dropped")
+}
+
+fn sweep_at(table: &mut Table, moment: Moment) -> Result<&'static str, Fail> {
+    let prepared = table.prepare(Change::Nothing)?;
+    table.commit(prepared, moment);
+    Ok("nothing")
+}
+
+fn found_text(alloc: Global, row: Option<&SecretRow>) -> Result<String, Fail> {
+    match row {
+        Some(row) => row_text(alloc, row),
+        None => Ok(String::from_str(alloc, "none")?),
+    }
+}
+
+/// The name and the serial of the secret that was found.
+fn find_text(alloc: Global, table: &Table, id: &str, moment: Moment) -> Result<String, Fail> {
+    let mut text = String::new(alloc);
+    if id.contains("-") {
+        text.push_str(BEGINNING)?;
+    }
+    text.push_str(id)?;
+    let id = SecretId::read(alloc, text.as_bytes())?;
+    found_text(alloc, table.find(&id, moment))
+}
+
+/// The same by the whole ARN alone.
+fn find_arn_text(alloc: Global, table: &Table, id: &str, moment: Moment) -> Result<String, Fail> {
+    let mut text = String::from_str(alloc, BEGINNING)?;
+    text.push_str(id)?;
+    let arn = Arn::read(alloc, text.as_bytes())?;
+    found_text(alloc, table.find_arn(&arn, moment))
+}
+
+/// Where the text stops being a name.
+fn read_text(alloc: Global, text: &str) -> Result<String, Fail> {
+    match Name::read(alloc, text.as_bytes()) {
+        Ok(_) => Ok(String::from_str(alloc, "a name")?),
+        Err(ReadRefused::Spelling(place)) => Ok(format!(in alloc; "no name at {place}")?),
+        Err(ReadRefused::Memory) => Ok(String::from_str(alloc, "out of memory")?),
+    }
+}
+
+/// How many rows there are, and what stands at the first places.
+fn places_text(alloc: Global, table: &Table) -> Result<String, Fail> {
+    let count = table.count();
+    let first = found_text(alloc, table.at(0))?;
+    let second = found_text(alloc, table.at(1))?;
+    let third = found_text(alloc, table.at(2))?;
+    Ok(format!(in alloc; "{count} rows: {first}, {second}, {third}")?)
+}
+
+fn row_text(alloc: Global, row: &SecretRow) -> Result<String, Fail> {
+    let name = row.name.as_text().as_str();
+    let serial = row.serial;
+    Ok(format!(in alloc; "{name} {serial}")?)
+}
+
+fn run(alloc: Global, table: &mut Table, call: Call) -> Result<String, Fail> {
+    let answer = match call {
+        Call::Add(name, letter, moment) => add(alloc, table, name, letter, Moment(moment))?,
+        Call::Schedule(serial, date) => schedule(alloc, table, serial, date)?,
+        Call::Drop(serial) => drop_secret(table, serial)?,
+        Call::Nothing(moment) => sweep_at(table, Moment(moment))?,
+        Call::Find(id, moment) => return find_text(alloc, table, id, Moment(moment)),
+        Call::FindArn(id, moment) => return find_arn_text(alloc, table, id, Moment(moment)),
+        Call::Read(text) => return read_text(alloc, text),
+        Call::Places => return places_text(alloc, table),
+    };
+    Ok(String::from_str(alloc, answer)?)
+}
+
+/// The rows, by the copy and by the places, and the next serial.
+fn rows_text(alloc: Global, table: &Table) -> Result<String, Fail> {
+    let mut shown = String::new(alloc);
+    for row in table.rows()?.secrets.as_slice() {
+        shown.push_str(row_text(alloc, row)?.as_str())?;
+        shown.push_str(", ")?;
+    }
+    let next = table.next();
+    shown.push_str(format!(in alloc; "next {next}")?.as_str())?;
+    Ok(shown)
+}
+
+/// A call, what it answers, and the rows that it leaves.
+type Case = (Call, &'static str, &'static str);
+
+/// What came, where it is something else than what is wanted, or nothing.
+fn difference(alloc: Global, place: usize, came: &str, wanted: &str) -> Result<String, Fail> {
+    if came == wanted {
+        return Ok(String::new(alloc));
+    }
+    Ok(format!(in alloc; "call {place}: '{came}', and not '{wanted}'")?)
+}
+
+/// Makes the call, counted from 0, and compares its answer and the rows that it leaves.
+fn compare(alloc: Global, table: &mut Table, place: usize, case: &Case) -> Result<String, Fail> {
+    let (call, answer, rows) = *case;
+    let shown = run(alloc, table, call)?;
+    let different = difference(alloc, place, shown.as_str(), answer)?;
+    if !different.is_empty() {
+        return Ok(different);
+    }
+    let left = rows_text(alloc, table)?;
+    difference(alloc, place, left.as_str().trim_end(), rows)
+}
+
+/// What the first call that is wrong says, or nothing.
+fn first_difference(alloc: Global, cases: &[Case]) -> Result<String, Fail> {
+    let mut table = Table::new(alloc);
+    for (place, case) in cases.iter().enumerate() {
+        let different = compare(alloc, &mut table, place, case)?;
+        if !different.is_empty() {
+            return Ok(different);
+        }
+    }
+    Ok(String::new(alloc))
+}
+
+#[test]
+fn rows_change(rt: HostRuntime) -> Result<(), Fail> {
+    let cases = [
+        // A name that another one begins with its ARN, made before it.
+        (
+            Call::Add("app-AAAAAA", 1, 0),
+            "added",
+            "app-AAAAAA 0, next 1",
+        ),
+        (
+            Call::Add("app", 0, 0),
+            "added",
+            "app-AAAAAA 0, app 1, next 2",
+        ),
+        (Call::Find("app", 0), "app 1", "app-AAAAAA 0, app 1, next 2"),
+        // The whole ARN of the one is the other's without its last seven characters.
+        (
+            Call::Find("app-AAAAAA", 0),
+            "app 1",
+            "app-AAAAAA 0, app 1, next 2",
+        ),
+        (
+            Call::Find("app-AAAAAA-BBBBBB", 0),
+            "app-AAAAAA 0",
+            "app-AAAAAA 0, app 1, next 2",
+        ),
+        (
+            Call::Find("app-AAAAA", 0),
+            "none",
+            "app-AAAAAA 0, app 1, next 2",
+        ),
+        // By the whole ARN alone the other is not met.
+        (
+            Call::FindArn("app-AAAAAA", 0),
+            "app 1",
+            "app-AAAAAA 0, app 1, next 2",
+        ),
+        (
+            Call::FindArn("app-AAAAAA-BBBBBB", 0),
+            "app-AAAAAA 0",
+            "app-AAAAAA 0, app 1, next 2",
+        ),
+        // Up to its date a secret is there and holds its name, and from then on it is absent and goes.
+        (
+            Call::Schedule(1, 100),
+            "scheduled",
+            "app-AAAAAA 0, app 1, next 2",
+        ),
+        (
+            Call::Find("app", 99),
+            "app 1",
+            "app-AAAAAA 0, app 1, next 2",
+        ),
+        (
+            Call::Find("app", 100),
+            "none",
+            "app-AAAAAA 0, app 1, next 2",
+        ),
+        (
+            Call::Find("app-AAAAAA", 100),
+            "app-AAAAAA 0",
+            "app-AAAAAA 0, app 1, next 2",
+        ),
+        (
+            Call::FindArn("app-AAAAAA", 99),
+            "app 1",
+            "app-AAAAAA 0, app 1, next 2",
+        ),
+        (
+            Call::FindArn("app-AAAAAA", 100),
+            "none",
+            "app-AAAAAA 0, app 1, next 2",
+        ),
+        (Call::Nothing(99), "nothing", "app-AAAAAA 0, app 1, next 2"),
+        (
+            Call::Add("app", 2, 99),
+            "held",
+            "app-AAAAAA 0, app 1, next 2",
+        ),
+        (
+            Call::Add("app", 2, 100),
+            "added",
+            "app-AAAAAA 0, app 2, next 3",
+        ),
+        // No serial is given twice.
+        (Call::Drop(2), "dropped", "app-AAAAAA 0, next 3"),
+        (Call::Drop(2), "no secret", "app-AAAAAA 0, next 3"),
+        (Call::Add("b", 3, 0), "added", "app-AAAAAA 0, b 3, next 4"),
+        (
+            Call::Places,
+            "2 rows: app-AAAAAA 0, b 3, none",
+            "app-AAAAAA 0, b 3, next 4",
+        ),
+        // A name has no colon.
+        (
+            Call::Read("arn:aws"),
+            "no name at 3",
+            "app-AAAAAA 0, b 3, next 4",
+        ),
+    ];
+    assert_eq!(rt; first_difference(rt.alloc(), &cases)?.as_str(), "");
+    Ok(())
+}

@@ -1,0 +1,55 @@
+-- What the outside of a run tells, and what passes between a run and the outside.
+use Rattle.std.specs.Prelude.{◌≡◌, ℕ, List, [], ◌++◌, Option}
+use Rattle.std.specs.Io.KnownBytes.{append_known}
+
+-- how often those of the outside that can fail have failed
+pub record Counts : Type 0 where
+  pub source : ℕ
+  pub sink : ℕ
+  pub random : ℕ
+
+-- what the source has left, what the sink took, what the clock and the random source told, and the counts of faults
+pub record Outside : Type 0 where
+  pub left : Option (List ℕ)
+  pub taken : Option (List ℕ)
+  pub readings : Option (List ℕ)
+  pub drawn : Option (List ℕ)
+  pub counts : Counts
+
+-- the readings of the clock and the random bytes that were told
+pub record Told : Type 0 where
+  pub readings : List ℕ
+  pub drawn : List ℕ
+
+abbrev pub nothing_told : Told
+nothing_told = record { readings = []; drawn = [] }
+
+-- what was told for one thing and then for another
+abbrev pub told_both : Told → Told → Told
+told_both a b = record { readings = a.readings ++ b.readings; drawn = a.drawn ++ b.drawn }
+
+-- a count of faults before something and after it
+pub record Growth : Type 0 where
+  pub before : ℕ
+  pub after : ℕ
+
+-- what passed: what was written and told, and how the counts grew
+pub record Trace : Type 0 where
+  pub written : List ℕ
+  pub told : Told
+  pub source : Growth
+  pub sink : Growth
+  pub random : Growth
+
+-- how a count grew from one state of the outside to another
+abbrev pub growth : (Counts → ℕ) → Outside → Outside → Growth
+growth count before after = record { before = count before.counts; after = count after.counts }
+
+-- this passed between the two states of the outside
+pub record Passed (before after : Outside) (trace : Trace) : Type 0 where
+  pub writes : after.taken ≡ append_known before.taken trace.written
+  pub clock : after.readings ≡ append_known before.readings trace.told.readings
+  pub random : after.drawn ≡ append_known before.drawn trace.told.drawn
+  pub source_count : trace.source ≡ growth (λ c. c.source) before after
+  pub sink_count : trace.sink ≡ growth (λ c. c.sink) before after
+  pub random_count : trace.random ≡ growth (λ c. c.random) before after

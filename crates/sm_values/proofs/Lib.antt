@@ -1,0 +1,3 @@
+pub mod CreateSecretLemmas
+pub mod GetSecretValueLemmas
+pub mod PutSecretValueLemmas

@@ -1,0 +1,3 @@
+pub mod CreateSecret
+pub mod GetSecretValue
+pub mod PutSecretValue

@@ -1,0 +1,348 @@
+//! Judging CreateSecret (AWS Secrets Manager API Reference, CreateSecret).
+ghost use Rattle.std.specs.Prelude.{◌≡◌, ◌≤◌, ◌∷◌, [], IfOk, None, Some, length, take, unwrap_or};
+ghost use Rattle.sm_base.specs.Drawn.{drawn_arn};
+ghost use Rattle.sm_forms.specs.CreateSecret.{create_forms};
+ghost use Rattle.sm_judging.specs.Secrets.{unless_scheduled};
+ghost use Rattle.sm_values.specs.CreateSecret.{create_needs, first_of, names_of, details_of, create_call, token_of, first_version, no_rotation, empty_row, created_row, with_first, created_reply, is_full, is_repeat, create_new, create_held, create_judged, create_judgement};
+
+use sm_judging::Judged;
+use sm_judging::members::{token_or_drawn, value_of};
+use sm_model::limits::{NO_SERIAL, SECRETS_LIMIT};
+use sm_model::{
+    Arn, Change, Copied, CreateSecret, List, Moment, Name, NoMemory, Pair, Reply, Rotation,
+    SecretRow, Tag, Text, Token, Value, VersionRow, VersionedSecret, What, Why,
+};
+use sm_table::Table;
+use sm_versions::labels::current;
+use std::alloc::Global;
+
+/// The version that a new secret begins with.
+#[derive(Drop)]
+pub struct FirstVersion {
+    pub token: Token,
+    pub value: Value,
+}
+
+/// What a new secret is called.
+#[derive(Drop)]
+pub struct Names {
+    pub arn: Arn,
+    pub name: Name,
+}
+
+/// What is said of a new secret.
+#[derive(Drop)]
+pub struct Details {
+    pub description: Option<Text>,
+    pub kms: Option<Text>,
+    pub tags: List<Tag>,
+}
+
+/// A CreateSecret whose forms pass.
+#[derive(Drop)]
+pub struct CreateCall {
+    pub names: Names,
+    pub details: Details,
+    /// The version that the secret begins with, where a value is given.
+    pub first: Option<FirstVersion>,
+}
+
+/// Judges a CreateSecret.
+pub fn judge_create(
+    alloc: Global,
+    table: &Table,
+    moment: Moment,
+    drawn: &[u8],
+    create: &CreateSecret,
+) -> Result<Judged, NoMemory>
+    requires forms { create_forms create.now ≡ None }
+    requires drawn { create_needs create.now ≤ length drawn.now }
+    ensures { IfOk result (λ judged. judged ≡ create_judgement table.now moment drawn.now create.now) }
+{
+    let call = create_call(alloc, drawn, create)?;
+    judge_call(alloc, table, moment, call)
+}
+
+// ---- the members
+
+/// The members of a CreateSecret, those that are drawn too.
+fn create_call(alloc: Global, drawn: &[u8], create: &CreateSecret) -> Result<CreateCall, NoMemory>
+    requires forms { create_forms create.now ≡ None }
+    requires drawn { create_needs create.now ≤ length drawn.now }
+    ensures { IfOk result (λ call. call ≡ create_call drawn.now create.now) }
+{
+    Ok(CreateCall {
+        names: names_of(alloc, drawn, create)?,
+        details: details_of(alloc, create)?,
+        first: first_of(alloc, drawn, create)?,
+    })
+}
+
+/// The name and the ARN, which ends in the characters of the first six bytes.
+#[tactic(auto, using(sm_forms::proofs::CreateSecretLemmas::create_name))]
+fn names_of(alloc: Global, drawn: &[u8], create: &CreateSecret) -> Result<Names, NoMemory>
+    requires forms { create_forms create.now ≡ None }
+    requires drawn { create_needs create.now ≤ length drawn.now }
+    ensures { IfOk result (λ names. names ≡ names_of drawn.now create.now) }
+{
+    let name = Name::new(create.name.copy(alloc)?);
+    let arn = new_arn(alloc, &name, drawn)?;
+    Ok(Names { arn, name })
+}
+
+fn details_of(alloc: Global, create: &CreateSecret) -> Result<Details, NoMemory>
+    ensures { IfOk result (λ details. details ≡ details_of create.now) }
+{
+    Ok(Details {
+        description: create.description.copy(alloc)?,
+        kms: create.kms_key_id.copy(alloc)?,
+        tags: tags_of(alloc, &create.tags)?,
+    })
+}
+
+/// The ARN of a new secret of this name.
+fn new_arn(alloc: Global, name: &Name, drawn: &[u8]) -> Result<Arn, NoMemory>
+    requires { 6 ≤ length drawn.now }
+    ensures { IfOk result (λ arn. arn ≡ drawn_arn name.now (take 6 drawn.now)) }
+{
+    let mut random = [0u8; 6];
+    random.copy_from_slice(&drawn[..6]);
+    Arn::drawn(alloc, name, &random)
+}
+
+/// The version that the secret begins with, where a value is given. The bytes of its token stand behind the six of the
+/// ARN.
+#[tactic(auto, using(sm_forms::proofs::CreateSecretLemmas::create_token, crate::proofs::CreateSecretLemmas::room_for_token))]
+fn first_of(
+    alloc: Global,
+    drawn: &[u8],
+    create: &CreateSecret,
+) -> Result<Option<FirstVersion>, NoMemory>
+    requires forms { create_forms create.now ≡ None }
+    requires drawn { create_needs create.now ≤ length drawn.now }
+    ensures { IfOk result (λ first. first ≡ first_of drawn.now create.now) }
+{
+    match value_of(alloc, &create.secret_string, &create.secret_binary)? {
+        Some(value) => {
+            let token = token_or_drawn(alloc, &create.client_request_token, &drawn[6..])?;
+            Ok(Some(FirstVersion { token, value }))
+        }
+        None => Ok(None),
+    }
+}
+
+/// The tags that were given, if any were.
+fn tags_of(alloc: Global, tags: &Option<List<Tag>>) -> Result<List<Tag>, NoMemory>
+    ensures { IfOk result (λ list. list ≡ unwrap_or tags.now []) }
+{
+    match tags {
+        Some(tags) => tags.copy(alloc),
+        None => Ok(List::empty(alloc)),
+    }
+}
+
+// ---- the tests
+
+/// Judges a CreateSecret by the row that holds its name.
+fn judge_call(
+    alloc: Global,
+    table: &Table,
+    moment: Moment,
+    call: CreateCall,
+) -> Result<Judged, NoMemory>
+    ensures { IfOk result (λ judged. judged ≡ create_judged table.now moment call) }
+{
+    match table.find_name(&call.names.name, moment) {
+        Some(row) => create_unless_scheduled(alloc, row, &call),
+        None => create_new(alloc, table, moment, call),
+    }
+}
+
+/// Judges a CreateSecret whose name this row holds.
+fn create_unless_scheduled(
+    alloc: Global,
+    row: &SecretRow,
+    call: &CreateCall,
+) -> Result<Judged, NoMemory>
+    ensures { IfOk result (λ judged. judged ≡ unless_scheduled row.now.deletion (create_held row.now call.now)) }
+{
+    match row.deletion {
+        Some(date) => Ok(Judged::Refuse(Why::Scheduled(date))),
+        None => create_held(alloc, row, call),
+    }
+}
+
+/// Judges a CreateSecret whose name is held by this row, which is not scheduled for deletion.
+fn create_held(alloc: Global, row: &SecretRow, call: &CreateCall) -> Result<Judged, NoMemory>
+    ensures { IfOk result (λ judged. judged ≡ create_held row.now call.now) }
+{
+    if !is_repeat(row, &call.first) {
+        return Ok(Judged::Refuse(Why::SecretExists(call.names.name.as_text().copy(alloc)?)));
+    }
+    let version_id = token_of(alloc, &call.first)?;
+    let reply = created_reply(alloc, row, version_id)?;
+    Ok(Judged::Accept(Reply::CreateSecret(reply), None))
+}
+
+/// Whether the token's version has exactly the value.
+fn is_repeat(row: &SecretRow, first: &Option<FirstVersion>) -> bool
+    ensures { result ≡ is_repeat row.now first.now }
+{
+    match first {
+        Some(first) => sm_versions::same(row, &first.token, &first.value),
+        None => false,
+    }
+}
+
+/// Whether no secret can be added.
+fn is_full(table: &Table, moment: Moment) -> bool
+    ensures { result ≡ is_full table.now moment }
+{
+    table.count_at(moment) >= SECRETS_LIMIT as usize || table.next() == NO_SERIAL
+}
+
+/// Judges a CreateSecret whose name is not held.
+fn create_new(
+    alloc: Global,
+    table: &Table,
+    moment: Moment,
+    call: CreateCall,
+) -> Result<Judged, NoMemory>
+    ensures { IfOk result (λ judged. judged ≡ create_new table.now moment call) }
+{
+    if is_full(table, moment) {
+        return Ok(Judged::Refuse(Why::Limit(SECRETS_LIMIT, What::Secrets)));
+    }
+    let version_id = token_of(alloc, &call.first)?;
+    let row = created_row(alloc, table.next(), moment, call)?;
+    let reply = created_reply(alloc, &row, version_id)?;
+    Ok(Judged::Accept(Reply::CreateSecret(reply), Some(Change::Add(row))))
+}
+
+/// The reply to a CreateSecret that this row answers. It names the version where a value was given.
+fn created_reply(
+    alloc: Global,
+    row: &SecretRow,
+    version_id: Option<Token>,
+) -> Result<VersionedSecret, NoMemory>
+    ensures { IfOk result (λ reply. reply ≡ created_reply row.now version_id) }
+{
+    Ok(VersionedSecret {
+        arn: row.arn.as_text().copy(alloc)?,
+        name: row.name.as_text().copy(alloc)?,
+        version_id,
+    })
+}
+
+/// The token of the version, where there is one.
+fn token_of(alloc: Global, first: &Option<FirstVersion>) -> Result<Option<Token>, NoMemory>
+    ensures { IfOk result (λ token. token ≡ token_of first.now) }
+{
+    match first {
+        Some(first) => Ok(Some(first.token.copy(alloc)?)),
+        None => Ok(None),
+    }
+}
+
+// ---- the row
+
+/// No rotation.
+fn no_rotation() -> Rotation
+    ensures { result ≡ no_rotation }
+{
+    Rotation {
+        enabled: false,
+        lambda: None,
+        days: None,
+        next: None,
+        last: None,
+    }
+}
+
+/// The row of a new secret, without a version.
+fn empty_row(
+    alloc: Global,
+    serial: u64,
+    moment: Moment,
+    names: Names,
+    details: Details,
+) -> SecretRow
+    ensures { result ≡ empty_row serial moment names details }
+{
+    SecretRow {
+        serial,
+        arn: names.arn,
+        name: names.name,
+        created: moment,
+        changed: moment,
+        description: details.description,
+        kms: details.kms,
+        tags: details.tags,
+        versions: List::empty(alloc),
+        next_version: 0,
+        labels: List::empty(alloc),
+        deletion: None,
+        rotation: no_rotation(),
+        policy: None,
+        job: None,
+    }
+}
+
+/// The row of a new secret.
+fn created_row(
+    alloc: Global,
+    serial: u64,
+    moment: Moment,
+    call: CreateCall,
+) -> Result<SecretRow, NoMemory>
+    ensures { IfOk result (λ row. row ≡ created_row serial moment call) }
+{
+    let row = empty_row(alloc, serial, moment, call.names, call.details);
+    match call.first {
+        Some(first) => with_first(alloc, row, moment, first),
+        None => Ok(row),
+    }
+}
+
+/// A list of one item.
+fn only<T: Drop>(alloc: Global, item: T) -> Result<List<T>, NoMemory>
+    ensures { IfOk result (λ list. list ≡ item ∷ []) }
+{
+    let mut list = List::empty(alloc);
+    list.push(item)?;
+    Ok(list)
+}
+
+/// The first version of a secret, under its token.
+fn first_version(moment: Moment, first: FirstVersion) -> VersionRow
+    ensures { result ≡ first_version moment first }
+{
+    VersionRow {
+        id: first.token,
+        serial: 0,
+        made: moment,
+        value: Some(first.value),
+        rotated: None,
+        by_rotation: false,
+    }
+}
+
+/// The row with its first version, which is the current one.
+fn with_first(
+    alloc: Global,
+    row: SecretRow,
+    moment: Moment,
+    first: FirstVersion,
+) -> Result<SecretRow, NoMemory>
+    ensures { IfOk result (λ made. made ≡ with_first row moment (Some first)) }
+{
+    let pair = Pair {
+        label: current(),
+        id: first.token.copy(alloc)?,
+    };
+    let mut row = row;
+    row.labels = only(alloc, pair)?;
+    row.versions = only(alloc, first_version(moment, first))?;
+    row.next_version = 1;
+    Ok(row)
+}

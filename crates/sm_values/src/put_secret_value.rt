@@ -1,0 +1,220 @@
+//! Judging PutSecretValue (AWS Secrets Manager API Reference, PutSecretValue).
+ghost use Rattle.std.specs.Prelude.{◌≡◌, ◌||◌, [], IfOk, IfSome, IsTrue, None, Some, is_some, length, true};
+ghost use Rattle.std.specs.List.{list_all};
+ghost use Rattle.sm_base.specs.Spelling.{is_label};
+ghost use Rattle.sm_forms.specs.PutSecretValue.{put_forms};
+ghost use Rattle.sm_judging.specs.Members.{value_of};
+ghost use Rattle.sm_judging.specs.Secrets.{finished_row, unless_scheduled};
+ghost use Rattle.sm_model.specs.Needed.{token_bytes};
+ghost use Rattle.sm_values.specs.PutSecretValue.{labels_asked, labels_placed, put_call, put_reply, put_outcome, put_on, put_judged, put_judgement};
+ghost use Rattle.sm_versions.specs.Labels.{holder};
+ghost use Rattle.sm_versions.specs.Texts.{aws_current};
+
+use sm_judging::Judged;
+use sm_judging::labels_shown::labels_shown;
+use sm_judging::members::{labels_of, secret_id, token_or_drawn, value_of};
+use sm_judging::row_change::finish;
+use sm_model::{
+    Change, Copied, Label, List, Moment, NoMemory, PutSecretValue, PutValue, Reply, SecretId,
+    SecretRow, Text, Token, Value, What, Why,
+};
+use sm_table::Table;
+use sm_versions::labels::{current, holder};
+use sm_versions::{PutDone, put};
+use std::alloc::Global;
+
+/// A PutSecretValue whose forms pass.
+#[derive(Drop)]
+pub struct PutCall {
+    pub id: SecretId,
+    pub labels: List<Label>,
+    pub token: Token,
+    pub value: Value,
+}
+
+/// Judges a PutSecretValue.
+#[tactic(auto, using(crate::proofs::PutSecretValueLemmas::judged_of_call))]
+pub fn judge_put(
+    alloc: Global,
+    table: &Table,
+    moment: Moment,
+    drawn: &[u8],
+    put: &PutSecretValue,
+) -> Result<Judged, NoMemory>
+    requires forms { put_forms put.now ≡ None }
+    requires drawn { length drawn.now ≡ token_bytes put.now.client_request_token }
+    ensures { IfOk result (λ judged. judged ≡ put_judgement table.now moment drawn.now put.now) }
+{
+    let call = put_call(alloc, drawn, put)?;
+    judge_call(alloc, table, moment, &call)
+}
+
+// ---- the members
+
+/// The members of a PutSecretValue, a token that is drawn too.
+#[tactic(auto, using(sm_forms::proofs::PutSecretValueLemmas::put_id, sm_forms::proofs::PutSecretValueLemmas::put_token, sm_forms::proofs::PutSecretValueLemmas::put_labels, sm_forms::proofs::PutSecretValueLemmas::put_given, crate::proofs::PutSecretValueLemmas::room_for_put, crate::proofs::PutSecretValueLemmas::call_of_value))]
+fn put_call(alloc: Global, drawn: &[u8], put: &PutSecretValue) -> Result<PutCall, NoMemory>
+    requires forms { put_forms put.now ≡ None }
+    requires drawn { length drawn.now ≡ token_bytes put.now.client_request_token }
+    ensures { IfOk result (λ call. Some call ≡ put_call drawn.now put.now) }
+{
+    let id = secret_id(alloc, &put.secret_id)?;
+    let labels = labels_asked(alloc, &put.version_stages)?;
+    let token = token_or_drawn(alloc, &put.client_request_token, drawn)?;
+    let value = value_given(alloc, put)?;
+    Ok(PutCall {
+        id,
+        labels,
+        token,
+        value,
+    })
+}
+
+/// The value that is given.
+#[tactic(auto, using(crate::proofs::PutSecretValueLemmas::some_value))]
+fn value_given(alloc: Global, put: &PutSecretValue) -> Result<Value, NoMemory>
+    requires { (is_some put.now.secret_string || is_some put.now.secret_binary) ≡ true }
+    ensures { IfOk result (λ value. Some value ≡ value_of put.now.secret_string put.now.secret_binary) }
+{
+    match value_of(alloc, &put.secret_string, &put.secret_binary)? {
+        Some(value) => Ok(value),
+        None => unreachable!(),
+    }
+}
+
+/// The labels that are asked for, or AWSCURRENT alone.
+fn labels_asked(alloc: Global, asked: &Option<List<Text>>) -> Result<List<Label>, NoMemory>
+    requires { IfSome asked.now (λ labels. IsTrue (list_all is_label labels)) }
+    ensures { IfOk result (λ labels. labels ≡ labels_asked asked.now) }
+{
+    match asked {
+        Some(labels) => labels_of(alloc, labels.as_slice()),
+        None => only_current(alloc),
+    }
+}
+
+/// AWSCURRENT alone.
+fn only_current(alloc: Global) -> Result<List<Label>, NoMemory>
+    ensures { IfOk result (λ labels. labels ≡ labels_asked None) }
+{
+    let mut labels = List::empty(alloc);
+    labels.push(current())?;
+    Ok(labels)
+}
+
+// ---- the tests
+
+/// Judges a PutSecretValue by the secret that it names.
+fn judge_call(
+    alloc: Global,
+    table: &Table,
+    moment: Moment,
+    call: &PutCall,
+) -> Result<Judged, NoMemory>
+    ensures { IfOk result (λ judged. judged ≡ put_judged table.now moment call.now) }
+{
+    match table.find(&call.id, moment) {
+        Some(row) => put_unless_scheduled(alloc, row, moment, call),
+        None => Ok(Judged::Refuse(Why::NoSecret)),
+    }
+}
+
+/// Judges a PutSecretValue of this row.
+fn put_unless_scheduled(
+    alloc: Global,
+    row: &SecretRow,
+    moment: Moment,
+    call: &PutCall,
+) -> Result<Judged, NoMemory>
+    ensures { IfOk result (λ judged. judged ≡ unless_scheduled row.now.deletion (put_on row.now moment call.now)) }
+{
+    match row.deletion {
+        Some(date) => Ok(Judged::Refuse(Why::Scheduled(date))),
+        None => put_on(alloc, row, moment, call),
+    }
+}
+
+/// Whether a version holds AWSCURRENT.
+fn has_current(row: &SecretRow) -> bool
+    ensures { result ≡ is_some (holder row.now.labels aws_current) }
+{
+    holder(row.labels.as_slice(), &current()).is_some()
+}
+
+/// The labels to place: those that are asked for, and AWSCURRENT too where no version holds it.
+fn labels_placed(
+    alloc: Global,
+    row: &SecretRow,
+    asked: &List<Label>,
+) -> Result<List<Label>, NoMemory>
+    ensures { IfOk result (λ labels. labels ≡ labels_placed row.now asked.now) }
+{
+    let mut labels = asked.copy(alloc)?;
+    if !has_current(row) {
+        labels.push(current())?;
+    }
+    Ok(labels)
+}
+
+/// Puts the value into a copy of the row.
+fn put_on(
+    alloc: Global,
+    row: &SecretRow,
+    moment: Moment,
+    call: &PutCall,
+) -> Result<Judged, NoMemory>
+    ensures { IfOk result (λ judged. judged ≡ put_on row.now moment call.now) }
+{
+    let labels = labels_placed(alloc, row, &call.labels)?;
+    let mut after = row.copy(alloc)?;
+    match put(
+        alloc,
+        &mut after,
+        &call.token,
+        &call.value,
+        labels.as_slice(),
+        moment,
+    ) {
+        PutDone::Added => accept(alloc, after, moment, &call.token),
+        PutDone::Same(_) => repeat(alloc, row, &call.token),
+        PutDone::Exists => Ok(Judged::Refuse(Why::OtherValue(call.token.copy(alloc)?))),
+        PutDone::TooMany(limit) => Ok(Judged::Refuse(Why::Limit(limit, What::Versions))),
+        PutDone::TooManyLabels(limit) => Ok(Judged::Refuse(Why::Limit(limit, What::Labels))),
+        PutDone::Memory => Err(NoMemory),
+    }
+}
+
+/// The reply that names the version and shows its labels.
+fn put_reply(alloc: Global, row: &SecretRow, token: &Token) -> Result<PutValue, NoMemory>
+    ensures { IfOk result (λ reply. reply ≡ put_reply row.now token.now) }
+{
+    Ok(PutValue {
+        arn: row.arn.as_text().copy(alloc)?,
+        name: row.name.as_text().copy(alloc)?,
+        version_id: token.copy(alloc)?,
+        version_stages: labels_shown(alloc, row, token)?,
+    })
+}
+
+/// The row with the value, to take the place of the old one.
+fn accept(
+    alloc: Global,
+    after: SecretRow,
+    moment: Moment,
+    token: &Token,
+) -> Result<Judged, NoMemory>
+    ensures { IfOk result (λ judged. judged ≡ put_outcome PutDone.Added after (finished_row after moment) token.now) }
+{
+    let mut after = after;
+    finish(&mut after, moment);
+    let reply = put_reply(alloc, &after, token)?;
+    Ok(Judged::Accept(Reply::PutSecretValue(reply), Some(Change::Replace(after))))
+}
+
+/// The answer to a repeat.
+fn repeat(alloc: Global, row: &SecretRow, token: &Token) -> Result<Judged, NoMemory>
+    ensures { IfOk result (λ judged. judged ≡ put_outcome (PutDone.Same []) row.now row.now token.now) }
+{
+    let reply = put_reply(alloc, row, token)?;
+    Ok(Judged::Accept(Reply::PutSecretValue(reply), None))
+}

@@ -1,0 +1,449 @@
+"""A second definition of what the program answers, to compare it with.
+
+It is written from the rules of the product (docs/RULES.md, docs/USING.md) alone, in another language and shape than the program and its
+specifications: a dictionary of versions and a list of labels for each secret, exceptions for refusals, Python's own JSON. It knows one account, a
+clock that always reads 1700000000, and random bytes that count up from 0.
+"""
+
+import collections
+import json
+import re
+import uuid
+
+NOW = 1700000000
+STREAM_LIMIT = 4194304
+MESSAGE_LIMIT = 1000
+HEAD_LIMIT = 16384
+FIELD_LIMIT = 64
+BODY_LIMIT = 524288
+
+AWS_LABELS = {"AWSCURRENT", "AWSPREVIOUS", "AWSPENDING"}
+SUFFIX_CHARACTERS = "ABCDEFGHIJKLMNOPQRSTUVWXYZabcdefghijklmnopqrstuvwxyz0123456789"
+ARN_BEGINNING = "arn:aws:secretsmanager:us-east-1:000000000000:secret:"
+
+OPERATIONS = set(
+    """BatchGetSecretValue CancelRotateSecret CreateSecret DeleteResourcePolicy DeleteSecret DescribeSecret GetRandomPassword
+    GetResourcePolicy GetSecretValue ListSecretVersionIds ListSecrets PutResourcePolicy PutSecretValue RestoreSecret RotateSecret
+    TagResource UntagResource UpdateSecret UpdateSecretVersionStage ValidateResourcePolicy""".split()
+)
+
+# For each operation that is built: its members in ascending order, and those among them that have to be there.
+MEMBERS = {
+    "CreateSecret": (["ClientRequestToken", "Name", "SecretString"], {"Name"}),
+    "GetSecretValue": (["SecretId", "VersionId", "VersionStage"], {"SecretId"}),
+    "PutSecretValue": (["ClientRequestToken", "SecretId", "SecretString", "VersionStages"], {"SecretId"}),
+    "UpdateSecretVersionStage": (
+        ["MoveToVersionId", "RemoveFromVersionId", "SecretId", "VersionStage"],
+        {"SecretId", "VersionStage"},
+    ),
+}
+
+NOT_BUILT = {
+    "CreateSecret": {"AddReplicaRegions", "Description", "KmsKeyId", "SecretBinary", "Tags"},
+    "PutSecretValue": {"SecretBinary"},
+}
+
+NAME = re.compile(r"[A-Za-z0-9/_+=.@-]{1,512}")
+ARN = re.compile(r"arn:aws:secretsmanager:[a-z0-9-]{1,32}:[0-9]{12}:secret:[A-Za-z0-9/_+=.@-]{1,519}")
+TOKEN = re.compile(r"[!-~]{32,64}")
+
+
+class Refusal(Exception):
+    """A refused request: the error's name, its message, and the kind of the message, in which `_` stands for what differs."""
+
+    def __init__(self, error, message, kind=None):
+        self.error = error
+        self.message = message
+        self.kind = kind or message
+
+
+# The refusals whose message says all, and their errors' names.
+ERRORS = {
+    "AWSCURRENT can be moved but not removed": "InvalidParameterException",
+    "body is not a JSON object": "SerializationException",
+    "not built": "SerializationException",
+    "secret not found": "ResourceNotFoundException",
+    "unknown operation": "UnknownOperationException",
+    "version and label differ": "InvalidRequestException",
+    "version not found": "ResourceNotFoundException",
+}
+
+
+def refusal(message):
+    return Refusal(ERRORS[message], message)
+
+
+def bad_member(name):
+    return Refusal("SerializationException", f"{name} is missing or of another type", "_ is missing or of another type")
+
+
+def bad_form(name):
+    return Refusal("InvalidParameterException", f"{name} is not in its form", "_ is not in its form")
+
+
+# Every kind of refusal that the operations built so far can give.
+KINDS = set(ERRORS) | {
+    "_ is missing or of another type",
+    "_ is not in its form",
+    "secret _ exists",
+    "version _ has another value",
+    "label is held by _",
+    "label is held by no version",
+    "limit of 20 labels",
+    "limit of 1000 versions",
+}
+
+
+def limit_of(count, what):
+    return Refusal("LimitExceededException", f"limit of {count} {what}")
+
+
+# ---- members
+
+
+def is_label(text):
+    return 1 <= len(text) <= 256
+
+
+def is_value(text):
+    return len(text.encode()) <= 65536
+
+
+def is_secret_id(text):
+    return bool((ARN if text.startswith("arn:") else NAME).fullmatch(text))
+
+
+def is_token(text):
+    return bool(TOKEN.fullmatch(text))
+
+
+FORMS = {
+    "ClientRequestToken": is_token,
+    "MoveToVersionId": is_token,
+    "Name": lambda text: bool(NAME.fullmatch(text)),
+    "RemoveFromVersionId": is_token,
+    "SecretId": is_secret_id,
+    "SecretString": is_value,
+    "VersionId": is_token,
+    "VersionStage": is_label,
+    "VersionStages": lambda labels: 1 <= len(labels) <= 20 and all(map(is_label, labels)),
+}
+
+
+def no_constant(text):
+    raise ValueError(text)
+
+
+def number(text):
+    value = float(text)
+    if value in (float("inf"), float("-inf")):
+        raise ValueError(text)
+    return value
+
+
+def depth(value):
+    if isinstance(value, (dict, list)):
+        items = value.values() if isinstance(value, dict) else value
+        return 1 + max(map(depth, items), default=0)
+    return 0
+
+
+def read_json(body):
+    read = json.loads(body.decode("utf-8"), parse_constant=no_constant, parse_float=number)
+    # Half of a surrogate pair can't be written again.
+    json.dumps(read, ensure_ascii=False).encode()
+    if depth(read) > 127:
+        raise ValueError(body)
+    return read
+
+
+def object_of(body):
+    if not body:
+        return {}
+    try:
+        read = read_json(body)
+    except (ValueError, RecursionError):
+        raise refusal("body is not a JSON object")
+    if not isinstance(read, dict):
+        raise refusal("body is not a JSON object")
+    return {name: value for name, value in read.items() if value is not None}
+
+
+def is_of_its_type(name, value):
+    if name == "VersionStages":
+        return isinstance(value, list) and all(isinstance(item, str) for item in value)
+    return isinstance(value, str)
+
+
+def members_of(operation, body):
+    if operation not in OPERATIONS:
+        raise refusal("unknown operation")
+    given = object_of(body)
+    if operation not in MEMBERS or NOT_BUILT.get(operation, set()) & given.keys():
+        raise refusal("not built")
+    names, required = MEMBERS[operation]
+    for name in names:
+        if name in given and not is_of_its_type(name, given[name]) or name in required - given.keys():
+            raise bad_member(name)
+    return {name: given[name] for name in names if name in given}
+
+
+def needed(operation, members):
+    value_without_token = "SecretString" in members and "ClientRequestToken" not in members
+    if operation == "CreateSecret":
+        return 22 if value_without_token else 6
+    return 16 if operation == "PutSecretValue" and "ClientRequestToken" not in members else 0
+
+
+def test_forms(operation, members):
+    for name, value in members.items():
+        if not FORMS[name](value):
+            raise bad_form(name)
+    if operation == "PutSecretValue" and "SecretString" not in members:
+        raise bad_form("SecretString")
+    if operation == "UpdateSecretVersionStage" and not {"MoveToVersionId", "RemoveFromVersionId"} & members.keys():
+        raise bad_form("MoveToVersionId")
+
+
+def drawn_token(drawn):
+    return str(uuid.UUID(bytes=bytes(drawn), version=4))
+
+
+# ---- secrets
+
+
+class Secret:
+    def __init__(self, name, arn):
+        self.name = name
+        self.arn = arn
+        self.versions = {}
+        self.labels = []
+
+    def holder(self, label):
+        return next((version for held, version in self.labels if held == label), None)
+
+    def labels_of(self, version):
+        return sorted((label for label, on in self.labels if on == version), key=str.encode)
+
+    def without(self, label):
+        return [pair for pair in self.labels if pair[0] != label]
+
+    def place(self, label, version):
+        before = self.holder(label)
+        self.labels = self.without(label) + [(label, version)]
+        if label == "AWSCURRENT" and before not in (None, version):
+            self.labels = self.without("AWSPREVIOUS") + [("AWSPREVIOUS", before)]
+
+    def place_all(self, labels, version):
+        """Places the labels, AWSCURRENT last, unless there are too many then."""
+        before = self.labels
+        for label in sorted(labels, key=lambda label: label == "AWSCURRENT"):
+            self.place(label, version)
+        if len([label for label, _ in self.labels if label not in AWS_LABELS]) > 20:
+            self.labels = before
+            raise limit_of(20, "labels")
+
+    def named(self):
+        return {"ARN": self.arn, "Name": self.name}
+
+
+class Account:
+    """One account, which answers one message after the other. It counts what it reached: (operation, how it was answered)."""
+
+    def __init__(self):
+        self.secrets = []
+        self.drawn = 0
+        self.reached = collections.Counter()
+
+    def draw(self, count):
+        drawn = [(self.drawn + place) % 256 for place in range(count)]
+        self.drawn += count
+        return drawn
+
+    def find(self, secret_id):
+        if not secret_id.startswith("arn:"):
+            return next((secret for secret in self.secrets if secret.name == secret_id), None)
+        whole = [secret for secret in self.secrets if secret.arn == secret_id]
+        short = [secret for secret in self.secrets if secret.arn[:-7] == secret_id]
+        return next(iter(whole + short), None)
+
+    def answer(self, operation, body):
+        members = members_of(operation, body)
+        drawn = self.draw(needed(operation, members))
+        test_forms(operation, members)
+        if operation == "CreateSecret":
+            return self.create(members, drawn)
+        secret = self.find(members["SecretId"])
+        if secret is None:
+            raise refusal("secret not found")
+        if operation == "GetSecretValue":
+            return get(secret, members.get("VersionId"), members.get("VersionStage"))
+        if operation == "PutSecretValue":
+            return put(secret, members, drawn)
+        return move(secret, members["VersionStage"], members.get("MoveToVersionId"), members.get("RemoveFromVersionId"))
+
+    def create(self, members, drawn):
+        value = members.get("SecretString")
+        token = members.get("ClientRequestToken") or (drawn_token(drawn[6:]) if value is not None else None)
+        secret = next((secret for secret in self.secrets if secret.name == members["Name"]), None)
+        if secret is None:
+            suffix = "".join(SUFFIX_CHARACTERS[byte % 62] for byte in drawn[:6])
+            secret = Secret(members["Name"], f"{ARN_BEGINNING}{members['Name']}-{suffix}")
+            self.secrets.append(secret)
+            if value is not None:
+                secret.versions[token] = value
+                secret.place("AWSCURRENT", token)
+        elif value is None or secret.versions.get(token) != value:
+            raise Refusal("ResourceExistsException", f"secret {secret.name} exists", "secret _ exists")
+        return secret.named() | ({} if value is None else {"VersionId": token})
+
+
+def get(secret, version, label):
+    if version is None and label is None:
+        label = "AWSCURRENT"
+    if version is not None and version not in secret.versions or label is not None and secret.holder(label) is None:
+        raise refusal("version not found")
+    if version is not None and label is not None and secret.holder(label) != version:
+        raise refusal("version and label differ")
+    version = version or secret.holder(label)
+    shown = {"CreatedDate": NOW, "SecretString": secret.versions[version], "VersionId": version}
+    return secret.named() | shown | {"VersionStages": secret.labels_of(version)}
+
+
+def put(secret, members, drawn):
+    token = members.get("ClientRequestToken") or drawn_token(drawn)
+    value = members["SecretString"]
+    if token in secret.versions:
+        if secret.versions[token] != value:
+            raise Refusal("ResourceExistsException", f"version {token} has another value", "version _ has another value")
+    else:
+        if len(secret.versions) >= 1000:
+            raise limit_of(1000, "versions")
+        labels = list(members.get("VersionStages", ["AWSCURRENT"]))
+        if secret.holder("AWSCURRENT") is None:
+            labels.append("AWSCURRENT")
+        secret.place_all(labels, token)
+        secret.versions[token] = value
+    return secret.named() | {"VersionId": token, "VersionStages": secret.labels_of(token)}
+
+
+def move(secret, label, target, source):
+    for version in (source, target):
+        if version is not None and version not in secret.versions:
+            raise refusal("version not found")
+    holder = secret.holder(label)
+    if holder != source if source is not None else holder not in (None, target):
+        kind = "label is held by _" if holder else "label is held by no version"
+        raise Refusal("InvalidParameterException", f"label is held by {holder or 'no version'}", kind)
+    if target is not None:
+        secret.place_all([label], target)
+    elif label == "AWSCURRENT":
+        raise refusal("AWSCURRENT can be moved but not removed")
+    else:
+        secret.labels = secret.without(label)
+    return secret.named()
+
+
+# ---- messages
+
+REQUEST_LINE = re.compile(rb"([!#-'*+.0-9A-Z^-z|~-]+) ([!-~\x80-\xff]+) HTTP/1\.([01])")
+FIELD = re.compile(rb"([!#-'*+.0-9A-Z^-z|~-]+):[ \t]*((?:[!-~\x80-\xff](?:[\t -~\x80-\xff]*[!-~\x80-\xff])?)?)[ \t]*")
+
+
+class NoMessage(Exception):
+    """The stream isn't whole messages."""
+
+
+def is_utf8(text):
+    try:
+        text.decode("utf-8")
+    except ValueError:
+        return False
+    return True
+
+
+class Message:
+    """The message at a place of a stream, and the place behind it."""
+
+    def __init__(self, stream, at):
+        behind = stream.find(b"\r\n\r\n", at) + 4
+        if behind < 4 or behind - at > HEAD_LIMIT:
+            raise NoMessage
+        head = stream[at : behind - 4]
+        # A lone LF ends a line too, and empty lines before the request line are passed over.
+        first, *rest = re.split(rb"\r?\n", re.sub(rb"\A(\r?\n)+", b"", head))
+        request = REQUEST_LINE.fullmatch(first)
+        fields = [FIELD.fullmatch(line) for line in rest]
+        if not request or not is_utf8(request[2]) or not all(fields) or len(fields) > FIELD_LIMIT:
+            raise NoMessage
+        self.method, self.path, version = request.groups()
+        self.fields = [(field[1].lower(), field[2]) for field in fields]
+        self.behind = behind + self.length()
+        if len(stream) < self.behind:
+            raise NoMessage
+        self.body = stream[behind : self.behind]
+        self.is_closing = version == b"0" or (self.first(b"connection") or b"").lower() == b"close"
+
+    def values(self, name):
+        return [value for other, value in self.fields if other == name]
+
+    def first(self, name):
+        return next(iter(self.values(name)), None)
+
+    def length(self):
+        lengths = self.values(b"content-length")
+        if self.values(b"transfer-encoding") or len(lengths) > 1:
+            raise NoMessage
+        if not lengths:
+            return 0
+        if not re.fullmatch(rb"[0-9]{1,10}", lengths[0]) or int(lengths[0]) > BODY_LIMIT:
+            raise NoMessage
+        return int(lengths[0])
+
+    def operation(self):
+        target = self.first(b"x-amz-target") or b""
+        if self.method != b"POST" or self.path != b"/" or not target.startswith(b"secretsmanager."):
+            raise refusal("unknown operation")
+        return target[len(b"secretsmanager."):].decode("latin-1")
+
+
+def messages_of(stream):
+    """The messages that the stream is, or None."""
+    messages, at = [], 0
+    if len(stream) > STREAM_LIMIT:
+        return None
+    while at < len(stream) and not (messages and messages[-1].is_closing):
+        if len(messages) == MESSAGE_LIMIT:
+            return None
+        try:
+            messages.append(Message(stream, at))
+        except NoMessage:
+            return None
+        at = messages[-1].behind
+    return messages
+
+
+def framed(status, shown):
+    body = json.dumps(shown, separators=(",", ":"), ensure_ascii=False, sort_keys=True).encode()
+    head = f"HTTP/1.1 {status}\r\nContent-Type: application/x-amz-json-1.1\r\nContent-Length: {len(body)}\r\n\r\n"
+    return head.encode() + body
+
+
+def reply(account, message):
+    operation = None
+    try:
+        operation = message.operation()
+        shown = account.answer(operation, message.body)
+        account.reached[operation, "accepted"] += 1
+        return framed("200 OK", shown)
+    except Refusal as refused:
+        account.reached[operation, refused.kind] += 1
+        return framed("400 Bad Request", {"Message": refused.message, "__type": refused.error})
+
+
+def run(stream, account):
+    """The exit code and the output of a run over this input, on a new account."""
+    messages = messages_of(stream)
+    if messages is None:
+        return 13, b""
+    return 0, b"".join(reply(account, message) for message in messages)
