@@ -1,0 +1,11 @@
+pub mod Bytes
+pub mod CodecLaws
+pub mod ArmLaws
+pub mod ListLaws
+pub mod FieldLaws
+pub mod RequestLaws
+pub mod EntryLaws
+pub mod SpellingLaws
+pub mod ReadingLemmas
+pub mod DecodeLemmas
+pub mod FitLemmas

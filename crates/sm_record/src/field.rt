@@ -1,0 +1,27 @@
+//! What is spelled inside of an entry.
+ghost use Rattle.std.specs.Prelude.{◌≡◌, ◌++◌, IsTrue, OnOk};
+ghost use Rattle.sm_record.specs.Codec.{Codec};
+ghost use Rattle.sm_record.specs.Reading.{Gives};
+
+use crate::unread::Unread;
+use sm_model::NoMemory;
+use std::alloc::Global;
+
+/// What has a spelling.
+pub trait Field: Drop {
+    /// How it is spelled.
+    ghost codec: { Codec Self };
+
+    /// Whether it has a spelling. It takes no memory.
+    fn fits(&self) -> bool
+        ensures { result ≡ codec.fits self.now };
+
+    /// Reads one at the front of bytes, and gives the bytes behind it too.
+    fn read_front(alloc: Global, bytes: &[u8]) -> Result<(Self, &[u8]), Unread>
+        ensures { Gives (λ x. (x.0, x.1.now)) result (codec.read bytes.now) };
+
+    /// Writes its spelling at the end.
+    fn put(&self, out: &mut Vec<u8>) -> Result<(), NoMemory>
+        requires { IsTrue (codec.fits self.now) }
+        ensures { OnOk result (out.new.items ≡ out.old.items ++ codec.spell self.now) };
+}

@@ -1,0 +1,135 @@
+//! Texts and bytes, behind their length.
+ghost use Rattle.std.specs.Prelude.{◌≡◌, ◌++◌, IsTrue, OnOk};
+ghost use Rattle.sm_record.specs.Fields.{octets, text, arn, token};
+ghost use Rattle.sm_record.specs.Reading.{Gives};
+
+use crate::field::Field;
+use crate::numbers::{count_at, count_fits, put_count};
+use crate::unread::Unread;
+use sm_model::{Arn, Bytes, NoMemory, ReadRefused, Text, Token};
+use std::alloc::Global;
+use std::str;
+
+/// Whether the length of bytes is a number of four bytes.
+#[tactic(auto, unfolding(crate::specs::Fields::octets))]
+fn octets_fit(bytes: &[u8]) -> bool
+    ensures { result ≡ octets.fits bytes.now }
+{
+    count_fits(bytes.len())
+}
+
+/// The bytes behind a length. They are not copied, so a length that is too great asks for no memory.
+#[tactic(auto, unfolding(crate::specs::Fields::octets))]
+fn octets_at(bytes: &[u8]) -> Result<(&[u8], &[u8]), Unread>
+    ensures { Gives (λ x. (x.0.now, x.1.now)) result (octets.read bytes.now) }
+{
+    let (length, rest) = count_at(bytes)?;
+    let length = length as usize;
+    if rest.len() < length {
+        return Err(Unread::Left(bytes.len()));
+    }
+    let (front, behind) = rest.split_at(length);
+    Ok((front, behind))
+}
+
+#[tactic(auto, using(std::proofs::lemmas::List::append_assoc), unfolding(crate::specs::Fields::octets))]
+fn put_octets(out: &mut Vec<u8>, bytes: &[u8]) -> Result<(), NoMemory>
+    requires { IsTrue (octets.fits bytes.now) }
+    ensures { OnOk result (out.new.items ≡ out.old.items ++ octets.spell bytes.now) }
+{
+    put_count(out, bytes.len())?;
+    out.extend_from_slice(bytes)?;
+    Ok(())
+}
+
+impl Field for Bytes {
+    ghost codec = { octets };
+
+    fn fits(&self) -> bool {
+        octets_fit(self.as_slice())
+    }
+
+    fn read_front(alloc: Global, bytes: &[u8]) -> Result<(Bytes, &[u8]), Unread> {
+        let (octets, rest) = octets_at(bytes)?;
+        Ok((Bytes::from_slice(alloc, octets)?, rest))
+    }
+
+    fn put(&self, out: &mut Vec<u8>) -> Result<(), NoMemory> {
+        put_octets(out, self.as_slice())?;
+        Ok(())
+    }
+}
+
+impl Field for Text {
+    ghost codec = { text };
+
+    #[tactic(auto, using(crate::proofs::ReadingLemmas::utf8_passes), unfolding(crate::specs::Fields::text))]
+    fn fits(&self) -> bool {
+        octets_fit(self.as_bytes())
+    }
+
+    #[tactic(auto, using(crate::proofs::ReadingLemmas::utf8_passes, crate::proofs::ReadingLemmas::utf8_fails), unfolding(crate::specs::Fields::text))]
+    fn read_front(alloc: Global, bytes: &[u8]) -> Result<(Text, &[u8]), Unread> {
+        let (octets, rest) = octets_at(bytes)?;
+        match str::from_utf8(octets) {
+            Ok(text) => Ok((Text::from_str(alloc, text)?, rest)),
+            Err(_) => Err(Unread::Left(bytes.len())),
+        }
+    }
+
+    #[tactic(auto, unfolding(crate::specs::Fields::text))]
+    fn put(&self, out: &mut Vec<u8>) -> Result<(), NoMemory> {
+        put_octets(out, self.as_bytes())?;
+        Ok(())
+    }
+}
+
+impl Field for Arn {
+    ghost codec = { arn };
+
+    #[tactic(auto, unfolding(crate::specs::Fields::arn))]
+    fn fits(&self) -> bool {
+        octets_fit(self.as_text().as_bytes())
+    }
+
+    #[tactic(auto, using(crate::proofs::ReadingLemmas::fault_fails), unfolding(crate::specs::Fields::arn))]
+    fn read_front(alloc: Global, bytes: &[u8]) -> Result<(Arn, &[u8]), Unread> {
+        let (octets, rest) = octets_at(bytes)?;
+        match Arn::read(alloc, octets) {
+            Ok(arn) => Ok((arn, rest)),
+            Err(ReadRefused::Spelling(_)) => Err(Unread::Left(bytes.len())),
+            Err(ReadRefused::Memory) => Err(Unread::Memory),
+        }
+    }
+
+    #[tactic(auto, unfolding(crate::specs::Fields::arn))]
+    fn put(&self, out: &mut Vec<u8>) -> Result<(), NoMemory> {
+        put_octets(out, self.as_text().as_bytes())?;
+        Ok(())
+    }
+}
+
+impl Field for Token {
+    ghost codec = { token };
+
+    #[tactic(auto, unfolding(crate::specs::Fields::token))]
+    fn fits(&self) -> bool {
+        octets_fit(self.as_text().as_bytes())
+    }
+
+    #[tactic(auto, using(crate::proofs::ReadingLemmas::fault_fails), unfolding(crate::specs::Fields::token))]
+    fn read_front(alloc: Global, bytes: &[u8]) -> Result<(Token, &[u8]), Unread> {
+        let (octets, rest) = octets_at(bytes)?;
+        match Token::read(alloc, octets) {
+            Ok(token) => Ok((token, rest)),
+            Err(ReadRefused::Spelling(_)) => Err(Unread::Left(bytes.len())),
+            Err(ReadRefused::Memory) => Err(Unread::Memory),
+        }
+    }
+
+    #[tactic(auto, unfolding(crate::specs::Fields::token))]
+    fn put(&self, out: &mut Vec<u8>) -> Result<(), NoMemory> {
+        put_octets(out, self.as_text().as_bytes())?;
+        Ok(())
+    }
+}

@@ -1,0 +1,178 @@
+//! Values, tags, rules, and what is said of a rotation.
+ghost use Rattle.sm_record.specs.Fields.{value, tag, rotation_rules};
+ghost use Rattle.sm_record.specs.Entries.{answer, at};
+
+use crate::field::Field;
+use crate::single::{attempt_at, attempt_fits, byte_at, put_attempt};
+use crate::unread::Unread;
+use sm_model::{Answer, At, Bytes, NoMemory, Rules, Stage, Tag, Text, Token, Value};
+use std::alloc::Global;
+
+impl Field for Value {
+    ghost codec = { value };
+
+    #[tactic(auto, unfolding(crate::specs::Fields::value))]
+    fn fits(&self) -> bool {
+        match self {
+            Value::Text(text) => text.fits(),
+            Value::Bytes(octets) => octets.fits(),
+        }
+    }
+
+    #[tactic(auto, unfolding(crate::specs::Fields::value))]
+    fn read_front(alloc: Global, bytes: &[u8]) -> Result<(Value, &[u8]), Unread> {
+        let (kind, rest) = byte_at(bytes)?;
+        match kind {
+            1 => {
+                let (text, behind) = Text::read_front(alloc, rest)?;
+                Ok((Value::Text(text), behind))
+            }
+            2 => {
+                let (octets, behind) = Bytes::read_front(alloc, rest)?;
+                Ok((Value::Bytes(octets), behind))
+            }
+            _ => Err(Unread::Left(rest.len() + 1)),
+        }
+    }
+
+    #[tactic(auto, using(std::proofs::lemmas::List::append_assoc), unfolding(crate::specs::Fields::value))]
+    fn put(&self, out: &mut Vec<u8>) -> Result<(), NoMemory> {
+        match self {
+            Value::Text(text) => {
+                out.push(1)?;
+                text.put(out)?;
+                Ok(())
+            }
+            Value::Bytes(octets) => {
+                out.push(2)?;
+                octets.put(out)?;
+                Ok(())
+            }
+        }
+    }
+}
+
+impl Field for Tag {
+    ghost codec = { tag };
+
+    #[tactic(auto, unfolding(crate::specs::Fields::tag))]
+    fn fits(&self) -> bool {
+        self.key.fits() && self.value.fits()
+    }
+
+    #[tactic(auto, unfolding(crate::specs::Fields::tag))]
+    fn read_front(alloc: Global, bytes: &[u8]) -> Result<(Tag, &[u8]), Unread> {
+        let ((key, value), rest) = <(Text, Text)>::read_front(alloc, bytes)?;
+        Ok((Tag { key, value }, rest))
+    }
+
+    #[tactic(auto, using(std::proofs::lemmas::List::append_assoc, std::proofs::lemmas::Bool::and_parts), unfolding(crate::specs::Fields::tag))]
+    fn put(&self, out: &mut Vec<u8>) -> Result<(), NoMemory> {
+        self.key.put(out)?;
+        self.value.put(out)?;
+        Ok(())
+    }
+}
+
+impl Field for Rules {
+    ghost codec = { rotation_rules };
+
+    #[tactic(auto, unfolding(crate::specs::Fields::rotation_rules))]
+    fn fits(&self) -> bool {
+        self.days.fits()
+    }
+
+    #[tactic(auto, unfolding(crate::specs::Fields::rotation_rules))]
+    fn read_front(alloc: Global, bytes: &[u8]) -> Result<(Rules, &[u8]), Unread> {
+        let (days, rest) = <Option<i64>>::read_front(alloc, bytes)?;
+        Ok((Rules { days }, rest))
+    }
+
+    #[tactic(auto, unfolding(crate::specs::Fields::rotation_rules))]
+    fn put(&self, out: &mut Vec<u8>) -> Result<(), NoMemory> {
+        self.days.put(out)?;
+        Ok(())
+    }
+}
+
+impl Field for At {
+    ghost codec = { at };
+
+    #[tactic(auto, unfolding(crate::specs::Entries::at))]
+    fn fits(&self) -> bool {
+        self.token.fits() && (self.stage.fits() && attempt_fits(self.attempt))
+    }
+
+    #[tactic(auto, unfolding(crate::specs::Entries::at))]
+    fn read_front(alloc: Global, bytes: &[u8]) -> Result<(At, &[u8]), Unread> {
+        let (token, rest) = Token::read_front(alloc, bytes)?;
+        let (stage, behind) = Stage::read_front(alloc, rest)?;
+        let (attempt, after) = attempt_at(behind)?;
+        Ok((
+            At {
+                token,
+                stage,
+                attempt,
+            },
+            after,
+        ))
+    }
+
+    #[tactic(auto, using(std::proofs::lemmas::List::append_assoc, std::proofs::lemmas::Bool::and_parts), unfolding(crate::specs::Entries::at))]
+    fn put(&self, out: &mut Vec<u8>) -> Result<(), NoMemory> {
+        self.token.put(out)?;
+        self.stage.put(out)?;
+        put_attempt(out, self.attempt)?;
+        Ok(())
+    }
+}
+
+impl Field for Answer {
+    ghost codec = { answer };
+
+    #[tactic(auto, unfolding(crate::specs::Entries::answer))]
+    fn fits(&self) -> bool {
+        match self {
+            Answer::Value(value) => value.fits(),
+            Answer::Yes | Answer::No | Answer::Failed => true,
+        }
+    }
+
+    #[tactic(auto, unfolding(crate::specs::Entries::answer))]
+    fn read_front(alloc: Global, bytes: &[u8]) -> Result<(Answer, &[u8]), Unread> {
+        let (kind, rest) = byte_at(bytes)?;
+        match kind {
+            1 => {
+                let (value, behind) = Value::read_front(alloc, rest)?;
+                Ok((Answer::Value(value), behind))
+            }
+            2 => Ok((Answer::Yes, rest)),
+            3 => Ok((Answer::No, rest)),
+            4 => Ok((Answer::Failed, rest)),
+            _ => Err(Unread::Left(rest.len() + 1)),
+        }
+    }
+
+    #[tactic(auto, using(std::proofs::lemmas::List::append_assoc), unfolding(crate::specs::Entries::answer))]
+    fn put(&self, out: &mut Vec<u8>) -> Result<(), NoMemory> {
+        match self {
+            Answer::Value(value) => {
+                out.push(1)?;
+                value.put(out)?;
+                Ok(())
+            }
+            Answer::Yes => {
+                out.push(2)?;
+                Ok(())
+            }
+            Answer::No => {
+                out.push(3)?;
+                Ok(())
+            }
+            Answer::Failed => {
+                out.push(4)?;
+                Ok(())
+            }
+        }
+    }
+}
