@@ -1,0 +1,5 @@
+pub mod EntryLists
+pub mod OneProof
+pub mod StoreStands
+pub mod OpenRuns
+pub mod ReadingRuns

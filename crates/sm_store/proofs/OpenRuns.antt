@@ -1,0 +1,28 @@
+-- What opening a store leaves, from what opening its journal leaves.
+use Rattle.std.proofs.Common.{ℕ, List, sym, subst, inl}
+use Rattle.sm_disk.specs.Sight.{Sight}
+use Rattle.sm_disk.specs.OneFile.{Leaves}
+use Rattle.sm_disk.specs.declared.disk.Disk.{Ghosts}
+use Rattle.sm_disk.proofs.Runs.{weakened}
+use Rattle.sm_journal.specs.Records.{Recovers, SameList}
+use Rattle.sm_journal.specs.Openings as journals
+use Rattle.sm_journal.specs.Openings.{Equal}
+use Rattle.sm_journal.specs.declared.answers.OpenRefused.{OpenRefused}
+use Rattle.sm_journal.specs.declared.answers.OpenRefused.TheVariants.{Damaged, Failed, Memory}
+use Rattle.sm_store.specs.Openings.{IsRefused}
+use Rattle.sm_store.specs.declared.files.TheConstants.{JOURNAL}
+
+-- a file that stays keeps its list
+list_kept : (old now : Sight) → Leaves JOURNAL Equal Equal old now → Leaves JOURNAL SameList SameList old now
+list_kept old now run = weakened JOURNAL Equal Equal SameList SameList old now
+    (λ d was y same. kept (d JOURNAL) y same) (λ d was y same. kept (d JOURNAL) y same) run
+  where
+    kept : (x y : List ℕ) → Equal x y → SameList x y
+    kept x y same bodies has = subst (λ (b : List ℕ). Recovers b bodies) (sym same) has
+
+-- why the journal isn't opened, the store isn't
+pub journal_refused : {D : Type 0} (G : Ghosts D) (old : D) (refused : OpenRefused D)
+    → journals.IsRefused G JOURNAL old refused → IsRefused G old refused
+journal_refused G old (Damaged now damage) why = (inl (why.0, why.1), why.2)
+journal_refused G old (Failed now) why = why
+journal_refused G old (Memory now) why = (list_kept (G.sight old) (G.sight now) why.0.leaves, why.1)

@@ -1,0 +1,17 @@
+use Rattle.std.proofs.Common.{ℕ, List, Some, subst}
+use Rattle.sm_journal.specs.Journals as journals
+use Rattle.sm_store.proofs.StoreStands.{appends_entry, append_leaves}
+use Rattle.sm_store.proofs.store.Store.append.Goals as goal
+
+pub returns-clause-answer : goal.returns-clause-answer
+returns-clause-answer g c e spells =
+    appends_entry c.args.self.now _ e c.args.ready.now c.append.result spells c.requires.within
+    (subst (λ (b : List ℕ). journals.AppendsAs c.args.self.now.journal b c.append.new.self c.append.result)
+    c.as_slice.ensures c.append.ensures.answer)
+
+pub returns-clause-any_moment : goal.returns-clause-any_moment
+returns-clause-any_moment g c e spells =
+    append_leaves c.args.self.now c.append.new.self e c.args.ready.now spells
+    (λ bodies stands. subst
+    (λ (b : List ℕ). journals.LeavesEither bodies (Some b) c.args.self.now.journal c.append.new.self)
+    c.as_slice.ensures (c.append.ensures.any_moment bodies stands))
