@@ -1,9 +1,13 @@
-//! Work to be timed from outside: `benchmarks table 100` makes so many secrets in a table, and says how many there are.
+//! Work to be timed from outside: `benchmarks table 100` makes so many secrets in a table, and says how many there are;
+//! `benchmarks pieces 100` reads a message with a body of so many bytes, which come one by one, and says how many.
 #![tactic(auto)]
+
+mod pieces;
 
 ghost use Rattle.std.specs.Prelude.{◌≡◌, IfOk};
 ghost use Rattle.sm_versions.specs.Sound.{IsArnOf};
 
+use crate::pieces::body_length;
 use sm_model::{
     Arn, Change, Copied, List, Moment, Name, NoMemory, ReadRefused, Rotation, RowList, SecretId,
     SecretRow,
@@ -22,12 +26,12 @@ fn main(rt: HostRuntime) -> ExitCode {
         Err(_) => None,
     };
     match made {
-        Some(count) => {
-            let _ = println!(rt; "{count} secrets");
+        Some((count, things)) => {
+            let _ = println!(rt; "{count} {things}");
             ExitCode::SUCCESS
         }
         None => {
-            let _ = eprintln!(rt; "benchmarks: table <count>");
+            let _ = eprintln!(rt; "benchmarks: table <count> | pieces <count>");
             ExitCode::from(2)
         }
     }
@@ -42,14 +46,32 @@ fn words(rt: &(impl Env + AllocGlobal), alloc: Global) -> io::Result<Vec<String>
     Ok(words)
 }
 
-/// How many secrets were made, or nothing where the words or the memory did not do.
-fn run(alloc: Global, words: &[String]) -> Option<usize> {
+/// How much was made, and of what, or nothing where the words or the memory did not do.
+fn run(alloc: Global, words: &[String]) -> Option<(usize, &'static str)> {
     match words {
-        [work, count] if work.as_str() == "table" => match count.as_str().parse::<u32>() {
-            Ok(count) => fill(alloc, count).ok(),
+        [work, count] => match count.as_str().parse::<u32>() {
+            Ok(count) => done(alloc, work.as_str(), count),
             Err(_) => None,
         },
         _ => None,
+    }
+}
+
+/// How much was made of this work.
+fn done(alloc: Global, work: &str, count: u32) -> Option<(usize, &'static str)> {
+    let (made, things) = match work {
+        "table" => (fill(alloc, count).ok(), "secrets"),
+        "pieces" => (read(alloc, count), "bytes"),
+        _ => (None, ""),
+    };
+    Some((made?, things))
+}
+
+/// How many bytes the body of a message in pieces has.
+fn read(alloc: Global, count: u32) -> Option<usize> {
+    match body_length(alloc, count as usize) {
+        Ok(length) => length,
+        Err(_) => None,
     }
 }
 

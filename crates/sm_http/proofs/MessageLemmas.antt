@@ -80,6 +80,7 @@ module _ (bytes : List ℕ) (end : ℕ) (headers : List HeaderSpan) (spans : Req
       front = ap (λ n. take n bytes) size;
       reads = (subst (ReadsRequest (take end bytes) head) nothing at.reads, few);
     };
+    len = all;
     method = at.method;
     path = at.path;
     minor = at.version;
@@ -121,7 +122,7 @@ module _ (bytes : List ℕ) (end : ℕ) (headers : List HeaderSpan) (spans : Req
       differs (found.1.len ∙ ap (λ h. length (print_request h)) (sym same.0) ∙ sym whole
       ∙ omega (arith, length-take end bytes))
 
-some_is : {n m : ℕ} → Some n ≡ Some m → n ≡ m
+pub some_is : {n m : ℕ} → Some n ≡ Some m → n ≡ m
 some_is e = cc
 
 -- one head begins the bytes at most

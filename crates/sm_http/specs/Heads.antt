@@ -1,5 +1,5 @@
 -- The heads of HTTP requests and their fields: RFC 9112, sections 2.1, 3, 5 and 6.2.
-use Rattle.std.specs.Prelude.{ℕ, ◌+◌, ◌≤◌, Bool, ◌&&◌, nat_eq, nat_le, if◌then◌else◌, List, [], ◌∷◌, length, take, map, Option, Some, None, option_map, codes}
+use Rattle.std.specs.Prelude.{◌≡◌, ℕ, ◌+◌, ◌≤◌, Bool, ◌&&◌, nat_eq, nat_le, if◌then◌else◌, List, [], ◌∷◌, length, take, drop, map, Option, Some, None, option_map, codes}
 use Rattle.std.specs.List.{list_all, starts_with}
 use Rattle.std.specs.Char.{is_ascii_digit}
 use Rattle.std.specs.Str.{str_eq_ignore_ascii_case}
@@ -26,6 +26,10 @@ abbrev pub blank_line : List ℕ → Option ℕ
 blank_line [] = None
 blank_line (b ∷ bytes) = if starts_with nat_eq (b ∷ bytes) line_ends then Some 4
     else option_map (λ n. n + 1) (blank_line bytes)
+
+-- the empty line begins at none of the first k places
+abbrev pub Passed : ℕ → List ℕ → Type 0
+Passed k bytes = blank_line bytes ≡ option_map (λ n. n + k) (blank_line (drop k bytes))
 
 -- how long the head at the front is, if its end is within the limit
 abbrev pub head_length : List ℕ → Option ℕ

@@ -5,7 +5,7 @@ ghost use Rattle.std.specs.List.{list_all, starts_with};
 ghost use Rattle.std.specs.Str.Parse.{digits_value};
 ghost use Rattle.std.specs.Str.{str_eq_ignore_ascii_case};
 ghost use Rattle.httparse.specs.Spans.{header_bytes, IsHeaderWithin};
-ghost use Rattle.sm_http.specs.Heads.{blank_line, line_ends, values_of, is_length};
+ghost use Rattle.sm_http.specs.Heads.{blank_line, Passed, line_ends, values_of, is_length};
 
 use httparse::spans::HeaderSpan;
 
@@ -16,13 +16,14 @@ fn is_blank_line(bytes: &[u8]) -> bool
     bytes.starts_with(b"\r\n\r\n")
 }
 
-/// How many bytes there are up to and including the first CR LF CR LF.
+/// How many bytes there are up to and including the first CR LF CR LF, which begins at none of so many places in front.
 #[tactic(auto, using(crate::proofs::HeadLemmas::blank_line_here, crate::proofs::HeadLemmas::blank_line_further))]
-pub fn blank_line(bytes: &[u8]) -> Option<usize>
+pub fn blank_line(bytes: &[u8], passed: usize) -> Option<usize>
+    requires { Passed passed bytes.now }
     ensures value { result ≡ blank_line bytes.now }
     ensures within { IfSome result (λ n. n ≤ length bytes.now) }
 {
-    for place in 0..bytes.len() {
+    for place in passed..bytes.len() {
         if is_blank_line(&bytes[place..]) {
             return Some(place + 4);
         }

@@ -2,25 +2,20 @@ use Rattle.std.proofs.Common.{◌==◌, ◌||◌, map, length, take, drop, arith
 use Rattle.httparse.specs.Spans.{header_bytes}
 use Rattle.sm_http.specs.Heads.{field_of}
 use Rattle.sm_http.specs.Messages.{message_of, asks_to_close}
-use Rattle.sm_http.proofs.MessageLemmas.{body_too_long, cut_body, whole_message}
+use Rattle.sm_http.proofs.MessageLemmas.{cut_body, whole_message}
 use Rattle.sm_http.proofs.message.front_with_body.Goals as goal
-
-pub returns-then-size-gt-BODY_LIMIT : goal.returns-then-size-gt-BODY_LIMIT
-returns-then-size-gt-BODY_LIMIT c =
-    body_too_long c.args.bytes.now c.args.text.now c.args.spans c.args.headers.now c.requires.head c.args.size
-    c.requires.whole c.requires.sized c.if-size-gt-BODY_LIMIT.true
 
 pub returns-then-bytes-used : goal.returns-then-bytes-used
 returns-then-bytes-used c =
     cut_body c.args.bytes.now c.args.text.now c.args.spans c.args.headers.now c.requires.head c.args.size
-    c.requires.whole c.requires.sized c.if-size-gt-BODY_LIMIT.false c.if-bytes-used.true
+    c.requires.whole c.requires.sized c.requires.fits c.if-bytes-used.true
 
 pub returns : goal.returns
 returns c =
     let h = c.requires.head in (
       message_of h.head (take c.args.size (drop (length c.args.text.now) c.args.bytes.now)),
       whole_message c.args.bytes.now c.args.text.now c.args.spans c.args.headers.now h c.args.size c.requires.whole
-          c.requires.sized c.if-size-gt-BODY_LIMIT.false c.if-bytes-used.false,
+          c.requires.sized c.requires.fits c.if-bytes-used.false,
       record {
         method = c.of.ensures ∙ h.method;
         path = c.of-2.ensures ∙ h.path;
