@@ -1,16 +1,15 @@
 -- What is left out by name.
-use Rattle.std.proofs.Common.{◌≡◌, ◌↔◌, ℤ, List, Option, Some, None, option_and_then, option_map, Result, Ok, Err, refl, ap, sym, ◌∙◌}
+use Rattle.std.proofs.Common.{◌≡◌, ℤ, Option, Some, None, option_and_then, option_map, Err, refl, ap, sym, ◌∙◌}
 use Rattle.serde_json.specs.Data as shapes
 use Rattle.serde_json.specs.Data.{Data}
 use Rattle.serde_json.specs.Find.{as_number, as_i64, as_array, as_object}
-use Rattle.sm_model.specs.declared.request.Rules.{Rules}
 use Rattle.sm_json.specs.declared.fields.Mark.{Mark}
 use Rattle.sm_json.specs.declared.fields.Mark.TheVariants.{Bad, LeftOut}
 use Rattle.sm_json.specs.declared.name.MemberName.{MemberName}
 use Rattle.sm_json.specs.declared.name.MemberName.TheVariants as names
 use Rattle.sm_json.specs.Fields.{Flaw, may, left, no_items, items_left, mark_in, member_of, fault_at, fault_of, first, given_at}
 use Rattle.sm_json.specs.Kinds.{or_bad, integer, object_or_bad, rules_members, rules_in, rules}
-use Rattle.sm_json.specs.KindLaws.{HasDays, IsLeftRules, RulesAreLeft, IsLeftList, ReplicasAreLeft}
+use Rattle.sm_json.specs.KindLaws.{IsLeftRules, RulesAreLeft, IsLeftList, ReplicasAreLeft}
 use Rattle.sm_json.proofs.KindLemmas.{object_of, array_of, left_fits, flaw_of}
 use Rattle.sm_json.proofs.KindLawLemmas.{days_are, days_fit, days_flaw, left_flaw, rules_flaw, two_fit}
 
