@@ -1,2 +1,10 @@
 pub mod NameLemmas
 pub mod BodyLemmas
+pub mod FieldLemmas
+pub mod ItemLemmas
+pub mod TableLaws
+pub mod AlikeLaws
+pub mod TextLaws
+pub mod KindLemmas
+pub mod KindLawLemmas
+pub mod LeftLemmas

@@ -1,8 +1,8 @@
 -- What a function that may want memory returned, beside what is to be returned.
 use Rattle.std.specs.Prelude.{◌≡◌, Result, Ok, Err}
 use Rattle.sm_model.specs.declared.why.Why.{Why}
-use Rattle.sm_json.specs.declared.fault.AskFault.{AskFault}
-use Rattle.sm_json.specs.declared.fault.AskFault.TheVariants.{Refused, Memory}
+use Rattle.sm_json.specs.declared.built.AskFault.{AskFault}
+use Rattle.sm_json.specs.declared.built.AskFault.TheVariants.{Refused, Memory}
 
 -- want of memory, or the refusal that is to be returned
 abbrev pub Fails : {Y : Type 0} → AskFault → Result Y Why → Type 0

@@ -1,3 +1,12 @@
 pub mod Operations
+pub mod Names
+pub mod Fields
+pub mod Kinds
+pub mod Reads
+pub mod Tables
+pub mod Bodies
 pub mod Asks
+pub mod Built
 pub mod Gives
+pub mod Laws
+pub mod KindLaws

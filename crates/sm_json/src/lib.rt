@@ -1,12 +1,22 @@
 //! What a message's body asks for (AWS JSON 1.1): the operation that a target names, and its request from the JSON
-//! object of the body.
+//! object of the body, by one table of members for each operation.
 #![tactic(auto)]
 
-pub mod fault;
-mod members;
+mod body;
+pub mod built;
+pub mod fields;
+pub mod kinds;
+pub mod laws;
+pub mod name;
 pub mod operation;
-mod requests;
+mod passwords;
+mod policies;
+pub mod requests;
+mod rotation;
+mod secrets;
+mod values;
 
-pub use fault::AskFault;
+pub use built::{AskFault, request_if_built};
+pub use name::MemberName;
 pub use operation::Operation;
-pub use requests::{request, request_of};
+pub use requests::{ReadRequest, request, request_of};

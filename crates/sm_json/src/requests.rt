@@ -1,167 +1,147 @@
 //! The request that a message asks for (AWS JSON 1.1).
-ghost use Rattle.std.specs.Prelude.{◌≡◌, ◌||◌, codes, Ok, Err};
+ghost use Rattle.std.specs.Prelude.{◌≡◌, Option};
 ghost use Rattle.serde_json.specs.View.{view};
-ghost use Rattle.sm_json.specs.Gives.{Gives};
-ghost use Rattle.sm_json.specs.Asks.{has_unbuilt, create_secret, get_secret_value, put_secret_value, update_secret_version_stage, create_request, get_request, put_request, update_request, request_from, request_of, asks};
+ghost use Rattle.sm_base.specs.Outcomes.{OrMemory};
+ghost use Rattle.sm_json.specs.Asks.{members_of, request_in, refused_or, asked, asks_of, asks, told};
+ghost use Rattle.sm_json.specs.Fields.{Flaw, first_fault};
+ghost use Rattle.sm_model.specs.declared.request.Request.{Request};
+ghost use Rattle.sm_json.specs.Reads.{Reads, Flawed};
 
-use crate::fault::AskFault;
-use crate::members::{is_there, object_of, required_text, text_member, texts_member};
+use crate::body::{Body, object_of};
+use crate::fields::{Fault, Mark};
 use crate::operation::Operation;
+use crate::{passwords, policies, rotation, secrets, values};
 use serde_json::Value;
-use sm_model::{
-    CreateSecret, GetSecretValue, PutSecretValue, Request, UpdateSecretVersionStage, Why,
-};
+use sm_model::{Request, Text};
 use std::alloc::Global;
 
-/// Whether a member of CreateSecret is there that is not built.
-#[tactic(auto, unfolding(crate::specs::Asks::has_unbuilt))]
-fn has_unbuilt(json: &Value) -> bool
-    ensures { result ≡ has_unbuilt (view json.now) }
-{
-    is_there(json, "AddReplicaRegions")
-        || is_there(json, "Description")
-        || is_there(json, "KmsKeyId")
-        || is_there(json, "SecretBinary")
-        || is_there(json, "Tags")
+/// The request that a message asks for, or its first refusal.
+#[derive(Drop)]
+pub enum ReadRequest {
+    Ok(Request),
+    /// The target names no operation.
+    Unknown,
+    /// The body is no JSON object.
+    NotJson,
+    /// The member is missing, or of another type.
+    BadMember(Text),
+    /// The member is left out by name.
+    Left(Text),
+    /// Memory was wanted and there was none.
+    Memory,
 }
 
-/// The members of CreateSecret.
-#[tactic(auto, unfolding(crate::specs::Asks::create_secret))]
-fn create_secret(alloc: Global, json: &Value) -> Result<CreateSecret, AskFault>
-    ensures { Gives (λ request. request) result (create_secret (view json.now)) }
-{
-    let token = text_member(alloc, json, "ClientRequestToken")?;
-    let name = required_text(alloc, json, "Name")?;
-    let text = text_member(alloc, json, "SecretString")?;
-    Ok(CreateSecret {
-        client_request_token: token,
-        description: None,
-        kms_key_id: None,
-        name,
-        secret_binary: None,
-        secret_string: text,
-        tags: None,
-    })
-}
-
-/// The members of GetSecretValue.
-#[tactic(auto, unfolding(crate::specs::Asks::get_secret_value))]
-fn get_secret_value(alloc: Global, json: &Value) -> Result<GetSecretValue, AskFault>
-    ensures { Gives (λ request. request) result (get_secret_value (view json.now)) }
-{
-    let secret_id = required_text(alloc, json, "SecretId")?;
-    let version_id = text_member(alloc, json, "VersionId")?;
-    let version_stage = text_member(alloc, json, "VersionStage")?;
-    Ok(GetSecretValue {
-        secret_id,
-        version_id,
-        version_stage,
-    })
-}
-
-/// The members of PutSecretValue.
-#[tactic(auto, unfolding(crate::specs::Asks::put_secret_value))]
-fn put_secret_value(alloc: Global, json: &Value) -> Result<PutSecretValue, AskFault>
-    ensures { Gives (λ request. request) result (put_secret_value (view json.now)) }
-{
-    let token = text_member(alloc, json, "ClientRequestToken")?;
-    let secret_id = required_text(alloc, json, "SecretId")?;
-    let text = text_member(alloc, json, "SecretString")?;
-    let labels = texts_member(alloc, json, "VersionStages")?;
-    Ok(PutSecretValue {
-        client_request_token: token,
-        secret_binary: None,
-        secret_id,
-        secret_string: text,
-        version_stages: labels,
-    })
-}
-
-/// The members of UpdateSecretVersionStage.
-#[tactic(auto, unfolding(crate::specs::Asks::update_secret_version_stage))]
-fn update_secret_version_stage(
-    alloc: Global,
-    json: &Value,
-) -> Result<UpdateSecretVersionStage, AskFault>
-    ensures { Gives (λ request. request) result (update_secret_version_stage (view json.now)) }
-{
-    let to = text_member(alloc, json, "MoveToVersionId")?;
-    let from = text_member(alloc, json, "RemoveFromVersionId")?;
-    let secret_id = required_text(alloc, json, "SecretId")?;
-    let version_stage = required_text(alloc, json, "VersionStage")?;
-    Ok(UpdateSecretVersionStage {
-        move_to_version_id: to,
-        remove_from_version_id: from,
-        secret_id,
-        version_stage,
-    })
-}
-
-/// What CreateSecret asks for.
-fn create_request(alloc: Global, json: &Value) -> Result<Request, AskFault>
-    ensures { Gives (λ request. request) result (create_request (view json.now)) }
-{
-    if has_unbuilt(json) {
-        return Err(AskFault::Refused(Why::NotBuilt));
-    }
-    Ok(Request::CreateSecret(create_secret(alloc, json)?))
-}
-
-/// What GetSecretValue asks for.
-fn get_request(alloc: Global, json: &Value) -> Result<Request, AskFault>
-    ensures { Gives (λ request. request) result (get_request (view json.now)) }
-{
-    Ok(Request::GetSecretValue(get_secret_value(alloc, json)?))
-}
-
-/// What PutSecretValue asks for.
-fn put_request(alloc: Global, json: &Value) -> Result<Request, AskFault>
-    ensures { Gives (λ request. request) result (put_request (view json.now)) }
-{
-    if is_there(json, "SecretBinary") {
-        return Err(AskFault::Refused(Why::NotBuilt));
-    }
-    Ok(Request::PutSecretValue(put_secret_value(alloc, json)?))
-}
-
-/// What UpdateSecretVersionStage asks for.
-fn update_request(alloc: Global, json: &Value) -> Result<Request, AskFault>
-    ensures { Gives (λ request. request) result (update_request (view json.now)) }
-{
-    Ok(Request::UpdateSecretVersionStage(update_secret_version_stage(alloc, json)?))
-}
-
-/// What an operation asks for by the object of its body.
-fn request_from(alloc: Global, operation: Operation, json: &Value) -> Result<Request, AskFault>
-    ensures { Gives (λ request. request) result (request_from operation (view json.now)) }
+/// The request of an operation by an object's members.
+fn request_in(alloc: Global, operation: Operation, object: &Value) -> Result<Request, Fault>
+    ensures { Reads result (first_fault (members_of operation) (view object.now))
+        (request_in operation (view object.now)) }
 {
     match operation {
-        Operation::CreateSecret => create_request(alloc, json),
-        Operation::GetSecretValue => get_request(alloc, json),
-        Operation::PutSecretValue => put_request(alloc, json),
-        Operation::UpdateSecretVersionStage => update_request(alloc, json),
-        _ => Err(AskFault::Refused(Why::NotBuilt)),
+        Operation::BatchGetSecretValue => Ok(Request::BatchGetSecretValue(
+            values::batch_get_secret_value_in(alloc, object)?,
+        )),
+        Operation::CancelRotateSecret => Ok(Request::CancelRotateSecret(secrets::of_secret_in(
+            alloc, object,
+        )?)),
+        Operation::CreateSecret => Ok(Request::CreateSecret(values::create_secret_in(
+            alloc, object,
+        )?)),
+        Operation::DeleteResourcePolicy => Ok(Request::DeleteResourcePolicy(secrets::of_secret_in(
+            alloc, object,
+        )?)),
+        Operation::DeleteSecret => Ok(Request::DeleteSecret(secrets::delete_secret_in(
+            alloc, object,
+        )?)),
+        Operation::DescribeSecret => Ok(Request::DescribeSecret(secrets::of_secret_in(
+            alloc, object,
+        )?)),
+        Operation::GetRandomPassword => Ok(Request::GetRandomPassword(
+            passwords::get_random_password_in(alloc, object)?,
+        )),
+        Operation::GetResourcePolicy => Ok(Request::GetResourcePolicy(secrets::of_secret_in(
+            alloc, object,
+        )?)),
+        Operation::GetSecretValue => Ok(Request::GetSecretValue(values::get_secret_value_in(
+            alloc, object,
+        )?)),
+        Operation::ListSecretVersionIds => Ok(Request::ListSecretVersionIds(
+            secrets::list_secret_version_ids_in(alloc, object)?,
+        )),
+        Operation::ListSecrets => Ok(Request::ListSecrets(secrets::list_secrets_in(
+            alloc, object,
+        )?)),
+        Operation::PutResourcePolicy => Ok(Request::PutResourcePolicy(
+            policies::put_resource_policy_in(alloc, object)?,
+        )),
+        Operation::PutSecretValue => Ok(Request::PutSecretValue(values::put_secret_value_in(
+            alloc, object,
+        )?)),
+        Operation::RestoreSecret => Ok(Request::RestoreSecret(secrets::of_secret_in(
+            alloc, object,
+        )?)),
+        Operation::RotateSecret => Ok(Request::RotateSecret(rotation::rotate_secret_in(
+            alloc, object,
+        )?)),
+        Operation::TagResource => Ok(Request::TagResource(secrets::tag_resource_in(
+            alloc, object,
+        )?)),
+        Operation::UntagResource => Ok(Request::UntagResource(secrets::untag_resource_in(
+            alloc, object,
+        )?)),
+        Operation::UpdateSecret => Ok(Request::UpdateSecret(values::update_secret_in(
+            alloc, object,
+        )?)),
+        Operation::UpdateSecretVersionStage => Ok(Request::UpdateSecretVersionStage(
+            values::update_secret_version_stage_in(alloc, object)?,
+        )),
+        Operation::ValidateResourcePolicy => Ok(Request::ValidateResourcePolicy(
+            policies::validate_resource_policy_in(alloc, object)?,
+        )),
+    }
+}
+
+/// The refusal of a member.
+fn refused(fault: Fault) -> ReadRequest
+    ensures { (flaw : Option Flaw) → (request : Request) → Flawed fault flaw
+        → OrMemory (told result) (refused_or flaw request) }
+{
+    match fault {
+        Fault::At(name, Mark::Bad) => ReadRequest::BadMember(Text::fixed(name.spelled())),
+        Fault::At(name, Mark::LeftOut) => ReadRequest::Left(Text::fixed(name.spelled())),
+        Fault::Memory => ReadRequest::Memory,
+    }
+}
+
+/// The request of an operation by an object, or the first of its members that is missing, of another type or left out
+/// by name, in ascending byte order of their names.
+pub fn asked(alloc: Global, operation: Operation, object: &Value) -> ReadRequest
+    ensures { OrMemory (told result) (asked operation (view object.now)) }
+{
+    match request_in(alloc, operation, object) {
+        Ok(request) => ReadRequest::Ok(request),
+        Err(fault) => refused(fault),
     }
 }
 
 /// The request of an operation by a message's body, or the first refusal of its JSON and its members. An empty body is
-/// an object
-/// without members.
-pub fn request_of(alloc: Global, operation: Operation, body: &[u8]) -> Result<Request, AskFault>
-    ensures { Gives (λ request. request) result (request_of operation body.now) }
+/// an object without members.
+pub fn request_of(alloc: Global, operation: Operation, body: &[u8]) -> ReadRequest
+    ensures { OrMemory (told result) (asks_of operation body.now) }
 {
-    let json = object_of(alloc, body)?;
-    request_from(alloc, operation, &json)
+    match object_of(alloc, body) {
+        Body::Object(object) => asked(alloc, operation, &object),
+        Body::NotJson => ReadRequest::NotJson,
+        Body::Memory => ReadRequest::Memory,
+    }
 }
 
-/// The request of a message by its X-Amz-Target and its body, or the first refusal: UnknownOperation where the target
-/// names no
+/// The request of a message by its X-Amz-Target and its body, or the first refusal: Unknown where the target names no
 /// operation, then those of the body.
-pub fn request(alloc: Global, target: &[u8], body: &[u8]) -> Result<Request, AskFault>
-    ensures { Gives (λ request. request) result (asks target.now body.now) }
+pub fn request(alloc: Global, target: &[u8], body: &[u8]) -> ReadRequest
+    ensures { OrMemory (told result) (asks target.now body.now) }
 {
     match Operation::of_target(target) {
         Some(operation) => request_of(alloc, operation, body),
-        None => Err(AskFault::Refused(Why::UnknownOperation)),
+        None => ReadRequest::Unknown,
     }
 }

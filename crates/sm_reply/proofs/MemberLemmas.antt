@@ -9,11 +9,11 @@ use Rattle.sm_reply.specs.Shown.{tag_object, versions_object, first_members, mid
 use Rattle.sm_reply.specs.Members.{items_of, Given, members_of, put_all}
 
 -- both tests pass
-first_holds : (a b : Bool) → a && b ≡ true → a ≡ true
+pub first_holds : (a b : Bool) → a && b ≡ true → a ≡ true
 first_holds true b h = refl
 first_holds false b h = h
 
-second_holds : (a b : Bool) → a && b ≡ true → b ≡ true
+pub second_holds : (a b : Bool) → a && b ≡ true → b ≡ true
 second_holds true b h = h
 second_holds false b h = absurd (let e = h in cc)
 

@@ -5,6 +5,7 @@
 
 mod batches;
 mod bodies;
+pub mod laws;
 mod members;
 mod pages;
 mod parts;

@@ -17,13 +17,13 @@ use Rattle.sm_core.specs.Histories.{no_rows, replay, moment_of}
 use Rattle.sm_http.specs.declared.message.MessageView.{MessageView}
 use Rattle.sm_http.specs.Heads.{field_of}
 use Rattle.sm_http.specs.Messages.{Message}
-use Rattle.sm_json.specs.Asks.{asks}
+use Rattle.sm_json.specs.Built.{asks_built}
 use Rattle.sm_reply.specs.Shown.{Answered, refused, shown}
 
 -- the request of the operation that a target names, where there is one, by a message's body, or the first refusal
 abbrev pub named_request : Option (List ℕ) → List ℕ → Result Request Why
 named_request None body = Err whys.UnknownOperation
-named_request (Some target) body = asks target body
+named_request (Some target) body = asks_built target body
 
 -- what counts of a message: its method, its path, its X-Amz-Target and its body
 pub record Envelope : Type 0 where

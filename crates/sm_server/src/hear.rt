@@ -5,7 +5,7 @@ ghost use Rattle.sm_json.specs.Gives.{Gives};
 ghost use Rattle.sm_server.specs.Answer.{named_request, heard_of, envelope_seen};
 
 use sm_http::MessageView;
-use sm_json::{AskFault, request};
+use sm_json::{AskFault, request_if_built};
 use sm_model::{Request, Why};
 use std::alloc::Global;
 
@@ -32,7 +32,7 @@ fn named_request(alloc: Global, target: Option<&[u8]>, body: &[u8]) -> Result<Re
     ensures { Gives (λ request. request) result (named_request (option_copied target.entry) body.now) }
 {
     match target {
-        Some(target) => request(alloc, target, body),
+        Some(target) => request_if_built(alloc, target, body),
         None => Err(AskFault::Refused(Why::UnknownOperation)),
     }
 }

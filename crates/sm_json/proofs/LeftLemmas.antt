@@ -1,0 +1,135 @@
+-- What is left out by name.
+use Rattle.std.proofs.Common.{◌≡◌, ℤ, Option, Some, None, option_and_then, option_map, Err, refl, ap, sym, ◌∙◌}
+use Rattle.serde_json.specs.Data as shapes
+use Rattle.serde_json.specs.Data.{Data}
+use Rattle.serde_json.specs.Find.{as_number, as_i64, as_array, as_object}
+use Rattle.sm_json.specs.declared.fields.Mark.{Mark}
+use Rattle.sm_json.specs.declared.fields.Mark.TheVariants.{Bad, LeftOut}
+use Rattle.sm_json.specs.declared.name.MemberName.{MemberName}
+use Rattle.sm_json.specs.declared.name.MemberName.TheVariants as names
+use Rattle.sm_json.specs.Fields.{Flaw, may, left, no_items, items_left, mark_in, member_of, fault_at, fault_of, first, given_at}
+use Rattle.sm_json.specs.Kinds.{or_bad, integer, object_or_bad, rules_members, rules_in, rules}
+use Rattle.sm_json.specs.KindLaws.{IsLeftRules, RulesAreLeft, IsLeftList, ReplicasAreLeft}
+use Rattle.sm_json.proofs.KindLemmas.{object_of, array_of, left_fits, flaw_of}
+use Rattle.sm_json.proofs.KindLawLemmas.{days_are, days_fit, days_flaw, left_flaw, rules_flaw, two_fit}
+
+object_left : {A : Type 0} (o : Option shapes.Members) (flaw : Option Flaw) (x : A) → object_or_bad o flaw x ≡ Err LeftOut
+    → ((found : shapes.Members) × (o ≡ Some found)) × ((which : MemberName) × (flaw ≡ Some (which, LeftOut)))
+object_left None flaw x e = absurd (let f = e in cc)
+object_left (Some found) None x e = absurd (let f = e in cc)
+object_left (Some found) (Some (which, Bad)) x e = absurd (let f = e in cc)
+object_left (Some found) (Some (which, LeftOut)) x e = ((found, refl), (which, refl))
+
+-- the mark of a flaw
+abbrev mark_or : Option Flaw → Mark
+mark_or None = Bad
+mark_or (Some flaw) = flaw.1
+
+-- an integer is never left out
+no_integer_left : (o : Option ℤ) (which other : MemberName)
+    → option_map (flaw_of other) (mark_in (or_bad o)) ≡ Some (which, LeftOut) → ⊥
+no_integer_left None which other e = let f : Bad ≡ LeftOut = ap mark_or e in cc
+no_integer_left (Some z) which other e = let f = e in cc
+
+no_days_at : (o : Option Data) (which : MemberName)
+    → fault_at (may names.AutomaticallyAfterDays integer) o ≡ Some (which, LeftOut) → ⊥
+unfolding may integer
+no_days_at None which e = let f = e in cc
+no_days_at (Some value) which e =
+    no_integer_left (option_and_then as_i64 (as_number value)) which names.AutomaticallyAfterDays e
+
+no_days_left : (value : Data) (which : MemberName) → days_flaw value ≡ Some (which, LeftOut) → ⊥
+unfolding fault_of may
+no_days_left value which e = no_days_at (member_of names.AutomaticallyAfterDays value) which e
+
+days_pass : (value : Data) (flaw rest : Option Flaw) (which : MemberName) → days_flaw value ≡ flaw
+    → first flaw rest ≡ Some (which, LeftOut) → (days_flaw value ≡ None) × (rest ≡ Some (which, LeftOut))
+days_pass value None rest which is e = (is, e)
+days_pass value (Some flaw) rest which is e = absurd (no_days_left value which (is ∙ e))
+
+abbrev two_left : Data → Option Flaw
+two_left value = first (left_flaw names.Duration value) (first (left_flaw names.ScheduleExpression value) None)
+
+none_left : (value : Data) → member_of names.Duration value ≡ None → member_of names.ScheduleExpression value ≡ None
+    → two_left value ≡ None
+unfolding fault_of left
+none_left value d s =
+    two_fit (left_flaw names.Duration value) (left_flaw names.ScheduleExpression value)
+    (left_fits names.Duration (member_of names.Duration value) d)
+    (left_fits names.ScheduleExpression (member_of names.ScheduleExpression value) s)
+
+left_is_rules : (value : Data) → rules value ≡ Err LeftOut → IsLeftRules value
+unfolding rules rules_members fault_of may
+left_is_rules value e =
+    let p = object_left (as_object value) (rules_flaw value) (rules_in value) e in
+    let q = days_pass value (days_flaw value) (two_left value) p.1.0 refl p.1.1 in (
+      (p.0.0, object_of value p.0.0 p.0.1),
+      (
+        given_at integer (member_of names.AutomaticallyAfterDays value),
+        days_are value (given_at integer (member_of names.AutomaticallyAfterDays value)) q.0 refl,
+      ),
+      λ both. let f : None ≡ Some (p.1.0, LeftOut) = sym (none_left value both.0 both.1) ∙ q.1 in cc,
+    )
+
+left_as : {A : Type 0} (o : Option shapes.Members) (found : shapes.Members) (flaw : Option Flaw) (x : A)
+    (which : MemberName) → o ≡ Some found → flaw ≡ Some (which, LeftOut) → object_or_bad o flaw x ≡ Err LeftOut
+left_as o found flaw x which is e = ap (λ p. object_or_bad p flaw x) is
+    ∙ ap (λ f. object_or_bad (Some found) f x) e
+
+left_there : (which : MemberName) (o : Option Data) (value : Data) → o ≡ Some value
+    → fault_at (left which) o ≡ Some (which, LeftOut)
+unfolding left
+left_there which o value is = ap (fault_at (left which)) is
+
+is_left_rules : (value : Data) → IsLeftRules value → rules value ≡ Err LeftOut
+unfolding rules rules_members fault_of may left
+is_left_rules value ((found, is), (days, has), some) =
+    at_two (member_of names.Duration value) (member_of names.ScheduleExpression value) refl refl
+  where
+    behind_days : (rest : Option Flaw) → first (days_flaw value) rest ≡ rest
+    behind_days rest = let d = days_fit value days has in ap (λ f. first f rest) d.0
+
+    at_two : (d s : Option Data) → member_of names.Duration value ≡ d → member_of names.ScheduleExpression value ≡ s
+        → object_or_bad (as_object value) (rules_flaw value) (rules_in value) ≡ Err LeftOut
+    at_two (Some d) s p q =
+        left_as (as_object value) found (rules_flaw value) (rules_in value) names.Duration (ap as_object is)
+        (behind_days (two_left value)
+        ∙ ap (λ f. first f (first (left_flaw names.ScheduleExpression value) None))
+        (left_there names.Duration (member_of names.Duration value) d p))
+    at_two None (Some s) p q =
+        left_as (as_object value) found (rules_flaw value) (rules_in value) names.ScheduleExpression (ap as_object is)
+        (behind_days (two_left value)
+        ∙ ap (λ f. first f (first (left_flaw names.ScheduleExpression value) None))
+        (left_fits names.Duration (member_of names.Duration value) p)
+        ∙ ap (λ f. first f None) (left_there names.ScheduleExpression (member_of names.ScheduleExpression value) s q))
+    at_two None None p q = absurd (some (p, q))
+
+pub rules_left : RulesAreLeft
+rules_left value = (left_is_rules value, is_left_rules value)
+
+list_left : (json : Data) → fault_of (no_items names.AddReplicaRegions) json ≡ Some (names.AddReplicaRegions, LeftOut)
+    → IsLeftList json
+unfolding fault_of no_items
+list_left json e = at_member (member_of names.AddReplicaRegions json) refl e
+  where
+    at_items : (value : Data) (items : Option shapes.Items) → member_of names.AddReplicaRegions json ≡ Some value
+        → as_array value ≡ items
+        → option_map (flaw_of names.AddReplicaRegions) (items_left items)
+        ≡ Some (names.AddReplicaRegions, LeftOut) → IsLeftList json
+    at_items value None is there h = absurd (let f : Bad ≡ LeftOut = ap mark_or h in cc)
+    at_items value (Some shapes.no_items) is there h = absurd (let f = h in cc)
+    at_items value (Some (shapes.item one items)) is there h =
+        (one, items, is ∙ ap Some (array_of value (shapes.item one items) there))
+
+    at_member : (o : Option Data) → member_of names.AddReplicaRegions json ≡ o
+        → fault_at (no_items names.AddReplicaRegions) o ≡ Some (names.AddReplicaRegions, LeftOut) → IsLeftList json
+    at_member None is h = absurd (let f = h in cc)
+    at_member (Some value) is h = at_items value (as_array value) is refl h
+
+is_left_list : (json : Data) → IsLeftList json
+    → fault_of (no_items names.AddReplicaRegions) json ≡ Some (names.AddReplicaRegions, LeftOut)
+unfolding fault_of no_items
+is_left_list json (value, items, is) = ap (fault_at (no_items names.AddReplicaRegions)) is
+
+pub replicas_left : ReplicasAreLeft
+replicas_left json = (list_left json, is_left_list json)

@@ -1,0 +1,106 @@
+//! The names of members (AWS Secrets Manager API Reference, the request syntax of each operation).
+ghost use Rattle.std.specs.Prelude.{◌≡◌};
+
+/// The name of a member.
+#[derive(Clone, Copy, Debug, PartialEq, Eq)]
+pub enum MemberName {
+    AddReplicaRegions,
+    AutomaticallyAfterDays,
+    BlockPublicPolicy,
+    ClientRequestToken,
+    Description,
+    Duration,
+    ExcludeCharacters,
+    ExcludeLowercase,
+    ExcludeNumbers,
+    ExcludePunctuation,
+    ExcludeUppercase,
+    Filters,
+    ForceDeleteWithoutRecovery,
+    IncludeDeprecated,
+    IncludePlannedDeletion,
+    IncludeSpace,
+    Key,
+    KmsKeyId,
+    MaxResults,
+    MoveToVersionId,
+    Name,
+    NextToken,
+    PasswordLength,
+    RecoveryWindowInDays,
+    RemoveFromVersionId,
+    RequireEachIncludedType,
+    ResourcePolicy,
+    RotateImmediately,
+    RotationLambdaARN,
+    RotationRules,
+    ScheduleExpression,
+    SecretBinary,
+    SecretId,
+    SecretIdList,
+    SecretString,
+    SortOrder,
+    TagKeys,
+    Tags,
+    Value,
+    Values,
+    VersionId,
+    VersionStage,
+    VersionStages,
+}
+
+impl MemberName {
+    ghost use Rattle.sm_json.specs.Names.{spelled};
+
+    /// The name as it stands in JSON.
+    #[tactic(auto, unfolding(crate::specs::Names::spelled))]
+    pub fn spelled(self) -> &'static str
+        ensures { result.now ≡ spelled self }
+    {
+        match self {
+            MemberName::AddReplicaRegions => "AddReplicaRegions",
+            MemberName::AutomaticallyAfterDays => "AutomaticallyAfterDays",
+            MemberName::BlockPublicPolicy => "BlockPublicPolicy",
+            MemberName::ClientRequestToken => "ClientRequestToken",
+            MemberName::Description => "Description",
+            MemberName::Duration => "Duration",
+            MemberName::ExcludeCharacters => "ExcludeCharacters",
+            MemberName::ExcludeLowercase => "ExcludeLowercase",
+            MemberName::ExcludeNumbers => "ExcludeNumbers",
+            MemberName::ExcludePunctuation => "ExcludePunctuation",
+            MemberName::ExcludeUppercase => "ExcludeUppercase",
+            MemberName::Filters => "Filters",
+            MemberName::ForceDeleteWithoutRecovery => "ForceDeleteWithoutRecovery",
+            MemberName::IncludeDeprecated => "IncludeDeprecated",
+            MemberName::IncludePlannedDeletion => "IncludePlannedDeletion",
+            MemberName::IncludeSpace => "IncludeSpace",
+            MemberName::Key => "Key",
+            MemberName::KmsKeyId => "KmsKeyId",
+            MemberName::MaxResults => "MaxResults",
+            MemberName::MoveToVersionId => "MoveToVersionId",
+            MemberName::Name => "Name",
+            MemberName::NextToken => "NextToken",
+            MemberName::PasswordLength => "PasswordLength",
+            MemberName::RecoveryWindowInDays => "RecoveryWindowInDays",
+            MemberName::RemoveFromVersionId => "RemoveFromVersionId",
+            MemberName::RequireEachIncludedType => "RequireEachIncludedType",
+            MemberName::ResourcePolicy => "ResourcePolicy",
+            MemberName::RotateImmediately => "RotateImmediately",
+            MemberName::RotationLambdaARN => "RotationLambdaARN",
+            MemberName::RotationRules => "RotationRules",
+            MemberName::ScheduleExpression => "ScheduleExpression",
+            MemberName::SecretBinary => "SecretBinary",
+            MemberName::SecretId => "SecretId",
+            MemberName::SecretIdList => "SecretIdList",
+            MemberName::SecretString => "SecretString",
+            MemberName::SortOrder => "SortOrder",
+            MemberName::TagKeys => "TagKeys",
+            MemberName::Tags => "Tags",
+            MemberName::Value => "Value",
+            MemberName::Values => "Values",
+            MemberName::VersionId => "VersionId",
+            MemberName::VersionStage => "VersionStage",
+            MemberName::VersionStages => "VersionStages",
+        }
+    }
+}

@@ -1,0 +1,408 @@
+//! What messages ask for.
+use crate::shown::shown;
+use sm_json::request;
+use sm_model::NoMemory;
+use std::alloc::Global;
+use std::process::Abort;
+use std::test::Fail;
+
+/// The answer to a message of an operation, as a text.
+fn asked(alloc: Global, operation: &str, body: &str) -> Result<String, NoMemory> {
+    let target = format!(in alloc; "secretsmanager.{operation}")?;
+    let read = request(alloc, target.as_bytes(), body.as_bytes());
+    shown(alloc, &read)
+}
+
+/// An operation, a body, and what it asks for.
+static ASKED: [(&'static str, &'static str, &'static str); 94] = [
+    (
+        "BatchGetSecretValue",
+        "{\"Filters\":[{\"Key\":\"name\",\"Values\":[\"a\",\"b\"]}],\"MaxResults\":5,\"NextToken\":\"n\",\"SecretIdList\":[\"s\"]}",
+        "Filters=[Key=name Values=[a,b,] ,] MaxResults=5 NextToken=n SecretIdList=[s,] ",
+    ),
+    ("BatchGetSecretValue", "", ""),
+    (
+        "CancelRotateSecret",
+        "{\"SecretId\":\"s\"}",
+        "CancelRotateSecret SecretId=s ",
+    ),
+    (
+        "CreateSecret",
+        "{\"ClientRequestToken\":\"t\",\"Description\":\"d\",\"KmsKeyId\":\"k\",\"Name\":\"n\",\"SecretBinary\":\"AP8=\",\"SecretString\":\"v\",\"Tags\":[{\"Key\":\"a\",\"Value\":\"b\"},{\"Key\":\"c\"}]}",
+        "ClientRequestToken=t Description=d KmsKeyId=k Name=n SecretBinary=x0x255 SecretString=v Tags=[Key=a Value=b ,Key=c Value= ,] ",
+    ),
+    ("CreateSecret", "{\"Name\":\"\"}", "Name= "),
+    (
+        "DeleteResourcePolicy",
+        "{\"SecretId\":\"s\"}",
+        "DeleteResourcePolicy SecretId=s ",
+    ),
+    (
+        "DeleteSecret",
+        "{\"ForceDeleteWithoutRecovery\":true,\"RecoveryWindowInDays\":7,\"SecretId\":\"s\"}",
+        "ForceDeleteWithoutRecovery=true RecoveryWindowInDays=7 SecretId=s ",
+    ),
+    (
+        "DeleteSecret",
+        "{\"SecretId\":\"s\"}",
+        "ForceDeleteWithoutRecovery=false SecretId=s ",
+    ),
+    (
+        "DescribeSecret",
+        "{\"SecretId\":\"s\"}",
+        "DescribeSecret SecretId=s ",
+    ),
+    (
+        "GetRandomPassword",
+        "{\"ExcludeCharacters\":\"x\",\"ExcludeLowercase\":true,\"ExcludeNumbers\":true,\"ExcludePunctuation\":true,\"ExcludeUppercase\":true,\"IncludeSpace\":true,\"PasswordLength\":8,\"RequireEachIncludedType\":false}",
+        "ExcludeCharacters=x ExcludeLowercase=true ExcludeNumbers=true ExcludePunctuation=true ExcludeUppercase=true IncludeSpace=true PasswordLength=8 RequireEachIncludedType=false ",
+    ),
+    (
+        "GetRandomPassword",
+        "{}",
+        "ExcludeLowercase=false ExcludeNumbers=false ExcludePunctuation=false ExcludeUppercase=false IncludeSpace=false RequireEachIncludedType=true ",
+    ),
+    (
+        "GetResourcePolicy",
+        "{\"SecretId\":\"s\"}",
+        "GetResourcePolicy SecretId=s ",
+    ),
+    (
+        "GetSecretValue",
+        "{\"SecretId\":\"s\",\"VersionId\":\"i\",\"VersionStage\":\"l\"}",
+        "SecretId=s VersionId=i VersionStage=l ",
+    ),
+    (
+        "ListSecretVersionIds",
+        "{\"IncludeDeprecated\":true,\"MaxResults\":-1,\"NextToken\":\"n\",\"SecretId\":\"s\"}",
+        "IncludeDeprecated=true MaxResults=-1 NextToken=n SecretId=s ",
+    ),
+    (
+        "ListSecrets",
+        "{\"Filters\":[],\"IncludePlannedDeletion\":true,\"MaxResults\":0,\"NextToken\":\"n\",\"SortOrder\":\"asc\"}",
+        "Filters=[] IncludePlannedDeletion=true MaxResults=0 NextToken=n SortOrder=asc ",
+    ),
+    (
+        "PutResourcePolicy",
+        "{\"BlockPublicPolicy\":true,\"ResourcePolicy\":\"p\",\"SecretId\":\"s\"}",
+        "BlockPublicPolicy=true ResourcePolicy=p SecretId=s ",
+    ),
+    (
+        "PutSecretValue",
+        "{\"ClientRequestToken\":\"t\",\"SecretBinary\":\"\",\"SecretId\":\"s\",\"SecretString\":\"v\",\"VersionStages\":[]}",
+        "ClientRequestToken=t SecretBinary= SecretId=s SecretString=v VersionStages=[] ",
+    ),
+    (
+        "RestoreSecret",
+        "{\"SecretId\":\"s\"}",
+        "RestoreSecret SecretId=s ",
+    ),
+    (
+        "RotateSecret",
+        "{\"ClientRequestToken\":\"t\",\"RotateImmediately\":false,\"RotationLambdaARN\":\"r\",\"RotationRules\":{\"AutomaticallyAfterDays\":30},\"SecretId\":\"s\"}",
+        "ClientRequestToken=t RotateImmediately=false RotationLambdaARN=r RotationRules=rules Days=30  SecretId=s ",
+    ),
+    (
+        "RotateSecret",
+        "{\"RotationRules\":{\"Duration\":null,\"ScheduleExpression\":null},\"SecretId\":\"s\"}",
+        "RotateImmediately=true RotationRules=rules  SecretId=s ",
+    ),
+    (
+        "TagResource",
+        "{\"SecretId\":\"s\",\"Tags\":[{\"Key\":\"a\",\"Value\":null,\"More\":1}]}",
+        "SecretId=s Tags=[Key=a Value= ,] ",
+    ),
+    (
+        "UntagResource",
+        "{\"SecretId\":\"s\",\"TagKeys\":[\"a\"]}",
+        "SecretId=s TagKeys=[a,] ",
+    ),
+    (
+        "UpdateSecret",
+        "{\"ClientRequestToken\":\"t\",\"Description\":\"d\",\"KmsKeyId\":\"k\",\"SecretBinary\":\"AA==\",\"SecretId\":\"s\",\"SecretString\":\"v\"}",
+        "ClientRequestToken=t Description=d KmsKeyId=k SecretBinary=x0 SecretId=s SecretString=v ",
+    ),
+    (
+        "UpdateSecretVersionStage",
+        "{\"MoveToVersionId\":\"m\",\"RemoveFromVersionId\":\"r\",\"SecretId\":\"s\",\"VersionStage\":\"l\"}",
+        "MoveToVersionId=m RemoveFromVersionId=r SecretId=s VersionStage=l ",
+    ),
+    (
+        "ValidateResourcePolicy",
+        "{\"ResourcePolicy\":\"p\",\"SecretId\":\"s\"}",
+        "ResourcePolicy=p SecretId=s ",
+    ),
+    ("getSecretValue", "{}", "unknown"),
+    ("", "[", "unknown"),
+    ("DescribeSecret", "[]", "no json"),
+    ("DescribeSecret", "\"{}\"", "no json"),
+    ("DescribeSecret", " ", "no json"),
+    ("DescribeSecret", "{", "no json"),
+    ("DescribeSecret", "{\"SecretId\":\"s\"}x", "no json"),
+    ("DescribeSecret", "\u{FEFF}{\"SecretId\":\"s\"}", "no json"),
+    (
+        "DescribeSecret",
+        "{\"SecretId\":\"s\",\"More\":1e999}",
+        "no json",
+    ),
+    ("DescribeSecret", "", "bad=SecretId "),
+    (
+        "DescribeSecret",
+        " {\"SecretId\":\"s\"} ",
+        "DescribeSecret SecretId=s ",
+    ),
+    ("DescribeSecret", "{\"SecretId\":null}", "bad=SecretId "),
+    (
+        "DescribeSecret",
+        "{\"SecretId\":5,\"SecretId\":\"s\"}",
+        "DescribeSecret SecretId=s ",
+    ),
+    (
+        "DescribeSecret",
+        "{\"SecretId\":\"s\",\"SecretId\":null}",
+        "bad=SecretId ",
+    ),
+    (
+        "DescribeSecret",
+        "{\"secretId\":1,\"AddReplicaRegions\":[1],\"SecretId\":\"s\",\"\":[]}",
+        "DescribeSecret SecretId=s ",
+    ),
+    (
+        "GetSecretValue",
+        "{\"VersionStage\":\"l\",\"VersionId\":\"i\",\"SecretId\":\"s\"}",
+        "SecretId=s VersionId=i VersionStage=l ",
+    ),
+    (
+        "CreateSecret",
+        "{\"Tags\":1,\"SecretString\":2,\"Description\":3}",
+        "bad=Description ",
+    ),
+    (
+        "CreateSecret",
+        "{\"Tags\":1,\"AddReplicaRegions\":[null],\"ClientRequestToken\":2}",
+        "left=AddReplicaRegions ",
+    ),
+    (
+        "CreateSecret",
+        "{\"AddReplicaRegions\":{}}",
+        "bad=AddReplicaRegions ",
+    ),
+    (
+        "CreateSecret",
+        "{\"AddReplicaRegions\":[],\"SecretString\":2}",
+        "bad=Name ",
+    ),
+    (
+        "CreateSecret",
+        "{\"AddReplicaRegions\":null,\"Name\":\"n\"}",
+        "Name=n ",
+    ),
+    (
+        "RotateSecret",
+        "{\"RotationRules\":{\"AutomaticallyAfterDays\":\"1\",\"Duration\":\"3h\"}}",
+        "bad=RotationRules ",
+    ),
+    (
+        "RotateSecret",
+        "{\"RotationRules\":{\"AutomaticallyAfterDays\":1,\"Duration\":\"3h\"}}",
+        "left=RotationRules ",
+    ),
+    (
+        "RotateSecret",
+        "{\"RotateImmediately\":1,\"RotationRules\":{\"ScheduleExpression\":0}}",
+        "bad=RotateImmediately ",
+    ),
+    (
+        "RotateSecret",
+        "{\"RotationRules\":{\"ScheduleExpression\":0},\"RotationLambdaARN\":[]}",
+        "bad=RotationLambdaARN ",
+    ),
+    (
+        "RotateSecret",
+        "{\"RotationRules\":[]}",
+        "bad=RotationRules ",
+    ),
+    (
+        "ListSecrets",
+        "{\"MaxResults\":9223372036854775807}",
+        "IncludePlannedDeletion=false MaxResults=9223372036854775807 ",
+    ),
+    (
+        "ListSecrets",
+        "{\"MaxResults\":-9223372036854775808}",
+        "IncludePlannedDeletion=false MaxResults=-9223372036854775808 ",
+    ),
+    (
+        "ListSecrets",
+        "{\"MaxResults\":9223372036854775808}",
+        "bad=MaxResults ",
+    ),
+    (
+        "ListSecrets",
+        "{\"MaxResults\":-9223372036854775809}",
+        "bad=MaxResults ",
+    ),
+    (
+        "ListSecrets",
+        "{\"MaxResults\":18446744073709551616}",
+        "bad=MaxResults ",
+    ),
+    ("ListSecrets", "{\"MaxResults\":1.0}", "bad=MaxResults "),
+    ("ListSecrets", "{\"MaxResults\":1e2}", "bad=MaxResults "),
+    ("ListSecrets", "{\"MaxResults\":-0}", "bad=MaxResults "),
+    ("ListSecrets", "{\"MaxResults\":\"1\"}", "bad=MaxResults "),
+    ("ListSecrets", "{\"MaxResults\":true}", "bad=MaxResults "),
+    ("ListSecrets", "{\"MaxResults\":[]}", "bad=MaxResults "),
+    (
+        "ListSecrets",
+        "{\"IncludePlannedDeletion\":0}",
+        "bad=IncludePlannedDeletion ",
+    ),
+    (
+        "ListSecrets",
+        "{\"IncludePlannedDeletion\":\"true\"}",
+        "bad=IncludePlannedDeletion ",
+    ),
+    (
+        "ListSecrets",
+        "{\"IncludePlannedDeletion\":{}}",
+        "bad=IncludePlannedDeletion ",
+    ),
+    ("DescribeSecret", "{\"SecretId\":1}", "bad=SecretId "),
+    ("DescribeSecret", "{\"SecretId\":[\"s\"]}", "bad=SecretId "),
+    (
+        "DescribeSecret",
+        "{\"SecretId\":{\"s\":1}}",
+        "bad=SecretId ",
+    ),
+    ("DescribeSecret", "{\"SecretId\":false}", "bad=SecretId "),
+    (
+        "CreateSecret",
+        "{\"Name\":\"n\",\"SecretBinary\":\"AP8\"}",
+        "bad=SecretBinary ",
+    ),
+    (
+        "CreateSecret",
+        "{\"Name\":\"n\",\"SecretBinary\":\"AP9=\"}",
+        "bad=SecretBinary ",
+    ),
+    (
+        "CreateSecret",
+        "{\"Name\":\"n\",\"SecretBinary\":\"AP8==\"}",
+        "bad=SecretBinary ",
+    ),
+    (
+        "CreateSecret",
+        "{\"Name\":\"n\",\"SecretBinary\":\"AP8= \"}",
+        "bad=SecretBinary ",
+    ),
+    (
+        "CreateSecret",
+        "{\"Name\":\"n\",\"SecretBinary\":\"A P8=\"}",
+        "bad=SecretBinary ",
+    ),
+    (
+        "CreateSecret",
+        "{\"Name\":\"n\",\"SecretBinary\":\"==\"}",
+        "bad=SecretBinary ",
+    ),
+    (
+        "CreateSecret",
+        "{\"Name\":\"n\",\"SecretBinary\":\"_-8=\"}",
+        "bad=SecretBinary ",
+    ),
+    (
+        "CreateSecret",
+        "{\"Name\":\"n\",\"SecretBinary\":5}",
+        "bad=SecretBinary ",
+    ),
+    (
+        "PutSecretValue",
+        "{\"SecretId\":\"s\",\"VersionStages\":\"l\"}",
+        "bad=VersionStages ",
+    ),
+    (
+        "PutSecretValue",
+        "{\"SecretId\":\"s\",\"VersionStages\":[\"l\",null]}",
+        "bad=VersionStages ",
+    ),
+    (
+        "PutSecretValue",
+        "{\"SecretId\":\"s\",\"VersionStages\":[\"l\",1]}",
+        "bad=VersionStages ",
+    ),
+    (
+        "PutSecretValue",
+        "{\"SecretId\":\"s\",\"VersionStages\":{}}",
+        "bad=VersionStages ",
+    ),
+    (
+        "TagResource",
+        "{\"SecretId\":\"s\",\"Tags\":[{}]}",
+        "bad=Tags ",
+    ),
+    (
+        "TagResource",
+        "{\"SecretId\":\"s\",\"Tags\":[{\"Key\":null}]}",
+        "bad=Tags ",
+    ),
+    (
+        "TagResource",
+        "{\"SecretId\":\"s\",\"Tags\":[{\"Key\":1}]}",
+        "bad=Tags ",
+    ),
+    (
+        "TagResource",
+        "{\"SecretId\":\"s\",\"Tags\":[{\"Key\":\"a\",\"Value\":1}]}",
+        "bad=Tags ",
+    ),
+    (
+        "TagResource",
+        "{\"SecretId\":\"s\",\"Tags\":[null]}",
+        "bad=Tags ",
+    ),
+    (
+        "TagResource",
+        "{\"SecretId\":\"s\",\"Tags\":[\"a\"]}",
+        "bad=Tags ",
+    ),
+    (
+        "TagResource",
+        "{\"SecretId\":\"s\",\"Tags\":{}}",
+        "bad=Tags ",
+    ),
+    (
+        "ListSecrets",
+        "{\"Filters\":[{\"Key\":\"name\"}]}",
+        "bad=Filters ",
+    ),
+    (
+        "ListSecrets",
+        "{\"Filters\":[{\"Values\":[]}]}",
+        "bad=Filters ",
+    ),
+    (
+        "ListSecrets",
+        "{\"Filters\":[{\"Key\":\"name\",\"Values\":[null]}]}",
+        "bad=Filters ",
+    ),
+    (
+        "ListSecrets",
+        "{\"Filters\":[{\"Key\":\"name\",\"Values\":\"a\"}]}",
+        "bad=Filters ",
+    ),
+    ("ListSecrets", "{\"Filters\":[[]]}", "bad=Filters "),
+    ("UntagResource", "{\"SecretId\":\"s\"}", "bad=TagKeys "),
+];
+
+#[test]
+fn messages_ask(rt: HostRuntime) -> Result<(), Fail> {
+    for (operation, body, wanted) in ASKED.iter() {
+        let answer = asked(rt.alloc(), operation, body)?;
+        assert_eq!(rt;
+            (*operation, *body, answer.as_str()),
+            (*operation, *body, *wanted)
+        );
+    }
+    Ok(())
+}
