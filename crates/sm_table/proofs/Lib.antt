@@ -5,3 +5,6 @@ pub mod NameLaws
 pub mod FoundLaws
 pub mod PropLemmas
 pub mod SoundLaws
+pub mod IndexLemmas
+pub mod IndexedLemmas
+pub mod TableLaws

@@ -3,21 +3,14 @@ ghost use Rattle.std.specs.Prelude.{◌≡◌, ◌&&◌, not, nat_eq, length, If
 ghost use Rattle.std.specs.List.{find};
 ghost use Rattle.sm_versions.specs.Texts.{same_text};
 ghost use Rattle.sm_table.specs.Sweep.{is_gone, swept};
-ghost use Rattle.sm_table.specs.Found.{row_named, row_with_arn, row_with_short_arn, row_by_arn, short_arn};
+ghost use Rattle.sm_table.specs.Found.{row_with_arn, row_with_short_arn, row_by_arn, short_arn};
 ghost use Rattle.sm_table.specs.Changes.{row_with};
 
 use crate::edits::{has_serial, is_gone};
-use sm_model::{Arn, Moment, Name, SecretRow};
+use sm_model::{Arn, Moment, SecretRow};
 
 /// How many characters of an ARN are drawn when the secret is made, with the hyphen before them.
 const SUFFIX: usize = 7;
-
-/// Whether the row has the name.
-fn has_name(row: &SecretRow, name: &Name) -> bool
-    ensures { result ≡ same_text row.now.name name.now }
-{
-    row.name.equals(name)
-}
 
 /// Whether the row has the ARN.
 fn has_arn(row: &SecretRow, arn: &Arn) -> bool
@@ -33,14 +26,6 @@ fn has_short_arn(row: &SecretRow, arn: &Arn) -> bool
 {
     let whole = row.arn.as_text().as_bytes();
     &whole[..whole.len().saturating_sub(SUFFIX)] == arn.as_text().as_bytes()
-}
-
-/// The first row that is there at the moment and has the name.
-fn first_named<'a>(rows: &'a [SecretRow], moment: Moment, name: &Name) -> Option<&'a SecretRow>
-    ensures { option_copied result ≡ find (λ r. not (is_gone r moment) && same_text r.name name.now) rows.now }
-{
-    rows.iter()
-        .find(|row| !is_gone(row, moment) && has_name(row, name))
 }
 
 /// The first row that is there at the moment and has the ARN.
@@ -62,14 +47,6 @@ fn first_with_short_arn<'a>(
 {
     rows.iter()
         .find(|row| !is_gone(row, moment) && has_short_arn(row, arn))
-}
-
-/// The row with the name at the moment.
-#[tactic(auto, using(crate::proofs::FoundLemmas::row_named_is_find))]
-pub fn row_named<'a>(rows: &'a [SecretRow], moment: Moment, name: &Name) -> Option<&'a SecretRow>
-    ensures { option_copied result ≡ row_named (swept rows.now moment) name.now }
-{
-    first_named(rows, moment, name)
 }
 
 /// How many rows are there at the moment.
