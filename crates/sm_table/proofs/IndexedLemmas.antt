@@ -3,6 +3,7 @@ use Rattle.std.proofs.Common.{◌≡◌, ◌≢◌, ◌⊎◌, inl, inr, ℕ, ze
 use Rattle.std.proofs.lemmas.Grind.{common_steps}
 use Rattle.std.proofs.lemmas.Bool.{and_parts, false≢true}
 use Rattle.std.proofs.lemmas.Bool.Decides.{nat_tests}
+use Rattle.std.specs.List.{find}
 use Rattle.sm_base.specs.declared.moment.Moment.{Moment}
 use Rattle.sm_model.specs.declared.rows.SecretRow.{SecretRow}
 use Rattle.sm_versions.specs.Texts.{same_text, is_among, once}
@@ -13,7 +14,6 @@ use Rattle.sm_table.specs.Found.{row_named}
 use Rattle.sm_table.specs.Changes.{replaced}
 use Rattle.sm_table.specs.Kept.{row_names}
 use Rattle.sm_table.specs.Indexed.{grown, all_stay, earlier}
-use Rattle.sm_table.proofs.NameLaws.{swept_lacks}
 
 -- ---- room
 
@@ -145,48 +145,78 @@ absent_lacks (x ∷ ts) t absent =
     by (inl p) rest = absurd (absent zero (omega arith) p.1)
     by (inr p) rest = rw p.0 rest
 
+lacks_all : (ts : List (List ℕ)) (t : List ℕ) → not (is_among ts t) ≡ true → is_among ts t ≡ false
+lacks_all ts t h = by (is_among ts t) h
+  where
+    by : (b : Bool) → not b ≡ true → b ≡ false
+    by true q = absurd (false≢true q)
+    by false q = refl
+
 -- a name that stands at no place names no row
-pub absent_named : (rows : List SecretRow) (name : List ℕ) (moment : Moment)
-    → ((k : ℕ) → k < length (row_names rows) → get_or (row_names rows) k [] ≢ name)
-    → row_named (swept rows moment) name ≡ None
-absent_named rows name moment absent =
-    lacks_named (swept rows moment) name (swept_lacks rows moment name (absent_lacks (row_names rows) name absent))
+pub absent_named : (rows : List SecretRow) (name : List ℕ)
+    → ((k : ℕ) → k < length (row_names rows) → get_or (row_names rows) k [] ≢ name) → row_named rows name ≡ None
+absent_named rows name absent = lacks_named rows name (absent_lacks (row_names rows) name absent)
 
 -- the row that has the name, where no name stands twice
-pub there_named : (rows : List SecretRow) (i : ℕ) (row : SecretRow) (name : List ℕ) (moment : Moment)
-    → once (row_names rows) ≡ true → i < length (row_names rows) → row ≡ get_or rows i row
-    → get_or (row_names rows) i [] ≡ name
-    → row_named (swept rows moment) name ≡ cond (is_gone row moment) None (Some row)
-there_named [] i row name moment h lt e named = absurd (omega arith)
-there_named (r ∷ rs) zero row name moment h lt e named =
+pub there_named : (rows : List SecretRow) (i : ℕ) (row : SecretRow) (name : List ℕ) → once (row_names rows) ≡ true
+    → i < length (row_names rows) → row ≡ get_or rows i row → get_or (row_names rows) i [] ≡ name
+    → row_named rows name ≡ Some row
+there_named [] i row name h lt e named = absurd (omega arith)
+there_named (r ∷ rs) zero row name h lt e named = rw (e, ← named) (rw (same_text_itself r.name) refl)
+there_named (r ∷ rs) (suc i) row name h lt e named =
     let parts = and_parts (not (is_among (row_names rs) r.name)) (once (row_names rs)) h in
-    rw e (by (is_gone r moment) (not_true (is_among (row_names rs) r.name) parts.0))
+    differs (same_text_tells r.name name) (lacks_all (row_names rs) r.name parts.0)
+    (there_named rs i row name parts.1 (omega arith) e named)
   where
-    not_true : (b : Bool) → not b ≡ true → b ≡ false
-    not_true true q = absurd (false≢true q)
-    not_true false q = refl
-
-    by : (b : Bool) → is_among (row_names rs) r.name ≡ false
-        → row_named (cond b (swept rs moment) (r ∷ swept rs moment)) name ≡ cond b None (Some r)
-    by true lacks = rw (← named) (lacks_named (swept rs moment) r.name (swept_lacks rs moment r.name lacks))
-    by false lacks = rw (← named) (rw (same_text_itself r.name) refl)
-there_named (r ∷ rs) (suc i) row name moment h lt e named =
-    let parts = and_parts (not (is_among (row_names rs) r.name)) (once (row_names rs)) h in
-    let apart : same_text r.name name ≡ false = differs (same_text_tells r.name name)
-    (not_true (is_among (row_names rs) r.name) parts.0) in
-    by (is_gone r moment) apart (there_named rs i row name moment parts.1 (omega arith) e named)
-  where
-    not_true : (b : Bool) → not b ≡ true → b ≡ false
-    not_true true q = absurd (false≢true q)
-    not_true false q = refl
-
     differs : ((same_text r.name name ≡ true) × (r.name ≡ name)) ⊎ ((same_text r.name name ≡ false) × (r.name ≢ name))
-        → is_among (row_names rs) r.name ≡ false → same_text r.name name ≡ false
-    differs (inl p) lacks = absurd (lacks_at (row_names rs) i r.name (omega arith) lacks (named ∙ sym p.1))
-    differs (inr p) lacks = p.0
+        → is_among (row_names rs) r.name ≡ false → row_named rs name ≡ Some row
+        → row_named (r ∷ rs) name ≡ Some row
+    differs (inl p) lacks rest = absurd (lacks_at (row_names rs) i r.name (omega arith) lacks (named ∙ sym p.1))
+    differs (inr p) lacks rest = rw p.0 rest
 
-    by : (b : Bool) → same_text r.name name ≡ false
-        → row_named (swept rs moment) name ≡ cond (is_gone row moment) None (Some row)
-        → row_named (cond b (swept rs moment) (r ∷ swept rs moment)) name ≡ cond (is_gone row moment) None (Some row)
-    by true apart rest = rest
-    by false apart rest = rw apart rest
+-- ---- a test that only rows of one name pass
+
+-- each row that passes the test has the name
+abbrev pub EachPasses : (SecretRow → Bool) → List ℕ → List SecretRow → Type 0
+EachPasses test name [] = Unit {0}
+EachPasses test name (r ∷ rs) = (test r ≡ true → r.name ≡ name) × EachPasses test name rs
+
+-- the row, if it passes the test
+abbrev pub passing : (SecretRow → Bool) → Option SecretRow → Option SecretRow
+passing test None = None
+passing test (Some row) = cond (test row) (Some row) None
+
+find_none : (test : SecretRow → Bool) (name : List ℕ) (rows : List SecretRow) → EachPasses test name rows
+    → is_among (row_names rows) name ≡ false → find test rows ≡ None
+find_none test name [] each lacks = refl
+find_none test name (r ∷ rs) each lacks =
+    by (test r) refl (same_text_tells r.name name) lacks (find_none test name rs each.1)
+  where
+    by : (b : Bool) → b ≡ test r
+        → ((same_text r.name name ≡ true) × (r.name ≡ name)) ⊎ ((same_text r.name name ≡ false) × (r.name ≢ name))
+        → (same_text r.name name || is_among (row_names rs) name) ≡ false
+        → (is_among (row_names rs) name ≡ false → find test rs ≡ None) → cond b (Some r) (find test rs) ≡ None
+    by true t (inl p) lacks rest = absurd (false≢true (sym (rw p.0 at lacks)))
+    by true t (inr p) lacks rest = absurd (p.1 (each.0 (sym t)))
+    by false t (inl p) lacks rest = absurd (false≢true (sym (rw p.0 at lacks)))
+    by false t (inr p) lacks rest = rest (rw p.0 at lacks)
+
+-- so the first row that passes is the one of that name, if it passes
+pub find_named : (test : SecretRow → Bool) (name : List ℕ) (rows : List SecretRow) → once (row_names rows) ≡ true
+    → EachPasses test name rows → find test rows ≡ passing test (row_named rows name)
+find_named test name [] h each = refl
+find_named test name (r ∷ rs) h each =
+    let parts = and_parts (not (is_among (row_names rs) r.name)) (once (row_names rs)) h in
+    by (test r) refl (same_text_tells r.name name) (lacks_all (row_names rs) r.name parts.0)
+    (find_named test name rs parts.1 each.1)
+  where
+    by : (b : Bool) → b ≡ test r
+        → ((same_text r.name name ≡ true) × (r.name ≡ name)) ⊎ ((same_text r.name name ≡ false) × (r.name ≢ name))
+        → is_among (row_names rs) r.name ≡ false → find test rs ≡ passing test (row_named rs name)
+        → cond b (Some r) (find test rs) ≡ passing test (cond (same_text r.name name) (Some r) (row_named rs name))
+    by true t (inl p) lacks rest = rw p.0 (rw (← t) refl)
+    by true t (inr p) lacks rest = absurd (p.1 (each.0 (sym t)))
+    by false t (inl p) lacks rest =
+        let gone : is_among (row_names rs) name ≡ false = ap (λ n. is_among (row_names rs) n) (sym p.1) ∙ lacks in
+        rw p.0 (rw (← t) (find_none test name rs each.1 gone))
+    by false t (inr p) lacks rest = rw p.0 rest

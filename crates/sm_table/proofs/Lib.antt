@@ -8,3 +8,4 @@ pub mod SoundLaws
 pub mod IndexLemmas
 pub mod IndexedLemmas
 pub mod TableLaws
+pub mod LookUpLaws

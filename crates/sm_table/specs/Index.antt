@@ -1,5 +1,5 @@
 -- The index of the names: chains of places, so that a name is looked for in its own chain alone.
-use Rattle.std.specs.Prelude.{◌≡◌, ℕ, zero, suc, ◌+◌, ◌*◌, ◌/◌, ◌%◌, ◌^◌, ◌<◌, nat_eq, List, [], length, fold, slice_index, slice_index_or, if◌then◌else◌}
+use Rattle.std.specs.Prelude.{◌≡◌, ℕ, zero, suc, ◌+◌, ◌*◌, ◌/◌, ◌%◌, ◌^◌, ◌<◌, nat_eq, List, [], length, drop, fold, slice_index, slice_index_or, if◌then◌else◌}
 
 -- a number that each byte of a name changes
 unfoldable pub mixed : ℕ → ℕ → ℕ
@@ -23,3 +23,7 @@ pub record IsIndex (heads links : List ℕ) (names : List (List ℕ)) : Type 0 w
       → slice_index heads chain ≡ newest (length heads) chain names (length names)
   pub links_lead : (k : ℕ) → k < length names
       → slice_index links k ≡ newest (length heads) (chain_of (length heads) (slice_index_or names k [])) names k
+
+-- what stands in the place of the name in an ARN without its last seven characters
+unfoldable pub name_in : List ℕ → List ℕ
+name_in arn = drop 53 arn

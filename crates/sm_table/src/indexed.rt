@@ -10,7 +10,7 @@ ghost use Rattle.sm_table.specs.Changes.{replaced, dropped};
 ghost use Rattle.sm_table.specs.Kept.{row_names};
 ghost use Rattle.sm_table.specs.Indexed.{all_stay, earlier, grown, HasRoom, IsIndexed, IsRoom, IsRoomFor};
 
-use crate::edits::{self, is_gone, is_reached};
+use crate::edits::{self, is_reached};
 use crate::index::Index;
 use crate::search;
 use sm_model::{Change, Moment, NoMemory, SecretRow};
@@ -48,21 +48,14 @@ impl Indexed {
         }
     }
 
-    /// The row with the name, of those that are there at the moment.
-    pub fn named(&self, name: &[u8], moment: Moment) -> Option<&SecretRow>
+    /// The row with the name, whether it is gone or not.
+    pub fn named(&self, name: &[u8]) -> Option<&SecretRow>
         requires kept { IsIndexed self.now }
         requires names { IsTrue (once (row_names self.now.rows.items)) }
-        ensures { option_copied result ≡ row_named (swept self.now.rows.items moment) name.now }
+        ensures { option_copied result ≡ row_named self.now.rows.items name.now }
     {
         match self.index.place(self.rows.as_slice(), name) {
-            Some(i) => {
-                let row = &self.rows[i];
-                if is_gone(row, moment) {
-                    None
-                } else {
-                    Some(row)
-                }
-            }
+            Some(i) => Some(&self.rows[i]),
             None => None,
         }
     }

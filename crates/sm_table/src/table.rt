@@ -111,7 +111,7 @@ impl Table {
     fn find_with_arn(&self, arn: &Arn, moment: Moment) -> Option<&SecretRow>
         ensures { option_copied result ≡ found_arn self.now moment arn.now }
     {
-        search::row_with_arn(self.secrets.rows.as_slice(), moment, arn)
+        search::row_with_arn(&self.secrets, moment, arn)
     }
 
     /// The same as `find`.
@@ -119,8 +119,8 @@ impl Table {
         ensures { option_copied result ≡ found self.now moment id.now }
     {
         match id {
-            SecretId::Name(name) => self.secrets.named(name.as_text().as_bytes(), moment),
-            SecretId::Arn(arn) => search::row_by_arn(self.secrets.rows.as_slice(), moment, arn),
+            SecretId::Name(name) => search::row_named(&self.secrets, moment, name),
+            SecretId::Arn(arn) => search::row_by_arn(&self.secrets, moment, arn),
         }
     }
 
@@ -128,7 +128,7 @@ impl Table {
     pub fn find_name(&self, name: &Name, moment: Moment) -> Option<&SecretRow>
         ensures { option_copied result ≡ row_named (swept self.now.secrets moment) name.now }
     {
-        self.secrets.named(name.as_text().as_bytes(), moment)
+        search::row_named(&self.secrets, moment, name)
     }
 
     /// How many rows are still there at the moment. It takes no memory.
