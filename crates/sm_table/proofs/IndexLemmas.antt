@@ -41,13 +41,15 @@ heads_push heads names name at j chain is e lt old = by (eqb chain j) refl
         let push = newest_push (length heads) j names name in
         let test : eqb (chain_of (length heads) name) j ≡ true = ap (λ c. eqb c j) (sym is) ∙ sym t in
         let there : get_or (set heads chain at) j 0 ≡ at = ap (λ q. get_or (set heads chain at) q 0) (sym same) ∙ new in
-        there ∙ e ∙ sym (push ∙ ap (λ b. cond b (suc (length names)) (newest (length heads) j names (length names))) test)
+        there ∙ e
+        ∙ sym (push ∙ ap (λ b. cond b (suc (length names)) (newest (length heads) j names (length names))) test)
     by false t =
         let push = newest_push (length heads) j names name in
         let test : eqb (chain_of (length heads) name) j ≡ false = ap (λ c. eqb c j) (sym is) ∙ sym t in
         let apart : j ≢ chain = λ q. false≢true (t ∙ eq-eqb chain j (sym q)) in
         let there : get_or (set heads chain at) j 0 ≡ get_or heads j 0 = get_or-set_other heads chain j at 0 apart in
-        there ∙ old ∙ sym (push ∙ ap (λ b. cond b (suc (length names)) (newest (length heads) j names (length names))) test)
+        there ∙ old
+        ∙ sym (push ∙ ap (λ b. cond b (suc (length names)) (newest (length heads) j names (length names))) test)
 
 links_push : (count link : ℕ) (links : List ℕ) (names : List (List ℕ)) (name : List ℕ) (k : ℕ)
     → length links ≡ length names
@@ -69,14 +71,16 @@ links_push count link links names name k each is old lt = by (eqb k (length name
         ap (λ q. get_or (links ++ link ∷ []) q 0) same ∙ get_or-append_seam links link [] 0 in
         let here : get_or (names ++ name ∷ []) k [] ≡ name =
         ap (λ q. get_or (names ++ name ∷ []) q []) at ∙ get_or-append_seam names name [] [] in
-        let older : newest count (chain_of count name) (names ++ name ∷ []) k ≡ newest count (chain_of count name) names k
+        let chain : ℕ = chain_of count name in
+        let older : newest count chain (names ++ name ∷ []) k ≡ newest count chain names k
         = newest_same count (chain_of count name) names (name ∷ []) k (omega arith) in
         left ∙ is ∙ ap (λ q. newest count (chain_of count name) names q) (sym at) ∙ sym older
         ∙ ap (λ q. newest count (chain_of count q) (names ++ name ∷ []) k) (sym here)
     by false t =
         let apart : k ≢ length names = λ q. false≢true (t ∙ eq-eqb k (length names) q) in
         let within : k < length names = omega arith in
-        let left : get_or (links ++ link ∷ []) k 0 ≡ get_or links k 0 = get_or-append links (link ∷ []) 0 k (omega arith) in
+        let left : get_or (links ++ link ∷ []) k 0 ≡ get_or links k 0 =
+        get_or-append links (link ∷ []) 0 k (omega arith) in
         let here : get_or (names ++ name ∷ []) k [] ≡ get_or names k [] = get_or-append names (name ∷ []) [] k within in
         let older : newest count (chain_of count (get_or names k [])) (names ++ name ∷ []) k ≡ newest count
         (chain_of count (get_or names k [])) names k

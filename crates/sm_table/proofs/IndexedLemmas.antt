@@ -82,7 +82,8 @@ stay_replaced : (rows : List SecretRow) (row : SecretRow) (moment : Moment) → 
     → is_gone row moment ≡ false → all_stay (replaced rows row) moment ≡ true
 stay_replaced [] row moment h g = h
 stay_replaced (r ∷ rs) row moment h g =
-    by (eqb r.serial row.serial) (and_parts (not (is_gone r moment)) (all_stay rs moment) h) (stay_replaced rs row moment)
+    by (eqb r.serial row.serial) (and_parts (not (is_gone r moment)) (all_stay rs moment) h)
+    (stay_replaced rs row moment)
   where
     by : (b : Bool) → (not (is_gone r moment) ≡ true) × (all_stay rs moment ≡ true)
         → (all_stay rs moment ≡ true → is_gone row moment ≡ false → all_stay (replaced rs row) moment ≡ true)

@@ -29,14 +29,14 @@ between front name back n e =
     (drop-append_seam front name)
 
 -- an ARN is its beginning and six characters
-arn_parts : (arn front : List ℕ) → (starts_with nat_eq arn front && is_run is_ascii_alphanumeric 6 6 (drop (length front) arn)) ≡ true
+arn_parts : (arn front : List ℕ)
+    → (starts_with nat_eq arn front && is_run is_ascii_alphanumeric 6 6 (drop (length front) arn)) ≡ true
     → (arn ≡ front ++ drop (length front) arn) × (length (drop (length front) arn) ≡ 6)
 arn_parts arn front h =
-    let parts = and_parts (starts_with nat_eq arn front) (is_run is_ascii_alphanumeric 6 6 (drop (length front) arn)) h in
-    let same : front ≡ take (length front) arn = (bytes_decides front (take (length front) arn)).0 parts.0 in (
-      sym (ap (λ t. t ++ drop (length front) arn) same ∙ take-append-drop (length front) arn),
-      grind (arith, nat_tests, parts.1),
-    )
+    let back : List ℕ = drop (length front) arn in
+    let parts = and_parts (starts_with nat_eq arn front) (is_run is_ascii_alphanumeric 6 6 back) h in
+    let same : front ≡ take (length front) arn = (bytes_decides front (take (length front) arn)).0 parts.0 in
+    (sym (ap (λ t. t ++ back) same ∙ take-append-drop (length front) arn), grind (arith, nat_tests, parts.1))
 
 name_within : (front name rest arn : List ℕ) → arn ≡ (front ++ (name ++ codes "-")) ++ rest → length rest ≡ 6
     → drop (length front) (take (length arn - 7) arn) ≡ name
@@ -145,3 +145,33 @@ pub named_absent : (rows : List SecretRow) (moment : Moment) (name : List ℕ) �
     → None ≡ row_named rows name → None ≡ row_named (swept rows moment) name
 named_absent rows moment name h e =
     passing_none (λ r. not (is_gone r moment) && same_text r.name name) _ _ (named_passing rows moment name h) e
+
+-- the row of the name in an ARN is the one with that ARN, if it has it and is there
+pub with_arn_some : (rows : List SecretRow) (moment : Moment) (arn : List ℕ) (row : SecretRow) (b : Bool)
+    → once (row_names rows) ≡ true → EachArn rows → Some row ≡ row_named rows (name_in (short_arn arn))
+    → b ≡ (not (is_gone row moment) && same_text row.arn arn)
+    → cond b (Some row) None ≡ row_with_arn (swept rows moment) arn
+with_arn_some rows moment arn row b h each found passes =
+    passing_some (λ r. not (is_gone r moment) && same_text r.arn arn) _ _ row b
+    (with_arn_passing rows moment arn h each) found passes
+
+pub with_arn_none : (rows : List SecretRow) (moment : Moment) (arn : List ℕ) → once (row_names rows) ≡ true
+    → EachArn rows → None ≡ row_named rows (name_in (short_arn arn)) → None ≡ row_with_arn (swept rows moment) arn
+with_arn_none rows moment arn h each absent =
+    passing_none (λ r. not (is_gone r moment) && same_text r.arn arn) _ _ (with_arn_passing rows moment arn h each)
+    absent
+
+-- the same without the suffix
+pub with_short_arn_some : (rows : List SecretRow) (moment : Moment) (arn : List ℕ) (row : SecretRow) (b : Bool)
+    → once (row_names rows) ≡ true → EachArn rows → Some row ≡ row_named rows (name_in arn)
+    → b ≡ (not (is_gone row moment) && same_text (short_arn row.arn) arn)
+    → cond b (Some row) None ≡ row_with_short_arn (swept rows moment) arn
+with_short_arn_some rows moment arn row b h each found passes =
+    passing_some (λ r. not (is_gone r moment) && same_text (short_arn r.arn) arn) _ _ row b
+    (with_short_arn_passing rows moment arn h each) found passes
+
+pub with_short_arn_none : (rows : List SecretRow) (moment : Moment) (arn : List ℕ) → once (row_names rows) ≡ true
+    → EachArn rows → None ≡ row_named rows (name_in arn) → None ≡ row_with_short_arn (swept rows moment) arn
+with_short_arn_none rows moment arn h each absent =
+    passing_none (λ r. not (is_gone r moment) && same_text (short_arn r.arn) arn) _ _
+    (with_short_arn_passing rows moment arn h each) absent

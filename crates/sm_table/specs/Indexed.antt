@@ -27,6 +27,10 @@ abbrev pub grown : ℕ → ℕ
 grown zero = zero
 grown (suc n) = if nat_eq (grown n) n then n + n + 1 else grown n
 
+-- where there are so many rows there may be no room left
+abbrev pub IsFull : ℕ → Type 0
+IsFull count = grown count ≡ count
+
 -- there is room for so many rows and their names
 pub record HasRoom (indexed : Indexed) (count : ℕ) : Type 0 where
   pub rows : count ≤ vec_capacity indexed.rows
@@ -56,5 +60,5 @@ adds Nothing = false
 
 -- the room for a change of so many rows: where it adds one and no room is left there is some, and that is for one more
 pub record IsRoomFor (change : Change) (count : ℕ) (room : Option Room) : Type 0 where
-  pub needed : adds change ≡ true → grown count ≡ count → IsSome room
+  pub needed : adds change ≡ true → IsFull count → IsSome room
   pub enough : IfSome room (λ r. IsRoom r (grown (suc count)))

@@ -83,8 +83,10 @@ impl Index {
     /// The place of a row with this name.
     pub fn place(&self, rows: &[SecretRow], name: &[u8]) -> Option<usize>
         requires { IsIndex self.now.heads.items self.now.links.items (row_names rows.now) }
-        ensures there { IfSome result (λ i. (i < length rows.now) × (slice_index_or (row_names rows.now) i [] ≡ name.now)) }
-        ensures none { IfNone result ((k : ℕ) → k < length rows.now → slice_index_or (row_names rows.now) k [] ≢ name.now) }
+        ensures there { IfSome result (λ i. (i < length rows.now)
+            × (slice_index_or (row_names rows.now) i [] ≡ name.now)) }
+        ensures none { IfNone result ((k : ℕ) → k < length rows.now
+            → slice_index_or (row_names rows.now) k [] ≢ name.now) }
     {
         if self.heads.is_empty() {
             return None;

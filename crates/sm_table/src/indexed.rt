@@ -8,7 +8,7 @@ ghost use Rattle.sm_table.specs.Sweep.{swept};
 ghost use Rattle.sm_table.specs.Found.{row_named};
 ghost use Rattle.sm_table.specs.Changes.{replaced, dropped};
 ghost use Rattle.sm_table.specs.Kept.{row_names};
-ghost use Rattle.sm_table.specs.Indexed.{all_stay, earlier, grown, HasRoom, IsIndexed, IsRoom, IsRoomFor};
+ghost use Rattle.sm_table.specs.Indexed.{IsFull, all_stay, earlier, grown, HasRoom, IsIndexed, IsRoom, IsRoomFor};
 
 use crate::edits::{self, is_reached};
 use crate::index::Index;
@@ -76,7 +76,7 @@ impl Indexed {
     pub fn room_for(&self, alloc: Global, change: &Change) -> Result<Option<Room>, NoMemory>
         requires { IsIndexed self.now }
         ensures room { IfOk result (IsRoomFor change.now (length self.now.rows.items)) }
-        ensures only { IfOk result (λ room. IsSome room → grown (length self.now.rows.items) ≡ length self.now.rows.items) }
+        ensures only { IfOk result (λ room. IsSome room → IsFull (length self.now.rows.items)) }
     {
         match change {
             Change::Add(_) => self.more(alloc),
@@ -87,9 +87,9 @@ impl Indexed {
     /// Twice as much room, where none is left.
     fn more(&self, alloc: Global) -> Result<Option<Room>, NoMemory>
         requires { IsIndexed self.now }
-        ensures needed { IfOk result (λ room. grown (length self.now.rows.items) ≡ length self.now.rows.items → IsSome room) }
+        ensures needed { IfOk result (λ room. IsFull (length self.now.rows.items) → IsSome room) }
         ensures enough { IfOk result (λ room. IfSome room (λ r. IsRoom r (grown (suc (length self.now.rows.items))))) }
-        ensures only { IfOk result (λ room. IsSome room → grown (length self.now.rows.items) ≡ length self.now.rows.items) }
+        ensures only { IfOk result (λ room. IsSome room → IsFull (length self.now.rows.items)) }
     {
         let count = self.rows.len();
         if count < self.room {
@@ -105,7 +105,7 @@ impl Indexed {
         requires enough { IfSome room (λ r. IsRoom r (grown (suc (length self.old.rows.items)))) }
         ensures kept { IsIndexed self.new }
         ensures rows { self.new.rows.items ≡ self.old.rows.items }
-        ensures room { (grown (length self.old.rows.items) ≡ length self.old.rows.items → IsSome room)
+        ensures room { (IsFull (length self.old.rows.items) → IsSome room)
             → HasRoom self.new (grown (suc (length self.old.rows.items))) }
         ensures in_place { room ≡ None → self.new ≡ self.old }
     {

@@ -11,5 +11,6 @@ loop-row-preserved c = λ moment h.
     take_more c.args.rows.now c.loop-row.row-index c.row-item.result (omega arith)
     ∙ ap (λ r. take c.loop-row.row-index c.args.rows.now ++ r ∷ []) (sym c.row-item.is) in
     rw more
-    (stay_added (take c.loop-row.row-index c.args.rows.now) c.row-item.result c.loop-row.date c.loop-row.invariant moment
+    (stay_added (take c.loop-row.row-index c.args.rows.now) c.row-item.result c.loop-row.date c.loop-row.invariant
+    moment
     (ap (λ d. is_reached d moment) (sym c.earlier-date.ensures) ∙ h))

@@ -8,7 +8,8 @@ use Rattle.sm_table.proofs.index.Index.place.Goals as goal
 
 pub returns-then-is_empty-clause-none : goal.returns-then-is_empty-clause-none
 returns-then-is_empty-clause-none c = λ k lt.
-    search_needs_chains c.args.self.now.heads.items c.args.self.now.links.items (row_names c.args.rows.now) c.args.name.now c.requires
+    search_needs_chains c.args.self.now.heads.items c.args.self.now.links.items (row_names c.args.rows.now)
+    c.args.name.now c.requires
     (grind (arith, nat_tests)) k (omega (arith, names_length c.args.rows.now))
 
 pub loop-at-init : goal.loop-at-init
@@ -48,7 +49,8 @@ goes_on c =
     let next : c.index-at-in-loop-at.result.now ≡ get_or c.args.self.now.links.items (c.loop-at.at - 1) 0 =
     get_or_read_under _ _ (length c.args.self.now.links.items) _ _ c.index-at-in-loop-at.ensures links refl in
     search_goes_on c.args.self.now.heads.items c.args.self.now.links.items (row_names c.args.rows.now) c.args.name.now
-    c.loop-at.end c.loop-at.at (c.loop-at.at - 1) c.index-at-in-loop-at.result.now c.requires c.loop-at.invariant.searches
+    c.loop-at.end c.loop-at.at (c.loop-at.at - 1) c.index-at-in-loop-at.result.now c.requires
+    c.loop-at.invariant.searches
     (omega arith) not next
 
 pub loop-at-smaller : goal.loop-at-smaller

@@ -21,7 +21,12 @@ returns-clause-kept c = record {
   stay = λ moment h. rw c.moved-rows.ensures.rows (c.requires.kept.stay moment h);
   room = rw c.moved-rows.ensures.rows c.requires.kept.room;
   rows_room = rw c.moved-rows.ensures.rows
-      (omega (arith, c.moved-rows.ensures.room, c.requires.enough.rows, grown_step (length c.args.self.now.rows.items)));
+      (omega (
+        arith,
+        c.moved-rows.ensures.room,
+        c.requires.enough.rows,
+        grown_step (length c.args.self.now.rows.items),
+      ));
   links_room = rw c.moved-rows.ensures.rows
       (omega (arith, c.fill.ensures.room, c.requires.enough.links, grown_step (length c.args.self.now.rows.items)));
 }

@@ -10,12 +10,14 @@ use Rattle.sm_table.proofs.table.Table.make.Goals as goal
 
 pub add-requires-clause-room : goal.add-requires-clause-room
 add-requires-clause-room c =
-    let same : c.prepared.inside.before.value ≡ (record { next = c.self.inside.next; secrets = c.self.inside.secrets.rows.items }) =
+    let rows : Rows = record { next = c.self.inside.next; secrets = c.self.inside.secrets.rows.items } in
+    let same : c.prepared.inside.before.value ≡ rows =
     ap (λ p. p.before) c.prepared.view_is ∙ c.requires.unchanged ∙ sym c.self.view_is in
     let count : length c.prepared.inside.before.value.secrets ≡ length c.self.inside.secrets.rows.items =
     ap (λ r. length r.secrets) same in
     let needed = rw count at (c.prepared.invariant.room.needed (ap adds c.in-Add.is)) in
-    room_after c.sweep.new.self c.bring.new.self.rows.items c.sweep.new.self.rows.items c.args.moment c.sweep.ensures.rows
+    room_after c.sweep.new.self c.bring.new.self.rows.items c.sweep.new.self.rows.items c.args.moment
+    c.sweep.ensures.rows
     (rw c.bring.ensures.rows (c.sweep.ensures.room _ (c.bring.ensures.room needed)))
 
 pub invariant_of-self : goal.invariant_of-self
