@@ -8,9 +8,9 @@ ghost use Rattle.std.specs.Prelude.{◌≡◌, IfOk};
 ghost use Rattle.sm_versions.specs.Sound.{IsArnOf};
 
 use crate::pieces::body_length;
+use sm_model::limits::{NO_SERIAL, SECRETS_LIMIT};
 use sm_model::{
-    Arn, Change, Copied, List, Moment, Name, NoMemory, ReadRefused, Rotation, RowList, SecretId,
-    SecretRow,
+    Arn, Change, List, Moment, Name, NoMemory, ReadRefused, Rotation, RowList, SecretRow,
 };
 use sm_table::Table;
 use std::alloc::Global;
@@ -91,11 +91,13 @@ fn fill(alloc: Global, count: u32) -> Result<usize, ReadRefused> {
     Ok(table.count())
 }
 
-/// Adds a secret, unless the name is held.
+/// Adds a secret, unless the name is held or there are too many, as a request that makes one does.
 fn add(alloc: Global, table: &mut Table, name: Name) -> Result<(), ReadRefused> {
     let serial = table.next();
-    let id = SecretId::Name(name.copy(alloc)?);
-    if serial == u64::MAX || table.find(&id, NOW).is_some() {
+    if serial == NO_SERIAL || table.count_at(NOW) >= SECRETS_LIMIT as usize {
+        return Ok(());
+    }
+    if table.find_name(&name, NOW).is_some() {
         return Ok(());
     }
     let row = fresh(alloc, serial, name)?;

@@ -116,23 +116,31 @@ IsNext rows (Replace row) = Unit {0}
 IsNext rows (Drop serial) = Unit {0}
 IsNext rows Nothing = Unit {0}
 
+-- a change keeps serials rising, where an added row has the next one
+pub change_rises : (rows : Rows) (change : Change) → IsNext rows change
+    → rises 0 (row_serials rows.secrets) rows.next ≡ true
+    → rises 0 (row_serials (changed rows change).secrets) (changed rows change).next ≡ true
+change_rises rows (Add row) next h =
+    rw (serials_push rows.secrets row) (rw next (rises_push 0 (row_serials rows.secrets) rows.next h))
+change_rises rows (Replace row) next h = rw (replaced_serials rows.secrets row) h
+change_rises rows (Drop serial) next h = dropped_rises rows.secrets serial 0 rows.next h
+change_rises rows Nothing next h = h
+
+-- a change keeps each row, where its own is kept
+change_each : (rows : Rows) (change : Change) → ChangeKept change → EachKept rows.secrets
+    → EachKept (changed rows change).secrets
+change_each rows (Add row) new each = push_each rows.secrets row new each
+change_each rows (Replace row) new each = replaced_each rows.secrets row new each
+change_each rows (Drop serial) new each = dropped_each rows.secrets serial each
+change_each rows Nothing new each = each
+
 -- a change keeps it, where its row is kept and an added row has the next serial
 pub change_keeps : (rows : Rows) (change : Change) → IsNext rows change → ChangeKept change → RowsKept rows
     → RowsKept (changed rows change)
-change_keeps rows (Add row) next new kept = record {
-  serials = rw (serials_push rows.secrets row)
-      (rw next (rises_push 0 (row_serials rows.secrets) rows.next kept.serials));
-  each = push_each rows.secrets row new kept.each;
+change_keeps rows change next new kept = record {
+  serials = change_rises rows change next kept.serials;
+  each = change_each rows change new kept.each;
 }
-change_keeps rows (Replace row) next new kept = record {
-  serials = rw (replaced_serials rows.secrets row) kept.serials;
-  each = replaced_each rows.secrets row new kept.each;
-}
-change_keeps rows (Drop serial) next new kept = record {
-  serials = dropped_rises rows.secrets serial 0 rows.next kept.serials;
-  each = dropped_each rows.secrets serial kept.each;
-}
-change_keeps rows Nothing next new kept = kept
 
 next_from : (rows : Rows) (moment : Moment) (change : Change) → CanMake rows change → IsNext (sweep rows moment) change
 next_from rows moment (Add row) can = can.0
@@ -140,7 +148,15 @@ next_from rows moment (Replace row) can = tt
 next_from rows moment (Drop serial) can = tt
 next_from rows moment Nothing can = tt
 
--- what a commit leaves is kept
+-- what a commit leaves rises
+pub commit_rises : (rows : Rows) (moment : Moment) (change : Change) → CanMake rows change
+    → rises 0 (row_serials rows.secrets) rows.next ≡ true
+    → let left = changed (sweep rows moment) change in rises 0 (row_serials left.secrets) left.next ≡ true
+commit_rises rows moment change can h =
+    change_rises (sweep rows moment) change (next_from rows moment change can)
+    (swept_rises rows.secrets moment 0 rows.next h)
+
+-- and is kept
 pub commit_keeps : (rows : Rows) (moment : Moment) (change : Change) → CanMake rows change → RowsKept rows
     → ChangeKept change → RowsKept (changed (sweep rows moment) change)
 commit_keeps rows moment change can kept new =

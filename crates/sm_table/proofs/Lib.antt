@@ -5,3 +5,7 @@ pub mod NameLaws
 pub mod FoundLaws
 pub mod PropLemmas
 pub mod SoundLaws
+pub mod IndexLemmas
+pub mod IndexedLemmas
+pub mod TableLaws
+pub mod LookUpLaws

@@ -15,11 +15,11 @@ use Rattle.sm_versions.proofs.TextLemmas.{same_text_tells}
 use Rattle.sm_table.specs.Sweep.{is_gone, swept, sweep}
 use Rattle.sm_table.specs.Found.{row_named}
 use Rattle.sm_table.specs.Changes.{row_with, replaced, dropped, changed, CanMake, StandsAt}
-use Rattle.sm_table.specs.Kept.{row_serials, row_names, EachArn, RowsKept, NamesKept}
+use Rattle.sm_table.specs.Kept.{row_serials, row_names, EachArn, NamesKept}
 
 -- ---- which names there are
 
-swept_lacks : (rows : List SecretRow) (moment : Moment) (t : List ℕ) → is_among (row_names rows) t ≡ false
+pub swept_lacks : (rows : List SecretRow) (moment : Moment) (t : List ℕ) → is_among (row_names rows) t ≡ false
     → is_among (row_names (swept rows moment)) t ≡ false
 swept_lacks [] moment t h = h
 swept_lacks (r ∷ rs) moment t h = grind (arith, common_steps, swept_lacks rs moment t)
@@ -29,7 +29,7 @@ dropped_lacks : (rows : List SecretRow) (serial : ℕ) (t : List ℕ) → is_amo
 dropped_lacks [] serial t h = h
 dropped_lacks (r ∷ rs) serial t h = grind (arith, common_steps, dropped_lacks rs serial t)
 
-named_lacks : (rows : List SecretRow) (t : List ℕ) → row_named rows t ≡ None → is_among (row_names rows) t ≡ false
+pub named_lacks : (rows : List SecretRow) (t : List ℕ) → row_named rows t ≡ None → is_among (row_names rows) t ≡ false
 named_lacks [] t h = refl
 named_lacks (r ∷ rs) t h = grind (arith, common_steps, named_lacks rs t)
 
@@ -37,7 +37,8 @@ among_push : (ts : List (List ℕ)) (u t : List ℕ) → is_among (ts ++ u ∷ [
 among_push [] u t = grind (arith, common_steps)
 among_push (x ∷ ts) u t = grind (arith, common_steps, among_push ts u t)
 
-names_push : (rows : List SecretRow) (row : SecretRow) → row_names (rows ++ row ∷ []) ≡ row_names rows ++ row.name ∷ []
+pub names_push : (rows : List SecretRow) (row : SecretRow)
+    → row_names (rows ++ row ∷ []) ≡ row_names rows ++ row.name ∷ []
 names_push [] row = refl
 names_push (r ∷ rs) row = ap (λ ts. r.name ∷ ts) (names_push rs row)
 
@@ -178,24 +179,40 @@ none_from None h = refl
 none_from (Some row) h = absurd (false≢true (sym h))
 
 -- a row that replaces one which is still there has its name and its ARN
-replace_still : (rows : Rows) (moment : Moment) (row : SecretRow) (before after : Option SecretRow)
+still_same : (rows : Rows) (moment : Moment) (row : SecretRow) (before after : Option SecretRow)
     → row_with rows.secrets row.serial ≡ before → row_with (swept rows.secrets moment) row.serial ≡ after
-    → IsSomeAnd before (λ old. (row.name ≡ old.name) × (row.arn ≡ old.arn)) → IsSome after → RowsKept rows
-    → NamesKept rows → NamesKept (changed (sweep rows moment) (Replace row))
-replace_still rows moment row None after e f can there kept names = absurd can
-replace_still rows moment row (Some old) None e f can there kept names = absurd (false≢true there)
-replace_still rows moment row (Some old) (Some now) e f can there kept names =
-    let same = still_there rows.secrets moment 0 rows.next row.serial old now kept.serials e f in
-    replace_names (sweep rows moment) row now f (can.0 ∙ ap (λ q. q.name) (sym same))
-    (can.1 ∙ ap (λ q. q.arn) (sym same)) (sweep_names rows moment names)
+    → IsSomeAnd before (λ old. (row.name ≡ old.name) × (row.arn ≡ old.arn)) → IsSome after
+    → rises 0 (row_serials rows.secrets) rows.next ≡ true
+    → (now : SecretRow) × (row_with (swept rows.secrets moment) row.serial ≡ Some now) × (row.name ≡ now.name)
+    × (row.arn ≡ now.arn)
+still_same rows moment row None after e f can there h = absurd can
+still_same rows moment row (Some old) None e f can there h = absurd (false≢true there)
+still_same rows moment row (Some old) (Some now) e f can there h =
+    let same = still_there rows.secrets moment 0 rows.next row.serial old now h e f in
+    (now, f, can.0 ∙ ap (λ q. q.name) (sym same), can.1 ∙ ap (λ q. q.arn) (sym same))
+
+replace_still : (rows : Rows) (moment : Moment) (row : SecretRow) → CanMake rows (Replace row)
+    → StandsAt rows moment (Replace row) → rises 0 (row_serials rows.secrets) rows.next ≡ true → NamesKept rows
+    → NamesKept (changed (sweep rows moment) (Replace row))
+replace_still rows moment row can stands h names =
+    let still = still_same rows moment row _ _ refl refl can stands h in
+    replace_names (sweep rows moment) row still.0 still.1 still.2 still.3 (sweep_names rows moment names)
+
+-- the names stay where a row is replaced
+pub replace_same : (rows : Rows) (moment : Moment) (row : SecretRow) → CanMake rows (Replace row)
+    → StandsAt rows moment (Replace row) → rises 0 (row_serials rows.secrets) rows.next ≡ true
+    → row_names (replaced (swept rows.secrets moment) row) ≡ row_names (swept rows.secrets moment)
+replace_same rows moment row can stands h =
+    let still = still_same rows moment row _ _ refl refl can stands h in
+    replaced_names (swept rows.secrets moment) row still.0 still.1 still.2
 
 -- the names and ARNs that a commit leaves
 pub commit_names : (rows : Rows) (moment : Moment) (change : Change) → CanMake rows change → StandsAt rows moment change
-    → RowsKept rows → NamesKept rows → NamesKept (changed (sweep rows moment) change)
-commit_names rows moment (Add row) can stands kept names =
+    → rises 0 (row_serials rows.secrets) rows.next ≡ true → NamesKept rows
+    → NamesKept (changed (sweep rows moment) change)
+commit_names rows moment (Add row) can stands h names =
     add_names (sweep rows moment) row can.2 (none_from _ stands) (sweep_names rows moment names)
-commit_names rows moment (Replace row) can stands kept names =
-    replace_still rows moment row _ _ refl refl can stands kept names
-commit_names rows moment (Drop serial) can stands kept names =
+commit_names rows moment (Replace row) can stands h names = replace_still rows moment row can stands h names
+commit_names rows moment (Drop serial) can stands h names =
     drop_names (sweep rows moment) serial (sweep_names rows moment names)
-commit_names rows moment Nothing can stands kept names = sweep_names rows moment names
+commit_names rows moment Nothing can stands h names = sweep_names rows moment names

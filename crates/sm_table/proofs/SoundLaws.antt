@@ -121,7 +121,7 @@ commit_sound rows moment change can stands sound new =
     let swept = sweep_sound rows moment sound in
     record {
       serials = (commit_keeps rows moment change can kept (sound_change_kept (sweep rows moment) change new)).serials;
-      names = (commit_names rows moment change can stands kept (sound_names_kept rows sound)).once;
+      names = (commit_names rows moment change can stands kept.serials (sound_names_kept rows sound)).once;
       count = changed_count (sweep rows moment) change new swept.count;
       each = changed_each (sweep rows moment) change new swept.each;
     }

@@ -52,10 +52,3 @@ StandsAt rows moment Nothing = ⊤
 pub record PreparedChange : Type 0 where
   pub before : Rows
   pub change : Change
-
--- how much room a change needs beside so many rows
-abbrev pub room_for : Change → ℕ → ℕ
-room_for (Add row) count = count + 1
-room_for (Replace row) count = 0
-room_for (Drop serial) count = 0
-room_for Nothing count = 0

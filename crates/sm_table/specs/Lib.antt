@@ -4,3 +4,5 @@ pub mod Changes
 pub mod Ready
 pub mod Kept
 pub mod Sound
+pub mod Index
+pub mod Indexed

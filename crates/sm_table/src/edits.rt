@@ -2,26 +2,34 @@
 ghost use Rattle.std.specs.Prelude.{◌≡◌, ◌<◌, ◌≤◌, ◌+◌, not, nat_eq, nat_le, nat_lt, length, vec_len, vec_capacity};
 ghost use Rattle.std.specs.Prelude.{[], ◌∷◌, ◌++◌};
 ghost use Rattle.std.specs.List.{position};
-ghost use Rattle.std.specs.Vec.{vec_ptr};
+ghost use Rattle.sm_versions.specs.Due.{is_reached};
 ghost use Rattle.sm_table.specs.Sweep.{is_gone, swept};
 ghost use Rattle.sm_table.specs.Changes.{replaced, dropped};
 
 use sm_model::{Moment, SecretRow};
 
+/// Whether the date is there and the moment has reached it.
+pub fn is_reached(date: Option<Moment>, moment: Moment) -> bool
+    ensures { result ≡ is_reached date moment }
+{
+    match date {
+        Some(date) => date.0 <= moment.0,
+        None => false,
+    }
+}
+
 /// Whether the secret's deletion date is reached.
 pub fn is_gone(row: &SecretRow, moment: Moment) -> bool
     ensures { result ≡ is_gone row.now moment }
 {
-    match row.deletion {
-        Some(date) => date.0 <= moment.0,
-        None => false,
-    }
+    is_reached(row.deletion, moment)
 }
 
 /// Drops the rows whose deletion date is reached.
 pub fn sweep(rows: &mut Vec<SecretRow>, moment: Moment)
     ensures swept { rows.new.items ≡ swept rows.old.items moment }
     ensures shorter { vec_len rows.new ≤ vec_len rows.old }
+    ensures room { vec_capacity rows.new ≡ vec_capacity rows.old }
 {
     rows.retain(|row| !is_gone(row, moment));
 }
@@ -42,7 +50,8 @@ fn place_of(rows: &[SecretRow], serial: u64) -> Option<usize>
 
 /// Puts the row in the place of the one with its serial.
 pub fn replace(rows: &mut Vec<SecretRow>, row: SecretRow)
-    ensures { rows.new.items ≡ replaced rows.old.items row }
+    ensures rows { rows.new.items ≡ replaced rows.old.items row }
+    ensures room { vec_capacity rows.new ≡ vec_capacity rows.old }
 {
     if let Some(i) = place_of(rows.as_slice(), row.serial) {
         rows[i] = row;
@@ -51,30 +60,20 @@ pub fn replace(rows: &mut Vec<SecretRow>, row: SecretRow)
 
 /// Drops the row with this serial.
 pub fn drop_row(rows: &mut Vec<SecretRow>, serial: u64)
-    ensures { rows.new.items ≡ dropped rows.old.items serial }
+    ensures rows { rows.new.items ≡ dropped rows.old.items serial }
+    ensures shorter { vec_len rows.new ≤ vec_len rows.old }
+    ensures room { vec_capacity rows.new ≡ vec_capacity rows.old }
 {
     rows.retain(|row| !has_serial(row, serial));
 }
 
-/// Whether a row can be added without moving the others.
-pub fn has_room(rows: &Vec<SecretRow>) -> bool
-    ensures { result ≡ nat_lt (vec_len rows.now) (vec_capacity rows.now) }
-{
-    rows.len() < rows.capacity()
-}
-
-/// Adds the row at the end: in place where there is room, and else in the empty room, into which the others move.
-pub fn add(rows: &mut Vec<SecretRow>, mut room: Vec<SecretRow>, row: SecretRow)
+/// The rows, moved into empty room.
+pub fn moved(rows: &mut Vec<SecretRow>, mut room: Vec<SecretRow>) -> Vec<SecretRow>
     requires empty { room.items ≡ [] }
-    requires room { vec_len rows.old + 1 ≤ vec_capacity room }
-    ensures rows { rows.new.items ≡ rows.old.items ++ row ∷ [] }
-    ensures in_place { vec_len rows.old < vec_capacity rows.old → vec_ptr rows.new ≡ vec_ptr rows.old }
+    requires room { vec_len rows.old ≤ vec_capacity room }
+    ensures rows { result.items ≡ rows.old.items }
+    ensures room { vec_capacity room ≤ vec_capacity result }
 {
-    if has_room(rows) {
-        rows.push_reserved(row);
-    } else {
-        let _ = room.append(rows);
-        room.push_reserved(row);
-        *rows = room;
-    }
+    let _ = room.append(rows);
+    room
 }

@@ -3,6 +3,8 @@
 #![tactic(auto)]
 
 pub mod edits;
+pub mod index;
+pub mod indexed;
 pub mod search;
 pub mod table;
 

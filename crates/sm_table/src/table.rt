@@ -1,13 +1,14 @@
 //! The table of all secrets.
-ghost use Rattle.std.specs.Prelude.{◌≡◌, ℕ, [], IfOk, IfSome, ◌^◌, ◌+◌, ◌<◌, ◌≤◌, length, vec_len, vec_capacity, option_copied};
+ghost use Rattle.std.specs.Prelude.{◌≡◌, ℕ, [], IfOk, IfSome, length, option_copied};
 ghost use Rattle.sm_table.specs.Sweep.{sweep, swept};
 ghost use Rattle.sm_table.specs.Found.{found, found_arn, row_named};
-ghost use Rattle.sm_table.specs.Changes.{changed, CanMake, StandsAt, room_for, row_with, PreparedChange};
+ghost use Rattle.sm_table.specs.Changes.{changed, CanMake, StandsAt, row_with, PreparedChange};
 ghost use Rattle.sm_table.specs.Kept.{RowsKept, ChangeKept, NamesKept, IsRowOf};
 ghost use Rattle.sm_table.specs.Sound.{Sound, ChangeSound};
 ghost use Rattle.sm_versions.specs.Sound.{RowSound};
 
-use crate::{edits, search};
+use crate::indexed::{Indexed, Room};
+use crate::search;
 use sm_base::list::copies;
 use sm_model::{
     Arn, Change, Copied, List, Moment, Name, NoMemory, RowList, Rows, SecretId, SecretRow,
@@ -21,7 +22,7 @@ use std::snapshot::Snapshot;
 pub struct Table {
     alloc: Global,
     next: u64,
-    secrets: Vec<SecretRow>,
+    secrets: Indexed,
 }
 
 impl Model for Table {
@@ -29,22 +30,24 @@ impl Model for Table {
 
     ghost Value = { Rows };
 
-    ghost view = { λ t. record { next = t.next; secrets = t.secrets.items } };
+    ghost use Rattle.sm_table.specs.Ready.{IsTable};
+
+    ghost view = { λ t. record { next = t.next; secrets = t.secrets.rows.items } };
+
+    ghost invariant = { λ t. IsTable t.next t.secrets };
 }
 
 /// A change for which all memory is there. It holds that memory itself and nothing of a table, so that it can be made
-/// of
-/// any table that has the rows that it was prepared for.
+/// of any table that has the rows that it was prepared for.
 #[derive(Drop)]
 pub struct Prepared {
     change: Change,
-    /// Where a row is added, room for it and the others, should the table have none left.
-    room: Vec<SecretRow>,
+    /// Where a row is added and no room is left, room for it and the others.
+    room: Option<Room>,
     before: Snapshot<Table>,
 }
 
 impl Model for Prepared {
-    ghost use Rattle.std.specs.Prelude.{vec_capacity};
     ghost use Rattle.sm_table.specs.Changes.{PreparedChange};
     ghost use Rattle.sm_table.specs.Ready.{IsReady};
 
@@ -52,7 +55,7 @@ impl Model for Prepared {
 
     ghost view = { λ p. record { before = p.before.value; change = p.change } };
 
-    ghost invariant = { λ p. IsReady p.before.value p.change p.room.items (vec_capacity p.room) };
+    ghost invariant = { λ p. IsReady p.before.value p.change p.room };
 }
 
 impl Table {
@@ -63,7 +66,7 @@ impl Table {
         Table {
             alloc,
             next: 0,
-            secrets: Vec::new(alloc),
+            secrets: Indexed::new(alloc),
         }
     }
 
@@ -80,7 +83,7 @@ impl Table {
     {
         Ok(Rows {
             next: self.next,
-            secrets: List::new(copies(self.alloc, self.secrets.as_slice())?),
+            secrets: List::new(copies(self.alloc, self.secrets.rows.as_slice())?),
         })
     }
 
@@ -108,7 +111,7 @@ impl Table {
     fn find_with_arn(&self, arn: &Arn, moment: Moment) -> Option<&SecretRow>
         ensures { option_copied result ≡ found_arn self.now moment arn.now }
     {
-        search::row_with_arn(self.secrets.as_slice(), moment, arn)
+        search::row_with_arn(&self.secrets, moment, arn)
     }
 
     /// The same as `find`.
@@ -116,8 +119,8 @@ impl Table {
         ensures { option_copied result ≡ found self.now moment id.now }
     {
         match id {
-            SecretId::Name(name) => search::row_named(self.secrets.as_slice(), moment, name),
-            SecretId::Arn(arn) => search::row_by_arn(self.secrets.as_slice(), moment, arn),
+            SecretId::Name(name) => search::row_named(&self.secrets, moment, name),
+            SecretId::Arn(arn) => search::row_by_arn(&self.secrets, moment, arn),
         }
     }
 
@@ -125,14 +128,14 @@ impl Table {
     pub fn find_name(&self, name: &Name, moment: Moment) -> Option<&SecretRow>
         ensures { option_copied result ≡ row_named (swept self.now.secrets moment) name.now }
     {
-        search::row_named(self.secrets.as_slice(), moment, name)
+        search::row_named(&self.secrets, moment, name)
     }
 
     /// How many rows are still there at the moment. It takes no memory.
     pub fn count_at(&self, moment: Moment) -> usize
         ensures { result ≡ length (swept self.now.secrets moment) }
     {
-        search::count(self.secrets.as_slice(), moment)
+        self.secrets.count_at(moment)
     }
 
     /// The row with this serial. It takes no memory.
@@ -140,7 +143,7 @@ impl Table {
         ensures row { option_copied result ≡ row_with self.now.secrets serial }
         ensures serial { IfSome (option_copied result) (λ row. row.serial ≡ serial) }
     {
-        search::row_with(self.secrets.as_slice(), serial)
+        search::row_with(self.secrets.rows.as_slice(), serial)
     }
 
     /// Takes all the memory that the change needs. The rows stay.
@@ -149,7 +152,7 @@ impl Table {
         ensures prepared { IfOk result (λ p. p ≡ record { before = self.old; change = change }) }
         ensures rows { self.new ≡ self.old }
     {
-        let room = room_of(self.alloc, &change, &self.secrets)?;
+        let room = self.secrets.room_for(self.alloc, &change)?;
         let before = Snapshot::of(self);
         Ok(Prepared {
             change,
@@ -172,7 +175,8 @@ impl Table {
 
     /// The same as `commit`.
     fn make(&mut self, prepared: Prepared, moment: Moment)
-        requires { prepared.before ≡ self.old }
+        requires unchanged { prepared.before ≡ self.old }
+        requires stands { StandsAt self.old moment prepared.change }
         ensures rows { self.new ≡ changed (sweep self.old moment) prepared.change }
         ensures can { CanMake self.old prepared.change }
     {
@@ -181,14 +185,15 @@ impl Table {
             room,
             before: _,
         } = prepared;
-        edits::sweep(&mut self.secrets, moment);
+        self.secrets.bring(room);
+        self.secrets.sweep(moment);
         match change {
             Change::Add(row) => {
-                edits::add(&mut self.secrets, room, row);
+                self.secrets.add(row);
                 self.next += 1;
             }
-            Change::Replace(row) => edits::replace(&mut self.secrets, row),
-            Change::Drop(serial) => edits::drop_row(&mut self.secrets, serial),
+            Change::Replace(row) => self.secrets.replace(row),
+            Change::Drop(serial) => self.secrets.drop_row(serial),
             Change::Nothing => {}
         }
     }
@@ -198,39 +203,10 @@ impl RowList for Table {
     ghost rows = { λ table. table.secrets };
 
     fn count(&self) -> usize {
-        self.secrets.len()
+        self.secrets.rows.len()
     }
 
     fn at(&self, i: usize) -> Option<&SecretRow> {
-        self.secrets.get(i)
-    }
-}
-
-/// Room for these rows and one more where the change adds one, and for twice as many where they have none left.
-fn room_of(
-    alloc: Global,
-    change: &Change,
-    rows: &Vec<SecretRow>,
-) -> Result<Vec<SecretRow>, NoMemory>
-    requires { vec_len rows.now < 2 ^ 63 }
-    ensures empty { IfOk result (λ room. room.items ≡ []) }
-    ensures enough { IfOk result (λ room. room_for change.now (vec_len rows.now) ≤ vec_capacity room) }
-{
-    match change {
-        Change::Add(_) => Ok(Vec::with_capacity(alloc, places(rows))?),
-        Change::Replace(_) | Change::Drop(_) | Change::Nothing => Ok(Vec::new(alloc)),
-    }
-}
-
-/// How many places are asked for beside these rows: they move only where they have no room, and then it doubles.
-fn places(rows: &Vec<SecretRow>) -> usize
-    requires { vec_len rows.now < 2 ^ 63 }
-    ensures { vec_len rows.now + 1 ≤ result }
-{
-    let count = rows.len();
-    if edits::has_room(rows) {
-        count + 1
-    } else {
-        count + count.max(1)
+        self.secrets.rows.get(i)
     }
 }

@@ -1,8 +1,8 @@
 use Rattle.sm_table.proofs.RowLemmas.{replaced_found, replaced_not_found}
 use Rattle.sm_table.proofs.edits.replace.Goals as goal
 
-pub returns-in-Some : goal.returns-in-Some
-returns-in-Some c = replaced_found _ _ _ (cc)
+pub returns-in-Some-clause-rows : goal.returns-in-Some-clause-rows
+returns-in-Some-clause-rows c = replaced_found _ _ _ (cc)
 
-pub returns-in_default : goal.returns-in_default
-returns-in_default c = replaced_not_found _ _ (cc)
+pub returns-in_default-clause-rows : goal.returns-in_default-clause-rows
+returns-in_default-clause-rows c = replaced_not_found _ _ (cc)

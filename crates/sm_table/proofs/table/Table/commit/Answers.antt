@@ -14,7 +14,7 @@ returns-clause-kept c =
 pub returns-clause-named : goal.returns-clause-named
 returns-clause-named c =
     λ kept names. subst NamesKept (sym c.make.ensures.rows)
-    (commit_names c.args.self.now c.args.moment c.args.prepared.change c.make.ensures.can c.requires.stands kept
+    (commit_names c.args.self.now c.args.moment c.args.prepared.change c.make.ensures.can c.requires.stands kept.serials
     names)
 
 pub returns-clause-sound : goal.returns-clause-sound

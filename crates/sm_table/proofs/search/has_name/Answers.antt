@@ -1,5 +1,0 @@
-use Rattle.sm_versions.proofs.TextLemmas.{same_text_from_equals}
-use Rattle.sm_table.proofs.search.has_name.Goals as goal
-
-pub returns : goal.returns
-returns c = same_text_from_equals _ _ _ c.equals.ensures
