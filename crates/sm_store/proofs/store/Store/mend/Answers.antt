@@ -21,7 +21,8 @@ pub returns-clause-ok : goal.returns-clause-ok
 returns-clause-ok g c =
     let mended = c.in_ok-mend.ensures.ok in (
       mended.0,
-      λ list failed. holds_sure c.args.self.now _ list failed (mended.1 (map spelling list) (option_map spelling failed)),
+      λ list failed. holds_sure c.args.self.now _ list failed
+          (mended.1 (map spelling list) (option_map spelling failed)),
     )
 
 pub returns-clause-left : goal.returns-clause-left
