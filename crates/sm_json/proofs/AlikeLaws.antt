@@ -29,7 +29,8 @@ module _ (a b : Data) where
       ap (λ f. first f (first_fault fields a)) (fault_alike field (alike field (inl refl)))
       ∙ ap (first (fault_of field b)) (faults_alike fields (λ o in_it. alike o (inr in_it)))
 
-  batch_get_secret_value_alike : Same batch_get_secret_value_members a b → batch_get_secret_value_in a ≡ batch_get_secret_value_in b
+  batch_get_secret_value_alike : Same batch_get_secret_value_members a b
+      → batch_get_secret_value_in a ≡ batch_get_secret_value_in b
   unfolding batch_get_secret_value_members batch_get_secret_value_in may must no_items given
   batch_get_secret_value_alike (e0, (e1, (e2, (e3, _)))) = rw (e0, e1, e2, e3) refl
 
@@ -53,7 +54,8 @@ module _ (a b : Data) where
   unfolding get_secret_value_members get_secret_value_in may must no_items given
   get_secret_value_alike (e0, (e1, (e2, _))) = rw (e0, e1, e2) refl
 
-  list_secret_version_ids_alike : Same list_secret_version_ids_members a b → list_secret_version_ids_in a ≡ list_secret_version_ids_in b
+  list_secret_version_ids_alike : Same list_secret_version_ids_members a b
+      → list_secret_version_ids_in a ≡ list_secret_version_ids_in b
   unfolding list_secret_version_ids_members list_secret_version_ids_in may must no_items given
   list_secret_version_ids_alike (e0, (e1, (e2, (e3, _)))) = rw (e0, e1, e2, e3) refl
 
@@ -85,15 +87,18 @@ module _ (a b : Data) where
   unfolding update_secret_members update_secret_in may must no_items given
   update_secret_alike (e0, (e1, (e2, (e3, (e4, (e5, _)))))) = rw (e0, e1, e2, e3, e4, e5) refl
 
-  update_secret_version_stage_alike : Same update_secret_version_stage_members a b → update_secret_version_stage_in a ≡ update_secret_version_stage_in b
+  update_secret_version_stage_alike : Same update_secret_version_stage_members a b
+      → update_secret_version_stage_in a ≡ update_secret_version_stage_in b
   unfolding update_secret_version_stage_members update_secret_version_stage_in may must no_items given
   update_secret_version_stage_alike (e0, (e1, (e2, (e3, _)))) = rw (e0, e1, e2, e3) refl
 
-  validate_resource_policy_alike : Same validate_resource_policy_members a b → validate_resource_policy_in a ≡ validate_resource_policy_in b
+  validate_resource_policy_alike : Same validate_resource_policy_members a b
+      → validate_resource_policy_in a ≡ validate_resource_policy_in b
   unfolding validate_resource_policy_members validate_resource_policy_in may must no_items given
   validate_resource_policy_alike (e0, (e1, _)) = rw (e0, e1) refl
 
-  request_alike : (operation : Operation) → Same (members_of operation) a b → request_in operation a ≡ request_in operation b
+  request_alike : (operation : Operation) → Same (members_of operation) a b
+      → request_in operation a ≡ request_in operation b
   request_alike named.BatchGetSecretValue same = ap requests.BatchGetSecretValue (batch_get_secret_value_alike same)
   request_alike named.CancelRotateSecret same = ap requests.CancelRotateSecret (of_secret_alike same)
   request_alike named.CreateSecret same = ap requests.CreateSecret (create_secret_alike same)
@@ -112,8 +117,10 @@ module _ (a b : Data) where
   request_alike named.TagResource same = ap requests.TagResource (tag_resource_alike same)
   request_alike named.UntagResource same = ap requests.UntagResource (untag_resource_alike same)
   request_alike named.UpdateSecret same = ap requests.UpdateSecret (update_secret_alike same)
-  request_alike named.UpdateSecretVersionStage same = ap requests.UpdateSecretVersionStage (update_secret_version_stage_alike same)
-  request_alike named.ValidateResourcePolicy same = ap requests.ValidateResourcePolicy (validate_resource_policy_alike same)
+  request_alike named.UpdateSecretVersionStage same =
+      ap requests.UpdateSecretVersionStage (update_secret_version_stage_alike same)
+  request_alike named.ValidateResourcePolicy same =
+      ap requests.ValidateResourcePolicy (validate_resource_policy_alike same)
 
 pub only_members : OnlyMembersCount
 only_members operation a b alike =

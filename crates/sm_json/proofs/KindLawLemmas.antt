@@ -48,11 +48,13 @@ unfolding tag tag_members tag_in fault_of given must may
 tag_is value t e =
     let p = object_is (as_object value) (first (fault_of (must names.Key text) value)
     (first (fault_of (may names.Value text) value) None)) (tag_in value) t e in
-    let q = neither_first (fault_of (must names.Key text) value) (first (fault_of (may names.Value text) value) None) p.1 in
+    let q = neither_first (fault_of (must names.Key text) value) (first (fault_of (may names.Value text) value) None)
+    p.1 in
     let r = neither_first (fault_of (may names.Value text) value) None q.1 in
     let k = must_is text names.Key (member_of names.Key value) q.0 in
     let key : unwrap_or (given_at text (member_of names.Key value)) [] ≡ t.key = ap (λ (u : Tag). u.key) p.2 in
-    let other : unwrap_or (given_at text (member_of names.Value value)) [] ≡ t.value = ap (λ (u : Tag). u.value) p.2 in (
+    let other : unwrap_or (given_at text (member_of names.Value value)) [] ≡ t.value =
+    ap (λ (u : Tag). u.value) p.2 in (
       (p.0.0, object_of value p.0.0 p.0.1),
       text_member (member_of names.Key value) k.0 k.1 t.key k.2 k.3
           (sym (ap (λ o. unwrap_or o []) (is_given text names.Key (member_of names.Key value) k.0 k.1 k.2 k.3)) ∙ key),
@@ -156,8 +158,10 @@ days_fit value None absent = (
   ap (given_at integer) absent,
 )
 days_fit value (Some days) (given_days, there, read) = (
-  may_fits integer names.AutomaticallyAfterDays (member_of names.AutomaticallyAfterDays value) given_days days there read,
-  is_given integer names.AutomaticallyAfterDays (member_of names.AutomaticallyAfterDays value) given_days days there read,
+  may_fits integer names.AutomaticallyAfterDays (member_of names.AutomaticallyAfterDays value) given_days days there
+      read,
+  is_given integer names.AutomaticallyAfterDays (member_of names.AutomaticallyAfterDays value) given_days days there
+      read,
 )
 
 abbrev pub days_flaw : Data → Option Flaw
@@ -176,7 +180,8 @@ rules_is value r e =
     let p = object_is (as_object value) (rules_flaw value) (rules_in value) r e in
     let q = neither_first (days_flaw value) (first (left_flaw names.Duration value)
     (first (left_flaw names.ScheduleExpression value) None)) p.1 in
-    let d = neither_first (left_flaw names.Duration value) (first (left_flaw names.ScheduleExpression value) None) q.1 in
+    let d = neither_first (left_flaw names.Duration value) (first (left_flaw names.ScheduleExpression value) None)
+    q.1 in
     let s = neither_first (left_flaw names.ScheduleExpression value) None d.1 in (
       (p.0.0, object_of value p.0.0 p.0.1),
       days_are value r.days q.0 (ap (λ (u : Rules). u.days) p.2),

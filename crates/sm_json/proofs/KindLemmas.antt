@@ -100,7 +100,8 @@ by_sign : (negative : Bool) (p q : Parts) (num : shapes.Num)
     → as_i64 num ≡ cond negative (below_zero p) (from_zero q)
 by_sign true p q num e = below _ _ (neg_ℤ (pos (numeral_digits p))) _ num e
 by_sign false p q num e =
-    above (is_integer q) (nat_lt (numeral_digits q) (2 ^ 64)) (nat_lt (numeral_digits q) (2 ^ 63)) _ (numeral_digits q) _ num refl
+    above (is_integer q) (nat_lt (numeral_digits q) (2 ^ 64)) (nat_lt (numeral_digits q) (2 ^ 63)) _
+    (numeral_digits q) _ num refl
     (narrow_wide (numeral_digits q)) e
 
 same_integer : (digits : List ℕ) (num : shapes.Num) → number_of digits ≡ Some num → as_i64 num ≡ integer_of digits
@@ -228,7 +229,8 @@ module _ {A : Type 0} (reads : Data → Result A Mark) (name : MemberName) where
   unfolding may
   may_be_absent o is = ap (fault_at (may name reads)) is
 
-  pub is_given : (o : Option Data) (value : Data) (x : A) → o ≡ Some value → reads value ≡ Ok x → given_at reads o ≡ Some x
+  pub is_given : (o : Option Data) (value : Data) (x : A) → o ≡ Some value → reads value ≡ Ok x
+      → given_at reads o ≡ Some x
   is_given o value x is e = ap (given_at reads) is ∙ ap result_ok e
 
 pub left_is : (name : MemberName) (o : Option Data) → fault_at (left name) o ≡ None → o ≡ None

@@ -13,7 +13,8 @@ use Rattle.sm_json.specs.KindLaws.{IsLeftRules, RulesAreLeft, IsLeftList, Replic
 use Rattle.sm_json.proofs.KindLemmas.{object_of, array_of, left_fits, flaw_of}
 use Rattle.sm_json.proofs.KindLawLemmas.{days_are, days_fit, days_flaw, left_flaw, rules_flaw, two_fit}
 
-object_left : {A : Type 0} (o : Option shapes.Members) (flaw : Option Flaw) (x : A) → object_or_bad o flaw x ≡ Err LeftOut
+object_left : {A : Type 0} (o : Option shapes.Members) (flaw : Option Flaw) (x : A)
+    → object_or_bad o flaw x ≡ Err LeftOut
     → ((found : shapes.Members) × (o ≡ Some found)) × ((which : MemberName) × (flaw ≡ Some (which, LeftOut)))
 object_left None flaw x e = absurd (let f = e in cc)
 object_left (Some found) None x e = absurd (let f = e in cc)

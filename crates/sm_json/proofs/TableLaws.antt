@@ -59,7 +59,11 @@ ascends (field ∷ fields) h = (
 
 -- every table
 tested : (operation : Operation) → ascend_test (members_of operation) ≡ true
-unfolding spelled may must no_items batch_get_secret_value_members of_secret_members create_secret_members delete_secret_members get_random_password_members get_secret_value_members list_secret_version_ids_members list_secrets_members put_resource_policy_members put_secret_value_members rotate_secret_members tag_resource_members untag_resource_members update_secret_members update_secret_version_stage_members validate_resource_policy_members
+unfolding spelled may must no_items batch_get_secret_value_members of_secret_members create_secret_members
+    delete_secret_members get_random_password_members get_secret_value_members list_secret_version_ids_members
+    list_secrets_members put_resource_policy_members put_secret_value_members rotate_secret_members
+    tag_resource_members untag_resource_members update_secret_members update_secret_version_stage_members
+    validate_resource_policy_members
 tested named.BatchGetSecretValue = refl
 tested named.CancelRotateSecret = refl
 tested named.CreateSecret = refl
@@ -90,7 +94,8 @@ not_itself name h = let e = h in let f = tied_itself nat_list_cmp_total (spelled
 
 not_both : (a b : MemberName) → Before a b → Before b a → ⊥
 not_both a b h k =
-    let back : slice_cmp nat_cmp (spelled a) (spelled b) ≡ ordering_reverse (slice_cmp nat_cmp (spelled b) (spelled a)) =
+    let back : slice_cmp nat_cmp (spelled a) (spelled b)
+    ≡ ordering_reverse (slice_cmp nat_cmp (spelled b) (spelled a)) =
     nat_list_cmp_total.antisymm (spelled a) (spelled b) in
     let e : Less ≡ Greater = sym h ∙ back ∙ ap ordering_reverse k in cc
 
@@ -109,7 +114,8 @@ module _ (json : Data) where
         there = inl refl;
         wrong = is ∙ e;
         least = λ o in_it before. elim in_it [
-          | inl same ↦ absurd (not_itself field.name (subst (λ (f : Field). Before f.name field.name) (sym same) before))
+          | inl same ↦ absurd (not_itself field.name
+              (subst (λ (f : Field). Before f.name field.name) (sym same) before))
           | inr more ↦ absurd (not_both field.name o.name (up.0 o more) before)
         ];
       }
@@ -158,7 +164,8 @@ module _ (json : Data) where
   fit_of [] h o in_it = absurd in_it
   fit_of (field ∷ fields) h o in_it = at_first (λ e later. fit_of fields e o later) (fault_of field json) refl h in_it
     where
-      at_first : (first_fault fields json ≡ None → Has fields o → fault_of o json ≡ None) → (fault : Option Flaw) → fault_of field json ≡ fault → first fault (first_fault fields json) ≡ None
+      at_first : (first_fault fields json ≡ None → Has fields o → fault_of o json ≡ None) → (fault : Option Flaw)
+          → fault_of field json ≡ fault → first fault (first_fault fields json) ≡ None
           → Has (field ∷ fields) o → fault_of o json ≡ None
       at_first more (Some other) is e there = absurd (let f = e in cc)
       at_first more None is e (inl same) = subst (λ (f : Field). fault_of f json ≡ None) same is

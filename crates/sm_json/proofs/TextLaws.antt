@@ -56,7 +56,8 @@ module _ (name : List ℕ) where
 
 -- what was read of a body that isn't empty
 from_read : (empty utf8 : Bool) (read : Option Data) (json : Data) → empty ≡ false
-    → cond empty (Some (shapes.object shapes.no_members)) (option_and_then object_only (cond utf8 read None)) ≡ Some json
+    → cond empty (Some (shapes.object shapes.no_members)) (option_and_then object_only (cond utf8 read None))
+    ≡ Some json
     → option_and_then object_only read ≡ Some json
 from_read true utf8 read json e h = absurd (let f = e in cc)
 from_read false true read json e h = h

@@ -1,5 +1,5 @@
--- A table of members, and the reading of an object by one: AWS JSON 1.1, and the request syntax of each operation in the
--- API Reference.
+-- A table of members, and the reading of an object by one: AWS JSON 1.1, and the request syntax of each operation in
+-- the API Reference.
 use Rattle.std.specs.Prelude.{Bool, true, false, if◌then◌else◌, List, [], ◌∷◌, Option, Some, None, option_map, option_and_then, unwrap_or, Result, Ok, Err}
 use Rattle.std.specs.Result.{result_ok}
 use Rattle.serde_json.specs.Data as shapes

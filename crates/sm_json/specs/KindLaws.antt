@@ -1,5 +1,5 @@
--- What a JSON value has to be for a value of each type of members, in JSON's own words (RFC 8259), and in those of base64
--- (RFC 4648, section 4).
+-- What a JSON value has to be for a value of each type of members, in JSON's own words (RFC 8259), and in those of
+-- base64 (RFC 4648, section 4).
 use Rattle.std.specs.Prelude.{◌≡◌, ℕ, ℤ, pos, neg_ℤ, ◌^◌, ◌==◌, ◌&&◌, nat_lt, nat_le, Bool, ◌↔◌, ◌⊎◌, List, [], ◌∷◌, drop, slice_index, Option, Some, None, Result, Ok, Err, if◌then◌else◌, ⊤}
 use Rattle.base64.specs.Engines.{standard}
 use Rattle.base64.specs.GeneralPurpose.{IsBytes, encode_of}
@@ -23,9 +23,11 @@ TextsAreStrings = (value : Data) (bytes : List ℕ) → (text value ≡ Ok bytes
 abbrev pub TruthsAreTrueAndFalse : Type 0
 TruthsAreTrueAndFalse = (value : Data) (b : Bool) → (truth value ≡ Ok b) ↔ (value ≡ shapes.boolean b)
 
--- the integer of a number's text: whole digits without a point and an exponent, in the range of i64, and no negative zero
+-- the integer of a number's text: whole digits without a point and an exponent, in the range of i64, and no negative
+-- zero
 abbrev pub from_zero : Parts → Option ℤ
-from_zero parts = if is_integer parts && nat_lt (numeral_digits parts) (2 ^ 63) then Some (pos (numeral_digits parts)) else None
+from_zero parts = if is_integer parts && nat_lt (numeral_digits parts) (2 ^ 63)
+    then Some (pos (numeral_digits parts)) else None
 
 abbrev pub below_zero : Parts → Option ℤ
 below_zero parts =
@@ -33,7 +35,8 @@ below_zero parts =
     then Some (neg_ℤ (pos (numeral_digits parts))) else None
 
 abbrev pub integer_of : List ℕ → Option ℤ
-integer_of digits = if slice_index digits 0 == minus then below_zero (scan_numeral (drop 1 digits)) else from_zero (scan_numeral digits)
+integer_of digits = if slice_index digits 0 == minus then below_zero (scan_numeral (drop 1 digits))
+    else from_zero (scan_numeral digits)
 
 abbrev pub IntegersAreWhole : Type 0
 IntegersAreWhole = (digits : List ℕ) (value : Data) → of_json (grammar.number digits) ≡ Some value

@@ -1,6 +1,6 @@
--- What follows from the tables, in words that don't speak of them one after the other: which member is refused, when none
--- is, what of a body counts, and what the text of a body has to do with it (RFC 8259, section 4: members may be repeated,
--- and their order says nothing).
+-- What follows from the tables, in words that don't speak of them one after the other: which member is refused, when
+-- none is, what of a body counts, and what the text of a body has to do with it (RFC 8259, section 4: members may be
+-- repeated, and their order says nothing).
 use Rattle.std.specs.Prelude.{◌≡◌, ℕ, ◌<◌, ◌↔◌, ◌⊎◌, List, [], ◌∷◌, length, Option, Some, None, option_and_then, if◌then◌else◌, ⊤}
 use Rattle.std.specs.Cmp.Lexicographic.{slice_cmp}
 use Rattle.std.specs.Ordering.{nat_cmp}
@@ -87,10 +87,10 @@ LastCounts = (text : List ℕ) (members : grammar.Members) (json : Data) → Spe
     → (name : MemberName) → member_of name json
     ≡ option_and_then unless_null (option_and_then of_json (last_named (spelled name) members))
 
--- bodies that have the same last members of a table ask for the same, in whatever order, beside whatever else, and behind
--- whatever members of the same names
+-- bodies that have the same last members of a table ask for the same, in whatever order, beside whatever else, and
+-- behind whatever members of the same names
 abbrev pub OrderIsNothing : Type 0
-OrderIsNothing = (operation : Operation) (text other : List ℕ) (members others : grammar.Members) (json : Data) (apart : Data)
+OrderIsNothing = (operation : Operation) (text other : List ℕ) (members others : grammar.Members) (json apart : Data)
     → Spells text members json → Spells other others apart
     → ((field : Field) → Has (members_of operation) field
     → last_named (spelled field.name) members ≡ last_named (spelled field.name) others)

@@ -13,7 +13,8 @@ use std::alloc::Global;
 /// The members of GetRandomPassword.
 #[tactic(auto, unfolding(crate::specs::Tables::get_random_password_members, crate::specs::Tables::get_random_password_in))]
 pub fn get_random_password_in(alloc: Global, object: &Value) -> Result<GetRandomPassword, Fault>
-    ensures { Reads result (first_fault get_random_password_members (view object.now)) (get_random_password_in (view object.now)) }
+    ensures { Reads result (first_fault get_random_password_members (view object.now))
+        (get_random_password_in (view object.now)) }
 {
     Ok(GetRandomPassword {
         exclude_characters: optional(alloc, object, MemberName::ExcludeCharacters)?,

@@ -13,7 +13,8 @@ use std::alloc::Global;
 /// The members of PutResourcePolicy.
 #[tactic(auto, unfolding(crate::specs::Tables::put_resource_policy_members, crate::specs::Tables::put_resource_policy_in))]
 pub fn put_resource_policy_in(alloc: Global, object: &Value) -> Result<PutResourcePolicy, Fault>
-    ensures { Reads result (first_fault put_resource_policy_members (view object.now)) (put_resource_policy_in (view object.now)) }
+    ensures { Reads result (first_fault put_resource_policy_members (view object.now))
+        (put_resource_policy_in (view object.now)) }
 {
     Ok(PutResourcePolicy {
         block_public_policy: optional::<bool>(
@@ -32,7 +33,8 @@ pub fn validate_resource_policy_in(
     alloc: Global,
     object: &Value,
 ) -> Result<ValidateResourcePolicy, Fault>
-    ensures { Reads result (first_fault validate_resource_policy_members (view object.now)) (validate_resource_policy_in (view object.now)) }
+    ensures { Reads result (first_fault validate_resource_policy_members (view object.now))
+        (validate_resource_policy_in (view object.now)) }
 {
     Ok(ValidateResourcePolicy {
         resource_policy: required(alloc, object, MemberName::ResourcePolicy)?,

@@ -44,7 +44,8 @@ pub fn list_secret_version_ids_in(
     alloc: Global,
     object: &Value,
 ) -> Result<ListSecretVersionIds, Fault>
-    ensures { Reads result (first_fault list_secret_version_ids_members (view object.now)) (list_secret_version_ids_in (view object.now)) }
+    ensures { Reads result (first_fault list_secret_version_ids_members (view object.now))
+        (list_secret_version_ids_in (view object.now)) }
 {
     Ok(ListSecretVersionIds {
         include_deprecated: optional::<bool>(
@@ -90,7 +91,8 @@ pub fn tag_resource_in(alloc: Global, object: &Value) -> Result<TagResource, Fau
 /// The members of UntagResource.
 #[tactic(auto, unfolding(crate::specs::Tables::untag_resource_members, crate::specs::Tables::untag_resource_in))]
 pub fn untag_resource_in(alloc: Global, object: &Value) -> Result<UntagResource, Fault>
-    ensures { Reads result (first_fault untag_resource_members (view object.now)) (untag_resource_in (view object.now)) }
+    ensures { Reads result (first_fault untag_resource_members (view object.now))
+        (untag_resource_in (view object.now)) }
 {
     Ok(UntagResource {
         secret_id: required(alloc, object, MemberName::SecretId)?,

@@ -19,7 +19,8 @@ pub fn batch_get_secret_value_in(
     alloc: Global,
     object: &Value,
 ) -> Result<BatchGetSecretValue, Fault>
-    ensures { Reads result (first_fault batch_get_secret_value_members (view object.now)) (batch_get_secret_value_in (view object.now)) }
+    ensures { Reads result (first_fault batch_get_secret_value_members (view object.now))
+        (batch_get_secret_value_in (view object.now)) }
 {
     Ok(BatchGetSecretValue {
         filters: optional(alloc, object, MemberName::Filters)?,
@@ -49,7 +50,8 @@ pub fn create_secret_in(alloc: Global, object: &Value) -> Result<CreateSecret, F
 /// The members of GetSecretValue.
 #[tactic(auto, unfolding(crate::specs::Tables::get_secret_value_members, crate::specs::Tables::get_secret_value_in))]
 pub fn get_secret_value_in(alloc: Global, object: &Value) -> Result<GetSecretValue, Fault>
-    ensures { Reads result (first_fault get_secret_value_members (view object.now)) (get_secret_value_in (view object.now)) }
+    ensures { Reads result (first_fault get_secret_value_members (view object.now))
+        (get_secret_value_in (view object.now)) }
 {
     Ok(GetSecretValue {
         secret_id: required(alloc, object, MemberName::SecretId)?,
@@ -61,7 +63,8 @@ pub fn get_secret_value_in(alloc: Global, object: &Value) -> Result<GetSecretVal
 /// The members of PutSecretValue.
 #[tactic(auto, unfolding(crate::specs::Tables::put_secret_value_members, crate::specs::Tables::put_secret_value_in))]
 pub fn put_secret_value_in(alloc: Global, object: &Value) -> Result<PutSecretValue, Fault>
-    ensures { Reads result (first_fault put_secret_value_members (view object.now)) (put_secret_value_in (view object.now)) }
+    ensures { Reads result (first_fault put_secret_value_members (view object.now))
+        (put_secret_value_in (view object.now)) }
 {
     Ok(PutSecretValue {
         client_request_token: optional(alloc, object, MemberName::ClientRequestToken)?,
@@ -93,7 +96,8 @@ pub fn update_secret_version_stage_in(
     alloc: Global,
     object: &Value,
 ) -> Result<UpdateSecretVersionStage, Fault>
-    ensures { Reads result (first_fault update_secret_version_stage_members (view object.now)) (update_secret_version_stage_in (view object.now)) }
+    ensures { Reads result (first_fault update_secret_version_stage_members (view object.now))
+        (update_secret_version_stage_in (view object.now)) }
 {
     Ok(UpdateSecretVersionStage {
         move_to_version_id: optional(alloc, object, MemberName::MoveToVersionId)?,

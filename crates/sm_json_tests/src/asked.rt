@@ -17,7 +17,8 @@ fn asked(alloc: Global, operation: &str, body: &str) -> Result<String, NoMemory>
 static ASKED: [(&'static str, &'static str, &'static str); 94] = [
     (
         "BatchGetSecretValue",
-        "{\"Filters\":[{\"Key\":\"name\",\"Values\":[\"a\",\"b\"]}],\"MaxResults\":5,\"NextToken\":\"n\",\"SecretIdList\":[\"s\"]}",
+        "{\"Filters\":[{\"Key\":\"name\",\"Values\":[\"a\",\"b\"]}],\"MaxResults\":5,\"NextToken\":\"n\",\
+         \"SecretIdList\":[\"s\"]}",
         "Filters=[Key=name Values=[a,b,] ,] MaxResults=5 NextToken=n SecretIdList=[s,] ",
     ),
     ("BatchGetSecretValue", "", ""),
@@ -28,8 +29,11 @@ static ASKED: [(&'static str, &'static str, &'static str); 94] = [
     ),
     (
         "CreateSecret",
-        "{\"ClientRequestToken\":\"t\",\"Description\":\"d\",\"KmsKeyId\":\"k\",\"Name\":\"n\",\"SecretBinary\":\"AP8=\",\"SecretString\":\"v\",\"Tags\":[{\"Key\":\"a\",\"Value\":\"b\"},{\"Key\":\"c\"}]}",
-        "ClientRequestToken=t Description=d KmsKeyId=k Name=n SecretBinary=x0x255 SecretString=v Tags=[Key=a Value=b ,Key=c Value= ,] ",
+        "{\"ClientRequestToken\":\"t\",\"Description\":\"d\",\"KmsKeyId\":\"k\",\"Name\":\"n\",\
+         \"SecretBinary\":\"AP8=\",\"SecretString\":\"v\",\"Tags\":[{\"Key\":\"a\",\
+         \"Value\":\"b\"},{\"Key\":\"c\"}]}",
+        "ClientRequestToken=t Description=d KmsKeyId=k Name=n SecretBinary=x0x255 SecretString=v \
+         Tags=[Key=a Value=b ,Key=c Value= ,] ",
     ),
     ("CreateSecret", "{\"Name\":\"\"}", "Name= "),
     (
@@ -54,13 +58,17 @@ static ASKED: [(&'static str, &'static str, &'static str); 94] = [
     ),
     (
         "GetRandomPassword",
-        "{\"ExcludeCharacters\":\"x\",\"ExcludeLowercase\":true,\"ExcludeNumbers\":true,\"ExcludePunctuation\":true,\"ExcludeUppercase\":true,\"IncludeSpace\":true,\"PasswordLength\":8,\"RequireEachIncludedType\":false}",
-        "ExcludeCharacters=x ExcludeLowercase=true ExcludeNumbers=true ExcludePunctuation=true ExcludeUppercase=true IncludeSpace=true PasswordLength=8 RequireEachIncludedType=false ",
+        "{\"ExcludeCharacters\":\"x\",\"ExcludeLowercase\":true,\"ExcludeNumbers\":true,\
+         \"ExcludePunctuation\":true,\"ExcludeUppercase\":true,\"IncludeSpace\":true,\"PasswordLength\":8,\
+         \"RequireEachIncludedType\":false}",
+        "ExcludeCharacters=x ExcludeLowercase=true ExcludeNumbers=true ExcludePunctuation=true \
+         ExcludeUppercase=true IncludeSpace=true PasswordLength=8 RequireEachIncludedType=false ",
     ),
     (
         "GetRandomPassword",
         "{}",
-        "ExcludeLowercase=false ExcludeNumbers=false ExcludePunctuation=false ExcludeUppercase=false IncludeSpace=false RequireEachIncludedType=true ",
+        "ExcludeLowercase=false ExcludeNumbers=false ExcludePunctuation=false ExcludeUppercase=false \
+         IncludeSpace=false RequireEachIncludedType=true ",
     ),
     (
         "GetResourcePolicy",
@@ -89,7 +97,8 @@ static ASKED: [(&'static str, &'static str, &'static str); 94] = [
     ),
     (
         "PutSecretValue",
-        "{\"ClientRequestToken\":\"t\",\"SecretBinary\":\"\",\"SecretId\":\"s\",\"SecretString\":\"v\",\"VersionStages\":[]}",
+        "{\"ClientRequestToken\":\"t\",\"SecretBinary\":\"\",\"SecretId\":\"s\",\"SecretString\":\"v\",\
+         \"VersionStages\":[]}",
         "ClientRequestToken=t SecretBinary= SecretId=s SecretString=v VersionStages=[] ",
     ),
     (
@@ -99,7 +108,8 @@ static ASKED: [(&'static str, &'static str, &'static str); 94] = [
     ),
     (
         "RotateSecret",
-        "{\"ClientRequestToken\":\"t\",\"RotateImmediately\":false,\"RotationLambdaARN\":\"r\",\"RotationRules\":{\"AutomaticallyAfterDays\":30},\"SecretId\":\"s\"}",
+        "{\"ClientRequestToken\":\"t\",\"RotateImmediately\":false,\"RotationLambdaARN\":\"r\",\
+         \"RotationRules\":{\"AutomaticallyAfterDays\":30},\"SecretId\":\"s\"}",
         "ClientRequestToken=t RotateImmediately=false RotationLambdaARN=r RotationRules=rules Days=30  SecretId=s ",
     ),
     (
@@ -119,7 +129,8 @@ static ASKED: [(&'static str, &'static str, &'static str); 94] = [
     ),
     (
         "UpdateSecret",
-        "{\"ClientRequestToken\":\"t\",\"Description\":\"d\",\"KmsKeyId\":\"k\",\"SecretBinary\":\"AA==\",\"SecretId\":\"s\",\"SecretString\":\"v\"}",
+        "{\"ClientRequestToken\":\"t\",\"Description\":\"d\",\"KmsKeyId\":\"k\",\"SecretBinary\":\"AA==\",\
+         \"SecretId\":\"s\",\"SecretString\":\"v\"}",
         "ClientRequestToken=t Description=d KmsKeyId=k SecretBinary=x0 SecretId=s SecretString=v ",
     ),
     (

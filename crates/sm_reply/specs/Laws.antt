@@ -46,7 +46,8 @@ pub record ShowsExactly (list : List Given) : Type 0 where
       → get_member name (members_of list) ≡ None
 
 abbrev pub RepliesAscend : Type 0
-RepliesAscend = (reply : Reply) (list : List Given) → reply_members reply ≡ Some list → Ascends (object (members_of list))
+RepliesAscend = (reply : Reply) (list : List Given) → reply_members reply ≡ Some list
+    → Ascends (object (members_of list))
 
 abbrev pub RepliesShowExactly : Type 0
 RepliesShowExactly = (reply : Reply) (list : List Given) → reply_members reply ≡ Some list → ShowsExactly list
