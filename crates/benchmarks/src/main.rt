@@ -1,8 +1,12 @@
 //! Work to be timed from outside: `benchmarks table 100` makes so many secrets in a table, and says how many there are.
+//! `benchmarks open FOLDER` opens the store of a folder, `benchmarks copy FROM TO` adds its entries to another folder's
+//! store, and both say how many entries there are.
 #![tactic(auto)]
 
 ghost use Rattle.std.specs.Prelude.{◌≡◌, IfOk};
 ghost use Rattle.sm_versions.specs.Sound.{IsArnOf};
+
+mod stores;
 
 use sm_model::{
     Arn, Change, Copied, List, Moment, Name, NoMemory, ReadRefused, Rotation, RowList, SecretId,
@@ -13,21 +17,22 @@ use std::alloc::Global;
 use std::env::Env;
 use std::process::ExitCode;
 use std::{env, io};
+use stores::{copy, count};
 
 const NOW: Moment = Moment(1_700_000_000);
 
 fn main(rt: HostRuntime) -> ExitCode {
     let made = match words(&rt, rt.alloc()) {
-        Ok(words) => run(rt.alloc(), words.as_slice()),
+        Ok(words) => run(&rt, words.as_slice()),
         Err(_) => None,
     };
     match made {
-        Some(count) => {
-            let _ = println!(rt; "{count} secrets");
+        Some((count, things)) => {
+            let _ = println!(rt; "{count} {things}");
             ExitCode::SUCCESS
         }
         None => {
-            let _ = eprintln!(rt; "benchmarks: table <count>");
+            let _ = eprintln!(rt; "benchmarks: table <count>, open <folder> or copy <from> <to>");
             ExitCode::from(2)
         }
     }
@@ -42,14 +47,31 @@ fn words(rt: &(impl Env + AllocGlobal), alloc: Global) -> io::Result<Vec<String>
     Ok(words)
 }
 
-/// How many secrets were made, or nothing where the words or the memory did not do.
-fn run(alloc: Global, words: &[String]) -> Option<usize> {
+/// How many secrets were made or entries found, or nothing where the words, the disk or the memory did not do.
+fn run(rt: &HostRuntime, words: &[String]) -> Option<(usize, &'static str)> {
     match words {
-        [work, count] if work.as_str() == "table" => match count.as_str().parse::<u32>() {
-            Ok(count) => fill(alloc, count).ok(),
-            Err(_) => None,
-        },
+        [work, count] if work.as_str() == "table" => secrets(fill_to(rt.alloc(), count.as_str())),
+        [work, folder] if work.as_str() == "open" => entries(count(rt, folder.as_str())),
+        [work, from, to] if work.as_str() == "copy" => {
+            entries(copy(rt, from.as_str(), to.as_str()))
+        }
         _ => None,
+    }
+}
+
+fn secrets(count: Option<usize>) -> Option<(usize, &'static str)> {
+    Some((count?, "secrets"))
+}
+
+fn entries(count: Option<usize>) -> Option<(usize, &'static str)> {
+    Some((count?, "entries"))
+}
+
+/// How many secrets a table has of as many as a word says.
+fn fill_to(alloc: Global, word: &str) -> Option<usize> {
+    match word.parse::<u32>() {
+        Ok(count) => fill(alloc, count).ok(),
+        Err(_) => None,
     }
 }
 
