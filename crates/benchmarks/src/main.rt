@@ -1,13 +1,17 @@
 //! Work to be timed from outside: `benchmarks table 100` makes so many secrets in a table, and says how many there are;
-//! `benchmarks pieces 100` reads a message with a body of so many bytes, which come one by one, and says how many.
+//! `benchmarks pieces 100` reads a message with a body of so many bytes, which come one by one, and says how many;
+//! `benchmarks open FOLDER` opens the store of a folder, `benchmarks copy FROM TO` adds its entries to another folder's
+//! store, and both say how many entries there are.
 #![tactic(auto)]
 
 mod pieces;
+mod stores;
 
 ghost use Rattle.std.specs.Prelude.{◌≡◌, IfOk};
 ghost use Rattle.sm_versions.specs.Sound.{IsArnOf};
 
 use crate::pieces::body_length;
+use crate::stores::{copy, count};
 use sm_model::limits::{NO_SERIAL, SECRETS_LIMIT};
 use sm_model::{
     Arn, Change, List, Moment, Name, NoMemory, ReadRefused, Rotation, RowList, SecretRow,
@@ -22,7 +26,7 @@ const NOW: Moment = Moment(1_700_000_000);
 
 fn main(rt: HostRuntime) -> ExitCode {
     let made = match words(&rt, rt.alloc()) {
-        Ok(words) => run(rt.alloc(), words.as_slice()),
+        Ok(words) => run(&rt, words.as_slice()),
         Err(_) => None,
     };
     match made {
@@ -31,7 +35,9 @@ fn main(rt: HostRuntime) -> ExitCode {
             ExitCode::SUCCESS
         }
         None => {
-            let _ = eprintln!(rt; "benchmarks: table <count> | pieces <count>");
+            let _ = eprintln!(rt;
+                "benchmarks: table <count>, pieces <count>, open <folder> or copy <from> <to>"
+            );
             ExitCode::from(2)
         }
     }
@@ -46,31 +52,51 @@ fn words(rt: &(impl Env + AllocGlobal), alloc: Global) -> io::Result<Vec<String>
     Ok(words)
 }
 
-/// How much was made, and of what, or nothing where the words or the memory did not do.
-fn run(alloc: Global, words: &[String]) -> Option<(usize, &'static str)> {
+/// How much was made or found, and of what, or nothing where the words, the disk or the memory did not do.
+fn run(rt: &HostRuntime, words: &[String]) -> Option<(usize, &'static str)> {
     match words {
-        [work, count] => match count.as_str().parse::<u32>() {
-            Ok(count) => done(alloc, work.as_str(), count),
-            Err(_) => None,
-        },
+        [work, number] if work.as_str() == "table" => secrets(fill_to(rt.alloc(), number.as_str())),
+        [work, number] if work.as_str() == "pieces" => bytes(read_to(rt.alloc(), number.as_str())),
+        [work, folder] if work.as_str() == "open" => entries(count(rt, folder.as_str())),
+        [work, from, to] if work.as_str() == "copy" => {
+            entries(copy(rt, from.as_str(), to.as_str()))
+        }
         _ => None,
     }
 }
 
-/// How much was made of this work.
-fn done(alloc: Global, work: &str, count: u32) -> Option<(usize, &'static str)> {
-    let (made, things) = match work {
-        "table" => (fill(alloc, count).ok(), "secrets"),
-        "pieces" => (read(alloc, count), "bytes"),
-        _ => (None, ""),
-    };
-    Some((made?, things))
+fn secrets(count: Option<usize>) -> Option<(usize, &'static str)> {
+    Some((count?, "secrets"))
+}
+
+fn bytes(count: Option<usize>) -> Option<(usize, &'static str)> {
+    Some((count?, "bytes"))
+}
+
+fn entries(count: Option<usize>) -> Option<(usize, &'static str)> {
+    Some((count?, "entries"))
+}
+
+/// How many bytes the body of a message in pieces has, of as many as a word says.
+fn read_to(alloc: Global, word: &str) -> Option<usize> {
+    match word.parse::<u32>() {
+        Ok(count) => read(alloc, count),
+        Err(_) => None,
+    }
 }
 
 /// How many bytes the body of a message in pieces has.
 fn read(alloc: Global, count: u32) -> Option<usize> {
     match body_length(alloc, count as usize) {
         Ok(length) => length,
+        Err(_) => None,
+    }
+}
+
+/// How many secrets a table has of as many as a word says.
+fn fill_to(alloc: Global, word: &str) -> Option<usize> {
+    match word.parse::<u32>() {
+        Ok(count) => fill(alloc, count).ok(),
         Err(_) => None,
     }
 }
