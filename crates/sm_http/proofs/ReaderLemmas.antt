@@ -1,6 +1,7 @@
 -- What a reader finds in the bytes ahead.
-use Rattle.std.proofs.Common.{◌≡◌, ℕ, ◌+◌, ◌<◌, ◌≤◌, ◌==◌, ◌||◌, MatchOption, List, ◌++◌, length, drop, take, map, Option, Some, None, ap, sym, ◌∙◌, subst, arith, codes, append_assoc}
+use Rattle.std.proofs.Common.{◌≡◌, ℕ, ◌+◌, ◌<◌, ◌≤◌, ◌==◌, ◌||◌, MatchOption, List, ◌++◌, length, drop, take, map, Option, Some, None, refl, ap, sym, ◌∙◌, subst, arith, inl, inr, codes, append_assoc}
 use Rattle.std.proofs.lemmas.List.{length-take, length-drop}
+use Rattle.std.proofs.lemmas.Bool.{cases_lt}
 use Rattle.std.specs.Io.KnownBytes.{prepend_known}
 use Rattle.sm_io.proofs.Known.{prepend_known-append}
 use Rattle.httparse.specs.declared.spans.HeaderSpan.{HeaderSpan}
@@ -17,9 +18,16 @@ use Rattle.sm_http.specs.Messages.{message_of, is_closing, asks_to_close, IsMess
 use Rattle.sm_http.specs.Fronts.{HasHead, IsWholeHead}
 use Rattle.sm_http.specs.Ahead.{Moves}
 use Rattle.sm_http.specs.Reading.{ReaderState, content, stopped, StopsAt, Stops, Answers, Reads}
-use Rattle.sm_http.specs.Waiting.{IsCopy, Finds, FindsMore}
+use Rattle.sm_http.specs.Waiting.{LacksHead, IsCopy, Finds, FindsMore}
 use Rattle.sm_http.proofs.MessageLemmas.{cut_body, whole_message}
 use Rattle.sm_http.proofs.MoreBytesLemmas.{begins-append, begun}
+use Rattle.sm_http.proofs.AheadLemmas.{moves_none}
+
+-- A take is made where no head is whole. So where one is in the bytes that were there, none was made.
+pub lacks_none : {S : Type 0} (first ahead : List ℕ) (source source' : S)
+    → ((LacksHead first → ⊥) → (source ≡ source') × (ahead ≡ first)) → LacksHead ahead → {P : Type 0}
+    → (LacksHead first → ⊥) → P
+lacks_none first ahead source source' still lacks there = absurd (there (subst LacksHead (still there).1 lacks))
 
 -- the head stays with more bytes
 whole_head-append : (bytes more text : List ℕ) (spans : RequestSpans) (headers : List HeaderSpan) (size : ℕ)
@@ -69,6 +77,17 @@ module _ (bytes seen new : List ℕ) (end : ℕ) (spans : RequestSpans) (headers
   -- a head has bytes
   pub awaited_some : 0 < length new
   awaited_some = begun new (take end bytes) stays.head.head stays.head.begins
+
+-- a message whose bytes are not partial is there
+pub awaited_there : (bytes seen : List ℕ) (end : ℕ) (spans : RequestSpans) (headers : List HeaderSpan) (size : ℕ)
+    → seen ≡ bytes → end ≤ length bytes → IsWholeHead seen (take end seen) spans headers size → (IsPartial bytes → ⊥)
+    → end + size ≤ length bytes
+awaited_there bytes seen end spans headers size same inside w whole =
+    elim (cases_lt (length bytes) (end + size)) [
+      | inl short ↦ absurd (whole (awaited_partial bytes seen bytes end spans headers size None None same inside w
+          (moves_none bytes bytes None refl) short))
+      | inr there ↦ there
+    ]
 
 -- the parts of a message are copied
 copied : (parts : Parts) (at : ℕ) (m : Message) (bytes : List ℕ)

@@ -3,10 +3,11 @@ ghost use Rattle.std.specs.Prelude.{◌≡◌, ℕ, ◌+◌, ◌<◌, ◌≤◌,
 ghost use Rattle.std.specs.Io.KnownBytes.{IsAtEnd};
 ghost use Rattle.sm_base.specs.Faults.{Rose};
 ghost use Rattle.sm_http.specs.Heads.{head_length};
+ghost use Rattle.sm_http.specs.Messages.{IsPartial};
 ghost use Rattle.sm_http.specs.Ahead.{Moves, OnMore, OnNoMore, OnMoreEnd, OnMoreFailed};
 ghost use Rattle.sm_http.specs.Fronts.{IsWholeHead};
 ghost use Rattle.sm_http.specs.Reading.{Reads, OnStreamEnd, OnReadFault};
-ghost use Rattle.sm_http.specs.Waiting.{IsSought, OnSoughtEnd, OnSoughtFailed, Finds, FindsMore, IfStopped, OnStopEnd, OnStopFault};
+ghost use Rattle.sm_http.specs.Waiting.{LacksHead, IsSought, OnSoughtEnd, OnSoughtFailed, Finds, FindsMore, IfStopped, OnStopEnd, OnStopFault};
 
 use crate::ahead::{Ahead, More};
 use crate::answer::{Message, Next, Stop, stopped};
@@ -47,6 +48,7 @@ fn seek_head<S: Source>(ahead: &mut Ahead, source: &mut S) -> Sought
     ensures failed { OnSoughtFailed result (Rose (S.source_faults source.old) (S.source_faults source.new)) }
     ensures later { S.source_faults source.old ≤ S.source_faults source.new }
     ensures beside { S.beside_source source.new ≡ S.beside_source source.old }
+    ensures still { (LacksHead ahead.old → ⊥) → (source.new ≡ source.old) × (ahead.new ≡ ahead.old) }
 {
     let mut passed = 0;
     while ahead.len() < HEAD_LIMIT {
@@ -77,6 +79,7 @@ fn await_bytes<S: Source>(ahead: &mut Ahead, source: &mut S, count: usize) -> Mo
     ensures failed { OnMoreFailed result (Rose (S.source_faults source.old) (S.source_faults source.new)) }
     ensures later { S.source_faults source.old ≤ S.source_faults source.new }
     ensures beside { S.beside_source source.new ≡ S.beside_source source.old }
+    ensures still { count ≤ length ahead.old → source.new ≡ source.old }
 {
     while ahead.len() < count {
         match ahead.take_more(source) {
@@ -136,6 +139,7 @@ fn find_body<S: Source>(
         (Rose (S.source_faults source.old) (S.source_faults source.new))) }
     ensures later { S.source_faults source.old ≤ S.source_faults source.new }
     ensures beside { S.beside_source source.new ≡ S.beside_source source.old }
+    ensures still { (IsPartial ahead.old → ⊥) → source.new ≡ source.old }
 {
     let mut room = field_room();
     match read_head(ahead.as_slice(), end, &mut room) {
@@ -157,6 +161,7 @@ fn find_message<S: Source>(alloc: Global, ahead: &mut Ahead, at: u64, source: &m
         (Rose (S.source_faults source.old) (S.source_faults source.new))) }
     ensures later { S.source_faults source.old ≤ S.source_faults source.new }
     ensures beside { S.beside_source source.new ≡ S.beside_source source.old }
+    ensures still { (IsPartial ahead.old → ⊥) → source.new ≡ source.old }
 {
     match seek_head(ahead, source) {
         Sought::Head(end) => find_body(alloc, ahead, at, source, end),
@@ -203,8 +208,8 @@ impl Reader {
         }
     }
 
-    /// The next message of the source, or why there is none. After any answer but a message it answers that again, and
-    /// takes nothing.
+    /// The next message of the source, or why there is none. It takes only where no message is whole and there is no
+    /// fault. After any answer but a message it answers that again, and takes nothing.
     pub fn next<S: Source>(&mut self, source: &mut S) -> Next
         ensures reads { Reads self.old result self.new (S.left source.old) (S.left source.new) }
         ensures again { IfSome self.old.ended (λ why. source.new ≡ source.old) }
@@ -213,6 +218,7 @@ impl Reader {
             (Rose (S.source_faults source.old) (S.source_faults source.new))) }
         ensures later { S.source_faults source.old ≤ S.source_faults source.new }
         ensures beside { S.beside_source source.new ≡ S.beside_source source.old }
+        ensures waits { (IsPartial self.old.ahead → ⊥) → source.new ≡ source.old }
     {
         match self.ended {
             Some(why) => stopped(why),

@@ -7,6 +7,7 @@ invariant-loop-ahead g l =
     Moves l.initial.ahead l.ahead (g.S.Source.left l.initial.source) (g.S.Source.left l.source)
     × (g.S.Source.source_faults l.initial.source ≤ g.S.Source.source_faults l.source)
     × (g.S.Source.beside_source l.source ≡ g.S.Source.beside_source l.initial.source)
+    × (l.count ≤ length l.initial.ahead → l.source ≡ l.initial.source)
 
 abbrev pub decreases-loop-ahead : goal.decreases-loop-ahead
 decreases-loop-ahead g l = l.count - length l.ahead

@@ -2,7 +2,7 @@ use Rattle.std.proofs.Common.{arith, refl, subst}
 use Rattle.sm_http.specs.declared.answer.Stop.TheVariants as stop
 use Rattle.sm_http.specs.Messages.{StartsBadly}
 use Rattle.sm_http.proofs.AheadLemmas.{moves_none}
-use Rattle.sm_http.proofs.ReaderLemmas.{awaited_len, awaited_head, awaited_partial, awaited_some, found_stop}
+use Rattle.sm_http.proofs.ReaderLemmas.{awaited_len, awaited_head, awaited_partial, awaited_some, awaited_there, found_stop}
 use Rattle.sm_http.proofs.reader.find_body.Goals as goal
 
 pub take_message-requires-clause-whole : goal.take_message-requires-clause-whole
@@ -33,3 +33,23 @@ pub returns-in-Bad-clause-found : goal.returns-in-Bad-clause-found
 returns-in-Bad-clause-found g c =
     found_stop _ _ c.args.at (stop.Bad c.in-Bad.kind c.args.at) _ _ (moves_none _ _ _ refl)
     (refl, subst (λ bytes. StartsBadly bytes c.in-Bad.kind) c.as_slice.ensures c.in-Bad.ensures)
+
+pub returns-in-Got-clause-still : goal.returns-in-Got-clause-still
+returns-in-Got-clause-still g c =
+    λ whole. c.await_bytes.ensures.still
+    (awaited_there _ _ _ _ _ _ c.as_slice.ensures c.requires.within c.in-Whole.ensures.0 whole)
+
+pub returns-in-End-clause-still : goal.returns-in-End-clause-still
+returns-in-End-clause-still g c =
+    λ whole. c.await_bytes.ensures.still
+    (awaited_there _ _ _ _ _ _ c.as_slice.ensures c.requires.within c.in-Whole.ensures.0 whole)
+
+pub returns-in-Failed-clause-still : goal.returns-in-Failed-clause-still
+returns-in-Failed-clause-still g c =
+    λ whole. c.await_bytes.ensures.still
+    (awaited_there _ _ _ _ _ _ c.as_slice.ensures c.requires.within c.in-Whole.ensures.0 whole)
+
+pub returns-in-Memory-clause-still : goal.returns-in-Memory-clause-still
+returns-in-Memory-clause-still g c =
+    λ whole. c.await_bytes.ensures.still
+    (awaited_there _ _ _ _ _ _ c.as_slice.ensures c.requires.within c.in-Whole.ensures.0 whole)
