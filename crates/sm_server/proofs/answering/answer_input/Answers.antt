@@ -1,7 +1,8 @@
 use Rattle.std.proofs.Common.{None, refl}
+use Rattle.sm_account.specs.Accounts.{disk}
 use Rattle.sm_server.specs.Outside.{Outside}
 use Rattle.sm_server.proofs.EndLemmas.{idle, passed_idle}
-use Rattle.sm_server.proofs.run.answer_input.Goals as goal
+use Rattle.sm_server.proofs.answering.answer_input.Goals as goal
 
 pub returns-in-Err-NoStream-clause-answered : goal.returns-in-Err-NoStream-clause-answered
 returns-in-Err-NoStream-clause-answered g c =
@@ -13,13 +14,13 @@ returns-in-Err-NoStream-clause-answered g c =
       counts = record {
         source = 0;
         sink = g.K.Sink.sink_faults c.args.sink.now;
-        random =
-            g.W.Words.faults c.args.random.now;
+        disk = g.D.Disk.faults (disk c.args.account.now);
+        random = g.W.Words.faults c.args.random.now;
       };
     } in (
       idle before before,
       passed_idle before before (record { taken = refl; readings = refl; drawn = refl }),
-      (rw c.in-Err-NoStream.field-0-is at c.in-Err-NoStream.ensures.none, (refl, refl)),
+      (rw c.in-Err-NoStream.field-0-is at c.in-Err-NoStream.ensures.none, (c.requires, refl, refl)),
     )
 
 pub returns-in-Err-Memory-clause-answered : goal.returns-in-Err-Memory-clause-answered
@@ -32,11 +33,11 @@ returns-in-Err-Memory-clause-answered g c =
       counts = record {
         source = 0;
         sink = g.K.Sink.sink_faults c.args.sink.now;
-        random =
-            g.W.Words.faults c.args.random.now;
+        disk = g.D.Disk.faults (disk c.args.account.now);
+        random = g.W.Words.faults c.args.random.now;
       };
     } in (
       idle before before,
       passed_idle before before (record { taken = refl; readings = refl; drawn = refl }),
-      (refl, refl),
+      (c.requires, refl, refl),
     )
