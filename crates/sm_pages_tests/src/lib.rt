@@ -1,0 +1,5 @@
+//! Tables of passwords.
+#![tactic(auto)]
+
+#[cfg(test)]
+mod passwords;
