@@ -1,4 +1,6 @@
 //! Passwords of drawn bytes, and why there is none.
+ghost use Rattle.std.specs.Prelude.{◌≡◌, ◌*◌, IfOk, vec_len};
+
 use sm_model::{NoMemory, Text};
 use sm_password::{PasswordAsk, PasswordRefused, password};
 use std::alloc::Global;
@@ -56,7 +58,9 @@ fn asked(case: &Case) -> PasswordAsk {
 }
 
 /// Four drawn bytes for each character.
-fn drawn(alloc: Global, case: &Case) -> Result<Vec<u8>, NoMemory> {
+fn drawn(alloc: Global, case: &Case) -> Result<Vec<u8>, NoMemory>
+    ensures { IfOk result (λ drawn. vec_len drawn ≡ 4 * case.now.0) }
+{
     let mut drawn = Vec::new(alloc);
     let mut byte = case.4;
     for _ in 0..4 * u64::from(case.0) {

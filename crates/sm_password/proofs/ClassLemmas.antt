@@ -14,7 +14,8 @@ use Rattle.sm_password.specs.Classes.{characters_of, is_left, kept, unless_empty
 -- ---- the characters of a class
 
 -- a class has the characters that are in it in words of their own
-is_member_below : (class : Class) → agree_below (is_in_class class) (λ c. list_any (λ e. e == c) (characters_of class)) 128 ≡ true
+is_member_below : (class : Class) → agree_below (is_in_class class) (λ c. list_any (λ e. e == c)
+    (characters_of class)) 128 ≡ true
 unfolding characters_of
 is_member_below Lower = refl
 is_member_below Upper = refl
@@ -47,7 +48,8 @@ all_three : (x y z : Bool) → x ≡ true → y ≡ true → z ≡ true → (x &
 all_three x y z p q r = rw (p, q, r)
 
 -- what is kept of a class that is asked for may stand in a password
-pub All-kept : (ask : PasswordAsk) (class : Class) → is_asked ask class ≡ true → All (λ c. is_asked_in ask c class ≡ true) (kept ask.exclude class)
+pub All-kept : (ask : PasswordAsk) (class : Class) → is_asked ask class ≡ true →
+    All (λ c. is_asked_in ask c class ≡ true) (kept ask.exclude class)
 unfolding kept
 All-kept ask class asked =
     let inside = All-filter (is_left ask.exclude) (λ c. is_in_class class c ≡ true) (characters_of class)
@@ -56,7 +58,8 @@ All-kept ask class asked =
     λ k d below. all_three _ _ _ asked (inside k d below) (left k d below)
 
 -- a character of the class that is not excluded is kept
-filter_has : (p : ℕ → Bool) (c : ℕ) (xs : List ℕ) → list_any (λ e. e == c) xs ≡ true → p c ≡ true → 0 < length (filter p xs)
+filter_has : (p : ℕ → Bool) (c : ℕ) (xs : List ℕ) → list_any (λ e. e == c) xs ≡ true → p c ≡ true →
+    0 < length (filter p xs)
 filter_has p c [] any passes = absurd (false≢true any)
 filter_has p c (x ∷ xs) any passes =
     elim (eqb_tells x c) [
@@ -67,7 +70,8 @@ filter_has p c (x ∷ xs) any passes =
           grind (arith, rest)
     ]
 
-pub kept_has : (exclude : List ℕ) (class : Class) (c : ℕ) → is_in_class class c ≡ true → is_left exclude c ≡ true → 0 < length (kept exclude class)
+pub kept_has : (exclude : List ℕ) (class : Class) (c : ℕ) → is_in_class class c ≡ true → is_left exclude c ≡ true →
+    0 < length (kept exclude class)
 unfolding kept
 kept_has exclude class c inside left =
     let member = sym (agree_below_at (is_in_class class) (λ e. list_any (λ f. f == e) (characters_of class)) 128 c
@@ -98,39 +102,46 @@ concat_push [] xs = append-nil xs
 concat_push (ys ∷ lists) xs = simp (concat_push lists xs, append_assoc)
 
 -- one class more
-pub concat_more : (lists : List (List ℕ)) (i : ℕ) (d : List ℕ) → i < length lists → concat (take (i + 1) lists) ≡ concat (take i lists) ++ get_or lists i d
+pub concat_more : (lists : List (List ℕ)) (i : ℕ) (d : List ℕ) → i < length lists →
+    concat (take (i + 1) lists) ≡ concat (take i lists) ++ get_or lists i d
 concat_more lists i d within = rw (take_more lists i d within) (concat_push (take i lists) (get_or lists i d))
 
 All-unless_empty : (Q : List ℕ → Type 0) (xs : List ℕ) → (0 < length xs → Q xs) → All Q (unless_empty xs)
 All-unless_empty Q [] holds = All-nil Q
 All-unless_empty Q (x ∷ xs) holds = All-cons Q (x ∷ xs) [] (holds (omega arith)) (All-nil Q)
 
-All-asked : (Q : List ℕ → Type 0) (exclude : List ℕ) (asked : Bool) (class : Class) → (asked ≡ true → 0 < length (kept exclude class) → Q (kept exclude class)) → All Q (asked_class exclude asked class)
+All-asked : (Q : List ℕ → Type 0) (exclude : List ℕ) (asked : Bool) (class : Class) → (asked ≡ true →
+    0 < length (kept exclude class) → Q (kept exclude class)) → All Q (asked_class exclude asked class)
 All-asked Q exclude true class holds = All-unless_empty Q (kept exclude class) (holds refl)
 All-asked Q exclude false class holds = All-nil Q
 
 -- what is so of each class that is asked for and has a character is so of each of the classes
-pub All-classes : (Q : List ℕ → Type 0) (ask : PasswordAsk) → ((class : Class) → is_asked ask class ≡ true → 0 < length (kept ask.exclude class) → Q (kept ask.exclude class)) → All Q (classes ask)
+pub All-classes : (Q : List ℕ → Type 0) (ask : PasswordAsk) → ((class : Class) → is_asked ask class ≡ true →
+    0 < length (kept ask.exclude class) → Q (kept ask.exclude class)) → All Q (classes ask)
 All-classes Q ask holds =
     let of = λ (asked : Bool) (class : Class). asked_class ask.exclude asked class in
     All-append Q (of ask.lower Lower) _ (All-asked Q ask.exclude ask.lower Lower (holds Lower))
     (All-append Q (of ask.upper Upper) _ (All-asked Q ask.exclude ask.upper Upper (holds Upper))
     (All-append Q (of ask.digits Digits) _ (All-asked Q ask.exclude ask.digits Digits (holds Digits))
-    (All-append Q (of ask.punctuation Punctuation) _ (All-asked Q ask.exclude ask.punctuation Punctuation (holds Punctuation))
+    (All-append Q (of ask.punctuation Punctuation) _ (All-asked Q ask.exclude ask.punctuation Punctuation
+    (holds Punctuation))
     (All-asked Q ask.exclude ask.space Space (holds Space)))))
 
 Contains-unless_empty : (xs : List ℕ) → 0 < length xs → Contains (unless_empty xs) xs
 Contains-unless_empty [] some = absurd (omega arith)
 Contains-unless_empty (x ∷ xs) some = (0, omega arith, refl)
 
-Contains-asked : (exclude : List ℕ) (asked : Bool) (class : Class) → asked ≡ true → 0 < length (kept exclude class) → Contains (asked_class exclude asked class) (kept exclude class)
+Contains-asked : (exclude : List ℕ) (asked : Bool) (class : Class) → asked ≡ true →
+    0 < length (kept exclude class) → Contains (asked_class exclude asked class) (kept exclude class)
 Contains-asked exclude true class e some = Contains-unless_empty (kept exclude class) some
 Contains-asked exclude false class e some = absurd (false≢true e)
 
 -- a class that is asked for and has a character is one of the classes
-pub Contains-classes : (ask : PasswordAsk) (class : Class) → is_asked ask class ≡ true → 0 < length (kept ask.exclude class) → Contains (classes ask) (kept ask.exclude class)
+pub Contains-classes : (ask : PasswordAsk) (class : Class) → is_asked ask class ≡ true →
+    0 < length (kept ask.exclude class) → Contains (classes ask) (kept ask.exclude class)
 Contains-classes ask Lower e some =
-    Contains-append_left (asked_class ask.exclude ask.lower Lower) _ _ (Contains-asked ask.exclude ask.lower Lower e some)
+    Contains-append_left (asked_class ask.exclude ask.lower Lower) _ _
+    (Contains-asked ask.exclude ask.lower Lower e some)
 Contains-classes ask Upper e some =
     Contains-append_right (asked_class ask.exclude ask.lower Lower) _ _
     (Contains-append_left (asked_class ask.exclude ask.upper Upper) _ _

@@ -7,7 +7,8 @@ use Rattle.std.specs.List.{All, Contains, insert}
 use Rattle.sm_password.specs.Passwords.{inserted}
 
 -- one step, as a loop has it
-pub inserted_more : (character place : ℕ → ℕ) (k : ℕ) (text : List ℕ) → text ≡ inserted character place k → insert text (place k) (character k) ≡ inserted character place (k + 1)
+pub inserted_more : (character place : ℕ → ℕ) (k : ℕ) (text : List ℕ) → text ≡ inserted character place k →
+    insert text (place k) (character k) ≡ inserted character place (k + 1)
 inserted_more character place k text e = rw (add-one, e)
 
 -- one character more
@@ -24,7 +25,8 @@ length_inserted character place (suc n) =
     omega (arith, before, length_inserted_one (inserted character place n) (place n) (character n))
 
 -- what is so of each character that is inserted is so of each in the text
-pub All-inserted : (P : ℕ → Type 0) (character place : ℕ → ℕ) (n : ℕ) → ((k : ℕ) → k < n → P (character k)) → All P (inserted character place n)
+pub All-inserted : (P : ℕ → Type 0) (character place : ℕ → ℕ) (n : ℕ) → ((k : ℕ) → k < n → P (character k)) →
+    All P (inserted character place n)
 All-inserted P character place zero holds = All-nil P
 All-inserted P character place (suc n) holds =
     let before = All-inserted P character place n (λ k below. holds k (omega arith)) in
@@ -48,13 +50,15 @@ Contains-inserted_one : (xs : List ℕ) (i y : ℕ) → Contains (insert xs i y)
 Contains-inserted_one xs i y = Contains-append_right (take i xs) (y ∷ drop i xs) y (0, omega arith, refl)
 
 -- each character that was inserted is in the text
-pub Contains-inserted : (character place : ℕ → ℕ) (n k : ℕ) → k < n → Contains (inserted character place n) (character k)
+pub Contains-inserted : (character place : ℕ → ℕ) (n k : ℕ) → k < n →
+    Contains (inserted character place n) (character k)
 Contains-inserted character place zero k below = absurd (omega arith)
 Contains-inserted character place (suc n) k below =
     elim (cases_lt k n) [
       | inl earlier ↦ Contains-insert (inserted character place n) (place n) (character n) (character k)
           (Contains-inserted character place n k earlier)
       | inr last ↦ let same : k ≡ n = omega arith in
-          subst (λ (m : ℕ). Contains (insert (inserted character place n) (place n) (character n)) (character m)) (sym same)
+          subst (λ (m : ℕ). Contains (insert (inserted character place n) (place n) (character n)) (character m))
+          (sym same)
           (Contains-inserted_one (inserted character place n) (place n) (character n))
     ]

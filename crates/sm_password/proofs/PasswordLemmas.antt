@@ -21,14 +21,16 @@ All-concat P (xs ∷ lists) holds =
     All-append P xs (concat lists) (All-head (All P) xs lists holds)
     (All-concat P lists (All-tail (All P) xs lists holds))
 
-All-character_at : (P : ℕ → Type 0) (class : List ℕ) (number : ℕ) → 0 < length class → All P class → P (character_at class number)
+All-character_at : (P : ℕ → Type 0) (class : List ℕ) (number : ℕ) → 0 < length class → All P class →
+    P (character_at class number)
 All-character_at P class number some holds =
     let below : number % length class < length class = omega arith in
     All-get_or P class (number % length class) 0 below holds
 
 -- no more classes are required than there are
 pub required_within : (ask : PasswordAsk) → required ask ≤ length (classes ask)
-required_within ask = cond_both ask.each (length (classes ask)) 0 (λ n. n ≤ length (classes ask)) (λ _. omega arith) (λ _. omega arith)
+required_within ask = cond_both ask.each (length (classes ask)) 0 (λ n. n ≤ length (classes ask))
+    (λ _. omega arith) (λ _. omega arith)
 
 -- each of the classes has a character
 pub classes_filled : (ask : PasswordAsk) → All (λ class. 0 < length class) (classes ask)
@@ -41,7 +43,8 @@ classes_asked ask =
     (λ class asked some. All-weaker (λ c. is_asked_in ask c class ≡ true) (λ c. may_have ask c ≡ true)
     (λ c. may_have_in ask c class) (kept ask.exclude class) (All-kept ask class asked))
 
-draft_asked : (ask : PasswordAsk) (drawn : List ℕ) → 0 < length (concat (classes ask)) → (k : ℕ) → may_have ask (draft_character (classes ask) (required ask) drawn k) ≡ true
+draft_asked : (ask : PasswordAsk) (drawn : List ℕ) → 0 < length (concat (classes ask)) → (k : ℕ) →
+    may_have ask (draft_character (classes ask) (required ask) drawn k) ≡ true
 draft_asked ask drawn some k =
     cond_both (ltb k (required ask)) (get_or (classes ask) k []) (concat (classes ask))
     (λ choices. may_have ask (character_at choices (word drawn k)) ≡ true)
@@ -58,13 +61,15 @@ pub length_password : (ask : PasswordAsk) (drawn : List ℕ) → length (passwor
 length_password ask drawn = length_inserted _ _ ask.length
 
 -- its characters are of the classes that are asked for, and not excluded
-pub password_asked : (ask : PasswordAsk) (drawn : List ℕ) → 0 < length (concat (classes ask)) → HasAskedAlone ask (password_text ask drawn)
+pub password_asked : (ask : PasswordAsk) (drawn : List ℕ) → 0 < length (concat (classes ask)) →
+    HasAskedAlone ask (password_text ask drawn)
 password_asked ask drawn some =
     All-inserted (λ c. may_have ask c ≡ true) (draft_character (classes ask) (required ask) drawn)
     (place ask.length drawn) ask.length (λ k below. draft_asked ask drawn some k)
 
 -- it is text
-pub password_utf8 : (ask : PasswordAsk) (drawn : List ℕ) → 0 < length (concat (classes ask)) → is_utf8 (password_text ask drawn) ≡ true
+pub password_utf8 : (ask : PasswordAsk) (drawn : List ℕ) → 0 < length (concat (classes ask)) →
+    is_utf8 (password_text ask drawn) ≡ true
 password_utf8 ask drawn some =
     is_utf8-from_IsUtf8 (password_text ask drawn) (IsUtf8-from_ascii (password_text ask drawn)
     (IsAscii-from_all (password_text ask drawn)
@@ -72,15 +77,19 @@ password_utf8 ask drawn some =
     (password_asked ask drawn some))))
 
 -- the draft has a character of each class that is required
-draft_has : (ask : PasswordAsk) (drawn : List ℕ) (class : Class) (k : ℕ) → is_asked ask class ≡ true → k < required ask → get_or (classes ask) k [] ≡ kept ask.exclude class → 0 < length (kept ask.exclude class) → is_asked_in ask (draft_character (classes ask) (required ask) drawn k) class ≡ true
+draft_has : (ask : PasswordAsk) (drawn : List ℕ) (class : Class) (k : ℕ) → is_asked ask class ≡ true →
+    k < required ask → get_or (classes ask) k [] ≡ kept ask.exclude class → 0 < length (kept ask.exclude class) →
+    is_asked_in ask (draft_character (classes ask) (required ask) drawn k) class ≡ true
 draft_has ask drawn class k asked below at some =
-    let chosen : choices (classes ask) (required ask) k ≡ kept ask.exclude class = rw (lt-ltb k (required ask) below) at in
+    let chosen : choices (classes ask) (required ask) k ≡ kept ask.exclude class = rw (lt-ltb k
+    (required ask) below) at in
     subst (λ (cs : List ℕ). is_asked_in ask (character_at cs (word drawn k)) class ≡ true) (sym chosen)
     (All-character_at (λ c. is_asked_in ask c class ≡ true) (kept ask.exclude class) (word drawn k) some
     (All-kept ask class asked))
 
 -- where each class is required, it has a character of each
-pub password_each : (ask : PasswordAsk) (drawn : List ℕ) → required ask ≤ ask.length → ask.each ≡ true → HasEach ask (password_text ask drawn)
+pub password_each : (ask : PasswordAsk) (drawn : List ℕ) → required ask ≤ ask.length → ask.each ≡ true →
+    HasEach ask (password_text ask drawn)
 password_each ask drawn enough each class c inside =
     let asked : is_asked ask class ≡ true = grind arith in
     let member : is_in_class class c ≡ true = grind arith in
@@ -89,17 +98,23 @@ password_each ask drawn enough each class c inside =
     let there = Contains-classes ask class asked some in
     let all : required ask ≡ length (classes ask) = rw each in
     let draft = draft_character (classes ask) (required ask) drawn in
-    let same : get_or (classes ask) there.0 [] ≡ kept ask.exclude class = rw (get_or_default (classes ask) there.0 [] (kept ask.exclude class) there.1) there.2 in
+    let same : get_or (classes ask) there.0 [] ≡ kept ask.exclude class = rw (get_or_default
+    (classes ask) there.0 [] (kept ask.exclude class) there.1) there.2 in
     let has = draft_has ask drawn class there.0 asked (omega arith) same some in
     let at = Contains-inserted draft (place ask.length drawn) ask.length there.0 (omega arith) in
     (at.0, draft there.0, at.1, at.2, has)
 
 -- the text that a call makes of an alphabet is the password
-pub text_is_password : (ask : PasswordAsk) (drawn text : List ℕ) (lists : List (List ℕ)) (least : ℕ) → lists ≡ classes ask → least ≡ required ask → text ≡ inserted (draft_character lists least drawn) (place ask.length drawn) ask.length → text ≡ password_text ask drawn
+pub text_is_password : (ask : PasswordAsk) (drawn text : List ℕ) (lists : List (List ℕ)) (least : ℕ) →
+    lists ≡ classes ask → least ≡ required ask →
+    text ≡ inserted (draft_character lists least drawn) (place ask.length drawn) ask.length →
+    text ≡ password_text ask drawn
 text_is_password ask drawn text lists least same enough made =
-    made ∙ ap (λ (cs : List (List ℕ)). inserted (draft_character cs least drawn) (place ask.length drawn) ask.length) same
+    made ∙ ap (λ (cs : List (List ℕ)). inserted (draft_character cs least drawn)
+    (place ask.length drawn) ask.length) same
     ∙ ap (λ (n : ℕ). inserted (draft_character (classes ask) n drawn) (place ask.length drawn) ask.length) enough
 
 -- an alphabet that is not empty has a character
-pub some_character : (ask : PasswordAsk) (lists : List (List ℕ)) → lists ≡ classes ask → (length (concat lists) == 0) ≡ false → 0 < length (concat (classes ask))
+pub some_character : (ask : PasswordAsk) (lists : List (List ℕ)) → lists ≡ classes ask →
+    (length (concat lists) == 0) ≡ false → 0 < length (concat (classes ask))
 some_character ask lists same filled = rw (← same) (grind (arith, nat_tests, filled))

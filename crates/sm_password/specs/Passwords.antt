@@ -21,8 +21,8 @@ character_at class word = slice_index class (word % length class)
 abbrev pub required : PasswordAsk → ℕ
 required ask = if ask.each then length (classes ask) else 0
 
--- The characters of which character k of the draft is one: class k while the password has to have a character of it, and
--- all classes joined from then on.
+-- The characters of which character k of the draft is one: class k while the password has to have a character of it,
+-- and all classes joined from then on.
 abbrev pub choices : List (List ℕ) → ℕ → ℕ → List ℕ
 choices classes required k = if nat_lt k required then slice_index_or classes k [] else concat classes
 

@@ -1,5 +1,5 @@
-//! Passwords of random bytes (AWS Secrets Manager API Reference, GetRandomPassword): a password is a function of what is
-//! asked and of the bytes that were drawn.
+//! Passwords of random bytes (AWS Secrets Manager API Reference, GetRandomPassword): a password is a function of what
+//! is asked and of the bytes that were drawn.
 #![tactic(auto)]
 
 mod alphabet;
