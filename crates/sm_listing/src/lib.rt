@@ -1,0 +1,12 @@
+//! Pages of secrets and of the versions of a secret (AWS Secrets Manager API Reference, ListSecrets and
+//! ListSecretVersionIds): which serials are on a page, in which order, and where the next begins.
+#![tactic(auto)]
+
+mod asks;
+pub mod filters;
+pub mod pages;
+mod shown;
+mod tokens;
+
+pub use asks::{Listed, PageAsk, PageRefused};
+pub use pages::{page, version_page};
