@@ -1,6 +1,8 @@
-//! Tables of pages and passwords.
+//! Tables of dates, pages and passwords.
 #![tactic(auto)]
 
+#[cfg(test)]
+mod dates;
 #[cfg(test)]
 mod passwords;
 #[cfg(test)]
