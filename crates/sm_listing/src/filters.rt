@@ -15,7 +15,7 @@ pub const FILTER_VALUE_LIMIT: usize = 512;
 
 /// What a filter's key names.
 #[derive(Clone, Copy)]
-pub(crate) enum FilterKey {
+pub enum FilterKey {
     Name,
     Description,
     TagKey,
@@ -50,8 +50,8 @@ fn are_values(values: &[Text]) -> bool
     values.iter().all(|value| is_value(value))
 }
 
-/// Whether a filter is in its form.
-fn is_filter(filter: &Filter) -> bool
+/// Whether a filter is in its form. It takes no memory.
+pub fn is_filter(filter: &Filter) -> bool
     ensures { result ≡ is_filter filter.now }
 {
     let values = filter.values.as_slice();

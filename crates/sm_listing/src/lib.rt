@@ -6,7 +6,9 @@ mod asks;
 pub mod filters;
 pub mod pages;
 mod shown;
-mod tokens;
+pub mod tokens;
 
 pub use asks::{Listed, PageAsk, PageRefused};
+pub use filters::is_filter;
 pub use pages::{page, version_page};
+pub use tokens::{SECRETS, VERSIONS, serial_of};

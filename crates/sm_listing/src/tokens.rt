@@ -8,10 +8,10 @@ use sm_base::{NoMemory, Text};
 use std::alloc::Global;
 
 /// The letter of a token of secrets.
-pub(crate) const SECRETS: char = 's';
+pub const SECRETS: char = 's';
 
 /// The letter of a token of versions.
-pub(crate) const VERSIONS: char = 'v';
+pub const VERSIONS: char = 'v';
 
 /// The most bytes of a token.
 const TOKEN_LIMIT: usize = 21;
@@ -43,9 +43,9 @@ fn number_of(digits: &str) -> Option<u64>
     }
 }
 
-/// The serial that a token spells.
+/// The serial that a token spells behind its letter. It takes no memory.
 #[tactic(auto, using(crate::proofs::TokenLemmas::spelled_serial, crate::proofs::TokenLemmas::no_serial))]
-pub(crate) fn serial_of(letter: char, token: &Text) -> Option<u64>
+pub fn serial_of(letter: char, token: &Text) -> Option<u64>
     requires { letter < 128 }
     ensures { result ≡ serial_of letter token.now }
 {

@@ -2,7 +2,7 @@
 ghost use Rattle.std.specs.Prelude.{◌≡◌, ◌*◌, IfOk, vec_len};
 
 use sm_model::{NoMemory, Text};
-use sm_password::{PasswordAsk, PasswordRefused, password};
+use sm_password::{Asked, PasswordAsk, PasswordRefused, class_count, password};
 use std::alloc::Global;
 use std::test::Fail;
 
@@ -89,5 +89,13 @@ fn passwords_are_of_drawn_bytes(rt: HostRuntime) -> Result<(), Fail> {
         };
         assert_eq!(rt; (row, text.as_str()), (row, case.6));
     }
+    let asked = Asked {
+        lower: true,
+        upper: false,
+        digits: true,
+        punctuation: false,
+        space: false,
+    };
+    assert_eq!(rt; class_count(&Text::fixed("0123456789"), asked), 1);
     Ok(())
 }

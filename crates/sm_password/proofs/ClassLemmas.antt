@@ -1,7 +1,7 @@
 -- The classes: which characters they have, and what is so of each class that is asked for.
-use Rattle.std.proofs.Common.{◌≡◌, ℕ, ◌+◌, ◌<◌, Bool, true, false, ◌&&◌, ◌==◌, List, [], ◌∷◌, ◌++◌, length, get_or, take, refl, sym, ap, ◌∙◌, arith, inl, inr}
+use Rattle.std.proofs.Common.{◌≡◌, ℕ, ◌+◌, ◌<◌, Bool, true, false, cond, ◌&&◌, ◌==◌, List, [], ◌∷◌, ◌++◌, length, get_or, take, refl, sym, ap, ◌∙◌, arith, inl, inr}
 use Rattle.std.specs.List.{All, Contains, concat, filter, list_all, list_any}
-use Rattle.std.proofs.lemmas.Bool.{agree_below, agree_below_at, false≢true}
+use Rattle.std.proofs.lemmas.Bool.{cases_Bool, or_parts, agree_below, agree_below_at, false≢true}
 use Rattle.std.proofs.lemmas.Bool.Decides.{nat_tests, eqb_tells}
 use Rattle.std.proofs.lemmas.List.{append-nil, append_assoc, take_more}
 use Rattle.std.proofs.lemmas.List.Elements.{All-nil, All-cons, All-append, All-filter, filter_passes, Contains-append_left, Contains-append_right}
@@ -77,6 +77,42 @@ kept_has exclude class c inside left =
     let member = sym (agree_below_at (is_in_class class) (λ e. list_any (λ f. f == e) (characters_of class)) 128 c
     (is_member_below class) (in_class_ascii class c inside)) ∙ inside in
     filter_has (is_left exclude) c (characters_of class) member left
+
+-- what is kept is empty exactly where no character is left
+filter_some : (p : ℕ → Bool) (xs : List ℕ) → list_any p xs ≡ true → 0 < length (filter p xs)
+filter_some p [] any = absurd (false≢true any)
+filter_some p (x ∷ xs) any =
+    elim (cases_Bool (p x)) [
+      | inl passes ↦ rw passes (omega arith)
+      | inr fails ↦
+          let further : list_any p xs ≡ true = grind (arith, fails) in
+          rw fails (filter_some p xs further)
+    ]
+
+filter_none : (p : ℕ → Bool) (xs : List ℕ) → list_any p xs ≡ false → filter p xs ≡ []
+filter_none p [] none = refl
+filter_none p (x ∷ xs) none =
+    let parts = or_parts (p x) (list_any p xs) none in
+    rw (parts.0, filter_none p xs parts.1) refl
+
+length_unless_empty : (xs : List ℕ) → 0 < length xs → length (unless_empty xs) ≡ 1
+length_unless_empty [] some = absurd (omega arith)
+length_unless_empty (x ∷ xs) some = refl
+
+-- a class counts where it is asked for and has a character left
+pub asked_count : (exclude : List ℕ) (asked : Bool) (class : Class) →
+    length (asked_class exclude asked class)
+    ≡ cond (asked && list_any (is_left exclude) (characters_of class)) 1 0
+unfolding kept
+asked_count exclude true class =
+    elim (cases_Bool (list_any (is_left exclude) (characters_of class))) [
+      | inl some ↦
+          rw some (length_unless_empty (kept exclude class) (filter_some (is_left exclude) (characters_of class) some))
+      | inr none ↦
+          let empty : kept exclude class ≡ [] = filter_none (is_left exclude) (characters_of class) none in
+          rw (none, empty) refl
+    ]
+asked_count exclude false class = refl
 
 -- a character of one class that is asked for is one that a password may have
 pub may_have_in : (ask : PasswordAsk) (c : ℕ) (class : Class) → is_asked_in ask c class ≡ true → may_have ask c ≡ true

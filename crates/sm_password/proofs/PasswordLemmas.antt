@@ -1,12 +1,12 @@
 -- What is so of each password: its length, its characters, and one of each class.
-use Rattle.std.proofs.Common.{◌≡◌, ℕ, ◌%◌, ◌<◌, ◌≤◌, true, false, ltb, ◌==◌, List, [], ◌∷◌, length, get_or, sym, ap, subst, ◌∙◌, arith}
+use Rattle.std.proofs.Common.{◌≡◌, ℕ, ◌%◌, ◌<◌, ◌≤◌, true, false, ltb, ◌==◌, List, [], ◌∷◌, length, refl, get_or, sym, ap, subst, ◌∙◌, arith}
 use Rattle.std.specs.List.{All, concat}
 use Rattle.std.specs.Str.{is_utf8}
 use Rattle.std.proofs.lemmas.Bool.{cond_both, ltb-true, lt-ltb}
 use Rattle.std.proofs.lemmas.Bool.Decides.{nat_tests}
 use Rattle.std.proofs.lemmas.Str.{IsUtf8-from_ascii, is_utf8-from_IsUtf8}
 use Rattle.std.proofs.lemmas.Str.Ascii.{IsAscii-from_all}
-use Rattle.std.proofs.lemmas.List.{get_or_default}
+use Rattle.std.proofs.lemmas.List.{get_or_default, length-append}
 use Rattle.std.proofs.lemmas.List.Elements.{All-nil, All-append, All-head, All-tail, All-get_or, All-weaker}
 use Rattle.sm_password.specs.declared.ask.PasswordAsk.{PasswordAsk}
 use Rattle.sm_password.specs.declared.class.Class.{Class}
@@ -118,3 +118,14 @@ text_is_password ask drawn text lists least same enough made =
 pub some_character : (ask : PasswordAsk) (lists : List (List ℕ)) → lists ≡ classes ask →
     (length (concat lists) == 0) ≡ false → 0 < length (concat (classes ask))
 some_character ask lists same filled = rw (← same) (grind (arith, nat_tests, filled))
+
+first_filled : (lists : List (List ℕ)) → All (λ class. 0 < length class) lists →
+    (length (concat lists) == 0) ≡ (length lists == 0)
+first_filled [] filled = refl
+first_filled (xs ∷ lists) filled =
+    let some = All-head (λ class. 0 < length class) xs lists filled in
+    grind (arith, nat_tests, some, length-append xs (concat lists))
+
+-- no character is left exactly where no class is
+pub none_left : (ask : PasswordAsk) → (length (concat (classes ask)) == 0) ≡ (length (classes ask) == 0)
+none_left ask = first_filled (classes ask) (classes_filled ask)

@@ -5,6 +5,7 @@ use Rattle.std.specs.Prelude.{ℕ, Bool, not, ◌&&◌, ◌==◌, if◌then◌el
 use Rattle.std.specs.List.{filter, list_any}
 use Rattle.std.specs.Char.{is_ascii_lowercase, is_ascii_uppercase, is_ascii_digit, is_ascii_punctuation}
 use Rattle.std.specs.Str.{chars}
+use Rattle.sm_password.specs.declared.ask.Asked.{Asked}
 use Rattle.sm_password.specs.declared.ask.PasswordAsk.{PasswordAsk}
 use Rattle.sm_password.specs.declared.class.Class.{Class}
 use Rattle.sm_password.specs.declared.class.Class.TheVariants.{Lower, Upper, Digits, Punctuation, Space}
@@ -35,13 +36,24 @@ abbrev pub asked_class : List ℕ → Bool → Class → List (List ℕ)
 asked_class exclude asked class = if asked then unless_empty (kept exclude class) else []
 
 -- the classes asked for, in order, without the excluded characters
+abbrev pub classes_left : List ℕ → Asked → List (List ℕ)
+classes_left exclude asked =
+    asked_class exclude asked.lower Lower
+    ++ (asked_class exclude asked.upper Upper
+    ++ (asked_class exclude asked.digits Digits
+    ++ (asked_class exclude asked.punctuation Punctuation
+    ++ asked_class exclude asked.space Space)))
+
+-- the same of what is asked of a password
 abbrev pub classes : PasswordAsk → List (List ℕ)
 classes ask =
-    asked_class ask.exclude ask.lower Lower
-    ++ (asked_class ask.exclude ask.upper Upper
-    ++ (asked_class ask.exclude ask.digits Digits
-    ++ (asked_class ask.exclude ask.punctuation Punctuation
-    ++ asked_class ask.exclude ask.space Space)))
+    classes_left ask.exclude (record {
+      lower = ask.lower;
+      upper = ask.upper;
+      digits = ask.digits;
+      punctuation = ask.punctuation;
+      space = ask.space;
+    })
 
 -- ---- in words of their own
 

@@ -18,6 +18,16 @@ pub struct PasswordAsk {
     pub each: bool,
 }
 
+/// Which classes of characters are asked for.
+#[derive(Clone, Copy)]
+pub struct Asked {
+    pub lower: bool,
+    pub upper: bool,
+    pub digits: bool,
+    pub punctuation: bool,
+    pub space: bool,
+}
+
 /// Why there is no password, in the order in which it is looked at.
 #[derive(Clone, Copy, Debug, PartialEq, Eq)]
 pub enum PasswordRefused {

@@ -1,7 +1,9 @@
 //! The classes of characters.
-ghost use Rattle.std.specs.Prelude.{◌≡◌, IfOk, IsTrue, not};
-ghost use Rattle.sm_password.specs.Classes.{characters_of, is_left, kept};
+ghost use Rattle.std.specs.Prelude.{◌≡◌, ◌≤◌, IfOk, IsTrue, not, length};
+ghost use Rattle.std.specs.List.{list_any};
+ghost use Rattle.sm_password.specs.Classes.{characters_of, is_left, kept, asked_class, classes_left};
 
+use crate::ask::Asked;
 use sm_base::{Bytes, NoMemory, Text};
 use std::alloc::Global;
 
@@ -39,6 +41,36 @@ fn is_left(exclude: &Text, character: u8) -> bool
         .as_str()
         .chars()
         .any(|excluded| excluded == char::from(character))
+}
+
+/// Whether a character of a class is not among the excluded ones.
+fn has_left(exclude: &Text, class: Class) -> bool
+    ensures { result ≡ list_any (is_left exclude.now) (characters_of class) }
+{
+    class
+        .characters()
+        .iter()
+        .any(|character| is_left(exclude, *character))
+}
+
+/// How many classes a class is that is asked for or not: one, where a character of it is left.
+#[tactic(auto, using(crate::proofs::ClassLemmas::asked_count))]
+fn count(exclude: &Text, asked: bool, class: Class) -> usize
+    ensures value { result ≡ length (asked_class exclude.now asked class) }
+    ensures bound { result ≤ 1 }
+{
+    usize::from(asked && has_left(exclude, class))
+}
+
+/// How many of the classes that are asked for have a character that is not excluded. It takes no memory.
+pub fn class_count(exclude: &Text, asked: Asked) -> usize
+    ensures { result ≡ length (classes_left exclude.now asked) }
+{
+    count(exclude, asked.lower, Class::Lower)
+        + count(exclude, asked.upper, Class::Upper)
+        + count(exclude, asked.digits, Class::Digits)
+        + count(exclude, asked.punctuation, Class::Punctuation)
+        + count(exclude, asked.space, Class::Space)
 }
 
 /// The class without the excluded characters.

@@ -4,8 +4,9 @@
 
 mod alphabet;
 mod ask;
-mod class;
+pub mod class;
 pub mod drawing;
 
-pub use ask::{PasswordAsk, PasswordRefused};
+pub use ask::{Asked, PasswordAsk, PasswordRefused};
+pub use class::class_count;
 pub use drawing::password;
