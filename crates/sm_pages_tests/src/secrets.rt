@@ -103,22 +103,57 @@ static CASES: [Case; 26] = [
     ),
 ];
 
-/// A secret without versions.
-pub fn row(alloc: Global, serial: u64, name: &str) -> Result<SecretRow, ReadRefused> {
+/// The serial, the name, the description and the tags of a row, and when it is deleted.
+type Row = (
+    u64,
+    &'static str,
+    Option<&'static str>,
+    &'static [(&'static str, &'static str)],
+    Option<u64>,
+);
+
+static ROWS: [Row; 4] = [
+    (0, "a", Some("first"), &[("env", "dev")], None),
+    (1, "b", None, &[("env", "prod"), ("team", "x")], None),
+    (2, "c", None, &[], None),
+    (7, "d", None, &[], Some(100)),
+];
+
+fn tags(alloc: Global, given: &[(&'static str, &'static str)]) -> Result<List<Tag>, NoMemory> {
+    let mut tags = List::empty(alloc);
+    for (key, value) in given {
+        tags.push(Tag {
+            key: Text::fixed(*key),
+            value: Text::fixed(*value),
+        })?;
+    }
+    Ok(tags)
+}
+
+fn names(alloc: Global, name: &str) -> Result<(Name, Arn), ReadRefused> {
     let name = Name::read(alloc, name.as_bytes())?;
+    let arn = Arn::drawn(alloc, &name, b"\x00\x01\x02\x03\x04\x05")?;
+    Ok((name, arn))
+}
+
+/// A secret without versions.
+pub fn row(alloc: Global, given: &Row) -> Result<SecretRow, ReadRefused> {
+    let (serial, name, description, pairs, deletion) = given;
+    let tags = tags(alloc, pairs)?;
+    let (name, arn) = names(alloc, name)?;
     Ok(SecretRow {
-        serial,
-        arn: Arn::drawn(alloc, &name, b"\x00\x01\x02\x03\x04\x05")?,
+        serial: *serial,
+        arn,
         name,
         created: Moment(0),
         changed: Moment(0),
-        description: None,
+        description: description.map(|text| Text::fixed(text)),
         kms: None,
-        tags: List::empty(alloc),
+        tags,
         versions: List::empty(alloc),
         next_version: 0,
         labels: List::empty(alloc),
-        deletion: None,
+        deletion: deletion.map(|date| Moment(date)),
         rotation: Rotation {
             enabled: false,
             lambda: None,
@@ -131,27 +166,11 @@ pub fn row(alloc: Global, serial: u64, name: &str) -> Result<SecretRow, ReadRefu
     })
 }
 
-fn tag(key: &'static str, value: &'static str) -> Tag {
-    Tag {
-        key: Text::fixed(key),
-        value: Text::fixed(value),
-    }
-}
-
 fn rows(alloc: Global) -> Result<Rows, ReadRefused> {
     let mut secrets = List::empty(alloc);
-    let mut a = row(alloc, 0, "a")?;
-    a.description = Some(Text::fixed("first"));
-    a.tags.push(tag("env", "dev"))?;
-    secrets.push(a)?;
-    let mut b = row(alloc, 1, "b")?;
-    b.tags.push(tag("env", "prod"))?;
-    b.tags.push(tag("team", "x"))?;
-    secrets.push(b)?;
-    secrets.push(row(alloc, 2, "c")?)?;
-    let mut d = row(alloc, 7, "d")?;
-    d.deletion = Some(Moment(100));
-    secrets.push(d)?;
+    for given in &ROWS {
+        secrets.push(row(alloc, given)?)?;
+    }
     Ok(Rows { next: 8, secrets })
 }
 
@@ -171,16 +190,12 @@ fn asked(alloc: Global, case: &Case) -> Result<PageAsk, NoMemory> {
     for given in case.5 {
         filters.push(filter(alloc, given)?)?;
     }
-    let token = match case.4 {
-        Some(token) => Some(Text::fixed(token)),
-        None => None,
-    };
     Ok(PageAsk {
         filters,
         planned: case.2,
         descending: case.1,
         max: case.0.clamp(1, 100),
-        token,
+        token: case.4.map(|token| Text::fixed(token)),
     })
 }
 

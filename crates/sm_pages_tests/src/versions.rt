@@ -2,7 +2,9 @@
 use crate::secrets::row;
 use crate::shown::shown;
 use sm_listing::version_page;
-use sm_model::{Label, List, Moment, Pair, ReadRefused, SecretRow, Text, Token, VersionRow};
+use sm_model::{
+    Label, List, Moment, NoMemory, Pair, ReadRefused, SecretRow, Text, Token, VersionRow,
+};
 use std::alloc::Global;
 use std::test::Fail;
 
@@ -21,10 +23,10 @@ static CASES: [Case; 9] = [
     (true, 100, Some("v00"), "BadToken"),
 ];
 
-fn version(alloc: Global, serial: u64, byte: u8) -> Result<VersionRow, ReadRefused> {
+fn version(alloc: Global, serial: u8) -> Result<VersionRow, NoMemory> {
     Ok(VersionRow {
-        id: Token::drawn(alloc, &[byte; 16])?,
-        serial,
+        id: Token::drawn(alloc, &[serial; 16])?,
+        serial: u64::from(serial),
         made: Moment(0),
         value: None,
         rotated: None,
@@ -32,20 +34,33 @@ fn version(alloc: Global, serial: u64, byte: u8) -> Result<VersionRow, ReadRefus
     })
 }
 
-fn pair(alloc: Global, label: &str, byte: u8) -> Result<Pair, ReadRefused> {
-    Ok(Pair {
-        label: Label::read(alloc, label.as_bytes())?,
-        id: Token::drawn(alloc, &[byte; 16])?,
-    })
+fn pair(alloc: Global, label: &str, serial: u8) -> Result<Pair, ReadRefused> {
+    let label = Label::read(alloc, label.as_bytes())?;
+    let id = Token::drawn(alloc, &[serial; 16])?;
+    Ok(Pair { label, id })
+}
+
+fn versions(alloc: Global) -> Result<List<VersionRow>, NoMemory> {
+    let mut versions = List::empty(alloc);
+    for serial in 0..3 {
+        versions.push(version(alloc, serial)?)?;
+    }
+    Ok(versions)
+}
+
+fn labels(alloc: Global) -> Result<List<Pair>, ReadRefused> {
+    let mut labels = List::empty(alloc);
+    labels.push(pair(alloc, "AWSPREVIOUS", 1)?)?;
+    labels.push(pair(alloc, "AWSCURRENT", 2)?)?;
+    Ok(labels)
 }
 
 fn secret(alloc: Global) -> Result<SecretRow, ReadRefused> {
-    let mut secret = row(alloc, 0, "a")?;
-    secret.versions.push(version(alloc, 0, 1)?)?;
-    secret.versions.push(version(alloc, 1, 2)?)?;
-    secret.versions.push(version(alloc, 2, 3)?)?;
-    secret.labels.push(pair(alloc, "AWSPREVIOUS", 2)?)?;
-    secret.labels.push(pair(alloc, "AWSCURRENT", 3)?)?;
+    let versions = versions(alloc)?;
+    let labels = labels(alloc)?;
+    let mut secret = row(alloc, &(0, "a", None, &[], None))?;
+    secret.versions = versions;
+    secret.labels = labels;
     Ok(secret)
 }
 
@@ -54,10 +69,7 @@ fn versions_are_listed(rt: HostRuntime) -> Result<(), Fail> {
     let secret = secret(rt.alloc())?;
     for (number, case) in CASES.iter().enumerate() {
         let (deprecated, max, token, wanted) = case;
-        let token = match token {
-            Some(token) => Some(Text::fixed(*token)),
-            None => None,
-        };
+        let token = token.map(|token| Text::fixed(token));
         let max = (*max).clamp(1, 100);
         let page = version_page(rt.alloc(), &secret, *deprecated, max, token.as_ref());
         let text = shown(rt.alloc(), page)?;
