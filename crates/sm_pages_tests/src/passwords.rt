@@ -43,7 +43,9 @@ static CASES: [Case; 14] = [
     (4, "ludps", true, "", 0, 1, "TooShort"),
 ];
 
-fn asked(case: &Case) -> PasswordAsk {
+fn asked(case: &Case) -> PasswordAsk
+    ensures { result.length ≡ case.now.0 }
+{
     let (length, classes, each, exclude, _, _, _) = case;
     PasswordAsk {
         length: *length,

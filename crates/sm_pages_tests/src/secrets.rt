@@ -1,5 +1,7 @@
 //! Pages of four secrets: `a` with a description and the tag env=dev, `b` with the tags env=prod and team=x, `c` with
 //! nothing, and `d`, whose serial is 7 and whose deletion is scheduled for the moment 100.
+ghost use Rattle.std.specs.Prelude.{◌≤◌, IfOk};
+
 use crate::shown::shown;
 use sm_listing::{PageAsk, page};
 use sm_model::{
@@ -185,7 +187,9 @@ fn filter(alloc: Global, given: &Given) -> Result<Filter, NoMemory> {
     })
 }
 
-fn asked(alloc: Global, case: &Case) -> Result<PageAsk, NoMemory> {
+fn asked(alloc: Global, case: &Case) -> Result<PageAsk, NoMemory>
+    ensures { IfOk result (λ ask. (1 ≤ ask.max) × (ask.max ≤ 100)) }
+{
     let mut filters = List::empty(alloc);
     for given in case.5 {
         filters.push(filter(alloc, given)?)?;
