@@ -2,3 +2,4 @@ pub mod CommandLemmas
 pub mod NumberLemmas
 pub mod PlaceLemmas
 pub mod SameWalk
+pub mod SameFaults

@@ -1,8 +1,12 @@
 -- It does not matter where the names of the modes lie.
 use Rattle.std.proofs.Common.{◌≡◌, ◌∙◌, refl, ap, List, [], drop, true}
+use Rattle.std.specs.List.{list_any}
+use Rattle.std.specs.Str.{bytes_eq}
+use Rattle.clap.proofs.WalkLemmas.{list_any-map}
 use Rattle.clap.specs.Simple.{built, filled, with_index}
 use Rattle.clap.specs.Words.{App, Rule, Row, Text, fault_of, is_simple, is_simple_and_free, matches_of}
 use Rattle.sm_words.specs.Command.{AreModeNames, IsApp, Names, app, app_at, faults, found, mode_rule, placeless_names}
+use Rattle.sm_words.proofs.SameFaults.{built_fault-same}
 use Rattle.sm_words.proofs.SameWalk.{rows_after-same}
 
 is_simple-app_at : (names : Names) → is_simple (app_at names) ≡ true
@@ -24,9 +28,16 @@ mode_built = with_index 1 (filled (mode_rule placeless_names))
 abbrev others_built : List Rule
 others_built = drop 1 (built app).top.rules
 
+-- the names decide alone which modes are accepted
+accepted : (names : Names) → AreModeNames names → (text : Text)
+    → list_any (λ name. bytes_eq name.now text) names.now ≡ list_any (λ name. bytes_eq name.now text) placeless_names.now
+accepted names are text = list_any-map (λ name. bytes_eq name text) (λ name. name.now) names.now
+    ∙ ap (list_any (λ name. bytes_eq name text)) are
+
 fault_of-app_at : (names : Names) (words : List Text) → AreModeNames names → fault_of (app_at names) words ≡ faults words
 unfolding faults
-fault_of-app_at names words are = ?
+fault_of-app_at names words are =
+    built_fault-same mode_built others_built names placeless_names (accepted names are) (built app).top words
 
 matches_of-app_at : (names : Names) (words : List Text) → AreModeNames names → matches_of (app_at names) words ≡ found words
 unfolding found
