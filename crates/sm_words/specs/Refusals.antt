@@ -1,9 +1,8 @@
 -- What is said of words that are refused.
-use Rattle.std.specs.Prelude.{◌≡◌, Bool, true, false, [], Option, Some, None}
-use Rattle.clap.specs.Words.{IsAmong, Kinds}
+use Rattle.std.specs.Prelude.{Bool, true, false, [], ◌∷◌, Option, Some, None}
+use Rattle.clap.specs.Words.{Kinds}
 use Rattle.clap.specs.declared.error.kind.ErrorKind.{ErrorKind}
 use Rattle.clap.specs.declared.error.kind.ErrorKind.TheVariants.{DisplayHelp, DisplayVersion}
-use Rattle.sm_words.specs.declared.refusal.Refusal.{Refusal}
 
 -- the words ask for help or for the version
 abbrev pub is_asked : ErrorKind → Bool
@@ -11,7 +10,7 @@ is_asked DisplayHelp = true
 is_asked DisplayVersion = true
 is_asked kind = false
 
--- there is a refusal exactly where something is wrong, and it says whether help or the version was asked for
-abbrev pub Refuses : Kinds → Option Refusal → Type 0
-Refuses kinds None = kinds ≡ []
-Refuses kinds (Some refusal) = (kind : ErrorKind) × IsAmong kind kinds × (refusal.is_asked ≡ is_asked kind)
+-- whether what is wrong is that the words ask for help or the version; nothing where nothing is wrong
+abbrev pub asked_by : Kinds → Option Bool
+asked_by [] = None
+asked_by (kind ∷ kinds) = Some (is_asked kind)

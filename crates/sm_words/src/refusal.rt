@@ -1,8 +1,8 @@
 //! What is said of words that are refused.
-ghost use Rattle.std.specs.Prelude.{◌≡◌, IfOk, map, string_bytes};
+ghost use Rattle.std.specs.Prelude.{◌≡◌, IfOk, map, option_map, string_bytes};
 ghost use Rattle.clap.specs.declared.error.kind.ErrorKind.{ErrorKind};
 ghost use Rattle.sm_words.specs.Command.{faults};
-ghost use Rattle.sm_words.specs.Refusals.{Refuses, is_asked};
+ghost use Rattle.sm_words.specs.Refusals.{asked_by, is_asked};
 
 use crate::reading::parse;
 use clap::Error;
@@ -21,8 +21,10 @@ pub struct Refusal {
 
 /// What is said of words that are refused, and nothing of words that are taken. A program prints the text of words
 /// that ask for help or the version to its standard output and ends with 0, all else to its standard error.
+#[tactic(auto, using(crate::proofs::RefusalLemmas::asked_by_kind))]
 pub fn refusal_of(alloc: Global, words: &[String]) -> Result<Option<Refusal>, NoMemory>
-    ensures { IfOk result (Refuses (faults (map string_bytes words.now))) }
+    ensures { IfOk result (λ said. option_map (λ refusal. refusal.is_asked) said
+        ≡ asked_by (faults (map string_bytes words.now))) }
 {
     match parse(alloc, words) {
         Ok(_) => Ok(None),
