@@ -5,3 +5,5 @@ pub mod SameWalk
 pub mod SameFaults
 pub mod OneFault
 pub mod RefusalLemmas
+pub mod FittingRows
+pub mod BoundLemmas

@@ -1,5 +1,5 @@
 -- What the words ask for.
-use Rattle.std.specs.Prelude.{ℕ, ◌^◌, ◌&&◌, if◌then◌else◌, nat_lt, List, [], ◌∷◌, Option, Some, None, unwrap_or}
+use Rattle.std.specs.Prelude.{ℕ, ◌≤◌, ◌^◌, ◌&&◌, if◌then◌else◌, nat_lt, List, [], ◌∷◌, Option, Some, None, unwrap_or}
 use Rattle.std.specs.Prelude.{option_and_then, Result, Ok, Err, codes}
 use Rattle.std.specs.Str.{bytes_eq}
 use Rattle.std.specs.Str.Parse.{digits_value, without_leading_plus}
@@ -49,6 +49,10 @@ settings_if (kind ∷ kinds) rows = None
 -- what the words ask for; nothing where something is wrong with them
 abbrev pub settings_of : List Text → Option Settings
 settings_of words = settings_if (faults words) (found words)
+
+-- 1 to 64 connections, and 16 workers at most
+abbrev pub IsInBounds : Settings → Type 0
+IsInBounds settings = (1 ≤ settings.connections) × (settings.connections ≤ 64) × (settings.workers ≤ 16)
 
 -- an answer, where it is not want of memory
 abbrev pub told : Result Settings WordsRefused → Option (Option Settings)

@@ -3,7 +3,7 @@ ghost use Rattle.std.specs.Prelude.{◌≡◌, IfOk, option_map, map, string_byt
 ghost use Rattle.clap.specs.Words.{FailsBy, first_of, found_of, rows_of};
 ghost use Rattle.sm_base.specs.Outcomes.{OrMemory};
 ghost use Rattle.sm_words.specs.Command.{faults, found};
-ghost use Rattle.sm_words.specs.Reading.{mode_of, number_of, settings_in, settings_of, told};
+ghost use Rattle.sm_words.specs.Reading.{IsInBounds, mode_of, number_of, settings_in, settings_of, told};
 
 use crate::arguments::{LISTEN, ROTATOR};
 use crate::command::command;
@@ -16,7 +16,8 @@ use std::alloc::Global;
 /// What the words ask for. They stand without the program's name. Words that ask for help or the version are refused
 /// too: `refusal_of` has the text to show.
 pub fn read_words(alloc: Global, words: &[String]) -> Result<Settings, WordsRefused>
-    ensures { OrMemory (told result) (settings_of (map string_bytes words.now)) }
+    ensures read { OrMemory (told result) (settings_of (map string_bytes words.now)) }
+    ensures bounds { IfOk result IsInBounds }
 {
     match parse(alloc, words) {
         Ok(matches) => Ok(settings(alloc, &matches)?),
