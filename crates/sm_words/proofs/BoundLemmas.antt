@@ -1,5 +1,5 @@
 -- The numbers that the settings have lie in the ranges of their options.
-use Rattle.std.proofs.Common.{◌≡◌, ◌∙◌, List, [], ap, arith, refl, subst, sym}
+use Rattle.std.proofs.Common.{◌≡◌, ◌∙◌, false, true, List, [], ap, arith, refl, subst, sym}
 use Rattle.std.proofs.lemmas.Bool.{false≢true}
 use Rattle.std.specs.Prelude.{codes}
 use Rattle.clap.specs.Simple.{built}
@@ -9,11 +9,16 @@ use Rattle.sm_words.specs.Command.{app, faults, found}
 use Rattle.sm_words.specs.Reading.{IsInBounds, settings_in}
 use Rattle.sm_words.proofs.FittingRows.{AllFit, AllSuit, number_of-bounds, rows_after-fit}
 
+unlike : {X : Type 0} → false ≡ true → X
+unlike e = absurd (false≢true e)
+
 connections-suit : AllSuit (codes "connections") 1 64 (built app).top.rules
-connections-suit = ((λ e. absurd (false≢true e)), ((λ e. absurd (false≢true e)), ((λ e. absurd (false≢true e)), ((λ e. absurd (false≢true e)), ((λ e. absurd (false≢true e)), ((λ e. (refl, refl)), ((λ e. absurd (false≢true e)), ((λ e. absurd (false≢true e)), ((λ e. absurd (false≢true e)), ((λ e. absurd (false≢true e)), tt))))))))))
+connections-suit =
+    (unlike, (unlike, (unlike, (unlike, (unlike, ((λ e. (refl, refl)), (unlike, (unlike, (unlike, (unlike, tt))))))))))
 
 workers-suit : AllSuit (codes "workers") 0 16 (built app).top.rules
-workers-suit = ((λ e. absurd (false≢true e)), ((λ e. absurd (false≢true e)), ((λ e. absurd (false≢true e)), ((λ e. absurd (false≢true e)), ((λ e. absurd (false≢true e)), ((λ e. absurd (false≢true e)), ((λ e. (refl, refl)), ((λ e. absurd (false≢true e)), ((λ e. absurd (false≢true e)), ((λ e. absurd (false≢true e)), tt))))))))))
+workers-suit =
+    (unlike, (unlike, (unlike, (unlike, (unlike, (unlike, ((λ e. (refl, refl)), (unlike, (unlike, (unlike, tt))))))))))
 
 connections-fit : (words : List Text) → faults words ≡ [] → AllFit (codes "connections") 1 64 (found words)
 unfolding faults found

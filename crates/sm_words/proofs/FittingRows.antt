@@ -1,5 +1,6 @@
 -- Where nothing is wrong with words, the values of an option with a range of numbers lie in it.
-use Rattle.std.proofs.Common.{◌≡◌, ◌∙◌, ◌+◌, ◌==◌, ◌&&◌, ◌||◌, ℕ, Bool, zero, suc, true, false, not, refl, sym, ap, subst, List, [], ◌∷◌, ◌++◌, Option, Some, None, is_some, length, drop, if◌then◌else◌, nat_lt, ◌≤◌, ◌^◌, arith}
+use Rattle.std.proofs.Common.{◌≡◌, ◌+◌, ◌&&◌, ◌||◌, ℕ, Bool, zero, suc, true, false, refl, subst, List, [], ◌∷◌, ◌++◌, Option, Some, None, is_some, length, drop, if◌then◌else◌, nat_lt, ◌≤◌, ◌^◌, arith}
+use Rattle.std.proofs.lemmas.List.Folds.{list_all-append}
 use Rattle.std.proofs.lemmas.Slice.Eq.{bytes_eq-Decides}
 use Rattle.std.specs.Prelude.{⊤, encode_utf8, find, fold, min, option_and_then, option_map, slice_get, unwrap_or}
 use Rattle.std.specs.List.{list_all}
@@ -32,11 +33,9 @@ or_else-nil : (a b : Kinds) → or_else a b ≡ [] → (a ≡ []) × (b ≡ [])
 or_else-nil [] b is = (refl, is)
 or_else-nil (kind ∷ kinds) b is = cc
 
-list_all-append : {X : Type 0} (p : X → Bool) (xs ys : List X) → list_all p xs ≡ true → list_all p ys ≡ true → list_all p (xs ++ ys) ≡ true
-list_all-append p [] ys first second = second
-list_all-append p (x ∷ xs) ys first second =
-    let parts = both (p x) (list_all p xs) first in
-    rw parts.0 (list_all-append p xs ys parts.1 second)
+all-append : {X : Type 0} (p : X → Bool) (xs ys : List X) → list_all p xs ≡ true → list_all p ys ≡ true
+    → list_all p (xs ++ ys) ≡ true
+all-append p xs ys first second = rw (list_all-append p xs ys, first, second) refl
 
 module _ (target : Text) (low high : ℕ) where
   abbrev is_fit : Text → Bool
@@ -99,9 +98,9 @@ module _ (target : Text) (low high : ℕ) where
       changed : (r : Row) → bytes_eq r.id id ≡ true → Fits r → AllFit (more_values source vs r)
       changed r is fit = (
         (λ e.
-        let same : r.id ≡ id = (bytes_eq-Decides r.id id).0 is in
-        let here : bytes_eq id target ≡ true = subst (λ (x : Text). bytes_eq x target ≡ true) same e in
-        ((fit e).0, list_all-append is_fit r.values vs (fit e).1 (adds here).1)),
+            let same : r.id ≡ id = (bytes_eq-Decides r.id id).0 is in
+            let here : bytes_eq id target ≡ true = subst (λ (x : Text). bytes_eq x target ≡ true) same e in
+            ((fit e).0, all-append is_fit r.values vs (fit e).1 (adds here).1)),
         tt,
       )
 
@@ -115,8 +114,8 @@ module _ (target : Text) (low high : ℕ) where
       changed : (r : Row) → bytes_eq r.id id ≡ true → Fits r → AllFit (new_count source n r)
       changed r is fit = (
         (λ e.
-        let same : r.id ≡ id = (bytes_eq-Decides r.id id).0 is in
-        absurd (other (subst (λ (x : Text). bytes_eq x target ≡ true) same e))),
+            let same : r.id ≡ id = (bytes_eq-Decides r.id id).0 is in
+            absurd (other (subst (λ (x : Text). bytes_eq x target ≡ true) same e))),
         tt,
       )
 

@@ -4,7 +4,7 @@ use Rattle.std.specs.List.{list_any}
 use Rattle.std.specs.Str.{bytes_eq}
 use Rattle.clap.proofs.WalkLemmas.{list_any-map}
 use Rattle.clap.specs.Simple.{built, filled, with_index}
-use Rattle.clap.specs.Words.{App, Rule, Row, Text, fault_of, is_simple, is_simple_and_free, matches_of}
+use Rattle.clap.specs.Words.{App, Rule, Text, fault_of, is_simple, is_simple_and_free, matches_of}
 use Rattle.sm_words.specs.Command.{AreModeNames, IsApp, Names, app, app_at, faults, found, mode_rule, placeless_names}
 use Rattle.sm_words.proofs.SameFaults.{built_fault-same}
 use Rattle.sm_words.proofs.SameWalk.{rows_after-same}

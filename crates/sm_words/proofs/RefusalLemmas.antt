@@ -1,5 +1,5 @@
 -- The kind of an error decides what is said of it.
-use Rattle.std.proofs.Common.{◌≡◌, List, [], ◌∷◌, Some, refl, sym, ap, inl, inr}
+use Rattle.std.proofs.Common.{◌≡◌, List, [], ◌∷◌, Some, refl, ap, inl, inr}
 use Rattle.clap.specs.Words.{IsAmong, Kinds, Text}
 use Rattle.clap.specs.Simple.{built}
 use Rattle.clap.specs.declared.error.kind.ErrorKind.{ErrorKind}

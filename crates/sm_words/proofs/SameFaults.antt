@@ -1,6 +1,6 @@
 -- Two lists of rules that differ in the names of the first rule's parser alone, where the parsers accept the same texts: the same is wrong
 -- with words by both.
-use Rattle.std.proofs.Common.{◌≡◌, ◌∙◌, ◌+◌, ◌==◌, ◌&&◌, ◌||◌, ℕ, Bool, zero, suc, true, false, not, refl, ap, ap₂, List, [], ◌∷◌, Option, Some, None, is_some, length, drop, if◌then◌else◌}
+use Rattle.std.proofs.Common.{◌≡◌, ◌∙◌, ◌+◌, ◌==◌, ◌&&◌, ◌||◌, ℕ, Bool, zero, suc, false, not, refl, ap, ap₂, List, [], ◌∷◌, Option, Some, None, is_some, length, drop, if◌then◌else◌}
 use Rattle.std.specs.Prelude.{encode_utf8, fold, min, slice_get}
 use Rattle.std.specs.Option.{option_map_or}
 use Rattle.std.specs.Str.{bytes_eq, chars}
