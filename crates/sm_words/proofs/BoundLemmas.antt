@@ -30,11 +30,14 @@ workers-fit words nil = rows_after-fit (codes "workers") 0 16 (built app).top wo
 
 found-in_bounds : (words : List Text) → faults words ≡ [] → IsInBounds (settings_in (found words))
 found-in_bounds words nil =
-    let connections = number_of-bounds (codes "connections") 1 64 32 4 (found words) (connections-fit words nil) (omega arith) (omega arith) in
-    let workers = number_of-bounds (codes "workers") 0 16 32 2 (found words) (workers-fit words nil) (omega arith) (omega arith) in
+    let connections = number_of-bounds (codes "connections") 1 64 32 4 (found words) (connections-fit words nil)
+    (omega arith) (omega arith) in
+    let workers = number_of-bounds (codes "workers") 0 16 32 2 (found words) (workers-fit words nil) (omega arith)
+    (omega arith) in
     (connections.0, connections.1, workers.1)
 
-pub settings-in_bounds : (words : List Text) (rows : List Row) (settings : Settings) → faults words ≡ [] → rows ≡ found words
+pub settings-in_bounds : (words : List Text) (rows : List Row) (settings : Settings) → faults words ≡ []
+    → rows ≡ found words
     → settings ≡ settings_in rows → IsInBounds settings
 settings-in_bounds words rows settings nil are made =
     subst IsInBounds (sym (made ∙ ap settings_in are)) (found-in_bounds words nil)

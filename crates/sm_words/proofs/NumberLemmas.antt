@@ -1,5 +1,6 @@
 -- A number that is read from a text.
-use Rattle.std.proofs.Common.{◌≡◌, ◌∙◌, ◌<◌, ◌^◌, ◌&&◌, ℕ, Bool, true, false, List, [], ◌∷◌, length, Option, Some, None, Result, Ok, Err, refl, ap, nat_lt, if◌then◌else◌}
+use Rattle.std.proofs.Common.{◌≡◌, ◌∙◌, ◌<◌, ◌^◌, ◌&&◌, ℕ, Bool, true, false, List, [], ◌∷◌, length, Option, Some}
+use Rattle.std.proofs.Common.{None, Result, Ok, Err, refl, ap, nat_lt, if◌then◌else◌}
 use Rattle.std.proofs.lemmas.Bool.{ltb-true, lt-ltb}
 use Rattle.std.specs.Prelude.{option_and_then}
 use Rattle.std.specs.Char.{digit_value}
@@ -32,7 +33,8 @@ numeral-from_test digits is =
 
 -- no number where the digits are none, or too many
 no_number : (bits : ℕ) (digits : List ℕ) → (IsNumeral 10 digits × (digits_value 10 digits < 2 ^ bits) → ⊥)
-    → None ≡ (if is_numeral digits && nat_lt (digits_value 10 digits) (2 ^ bits) then Some (digits_value 10 digits) else None)
+    → None
+    ≡ (if is_numeral digits && nat_lt (digits_value 10 digits) (2 ^ bits) then Some (digits_value 10 digits) else None)
 no_number bits digits none = go (is_numeral digits && nat_lt (digits_value 10 digits) (2 ^ bits)) refl
   where
     go : (fits : Bool) → (is_numeral digits && nat_lt (digits_value 10 digits) (2 ^ bits)) ≡ fits

@@ -1,18 +1,28 @@
 -- A command without subcommands finds at most one thing wrong with words.
-use Rattle.std.proofs.Common.{◌≡◌, ◌+◌, ◌==◌, ◌&&◌, ◌||◌, ℕ, Bool, zero, suc, true, false, not, List, [], ◌∷◌, Option, Some, None, is_some, length, drop, if◌then◌else◌, nat_lt}
+use Rattle.std.proofs.Common.{◌≡◌, ◌+◌, ◌==◌, ◌&&◌, ◌||◌, ℕ, Bool, zero, suc, true, false, not, List, [], ◌∷◌, Option}
+use Rattle.std.proofs.Common.{Some, None, is_some, length, drop, if◌then◌else◌, nat_lt}
 use Rattle.std.specs.Prelude.{⊤, encode_utf8, min, slice_get}
 use Rattle.std.specs.Option.{option_map_or}
 use Rattle.std.specs.Str.{bytes_eq, chars}
 use Rattle.clap.specs.Facts.{parser_of_value, unwrap_or_range}
-use Rattle.clap.specs.Faults.{action_fault, built_fault, bundle_fault, bundle_step_fault, count_fault, default_fault, defaults_fault, entered_fault, flag_word_fault, flags_fault, level_fault, long_fault, option_fault, other_fault, positional_fault, react_fault, set_fault, settle_fault, short_fault, step_fault, stray_fault, turn_fault, use_fault, values_fault, walk_fault, word_fault}
+use Rattle.clap.specs.Faults.{action_fault, built_fault, bundle_fault, bundle_step_fault, count_fault, default_fault}
+use Rattle.clap.specs.Faults.{defaults_fault, entered_fault, flag_word_fault, flags_fault, level_fault, long_fault}
+use Rattle.clap.specs.Faults.{option_fault, other_fault, positional_fault, react_fault, set_fault, settle_fault}
+use Rattle.clap.specs.Faults.{short_fault, step_fault, stray_fault, turn_fault, use_fault, values_fault, walk_fault}
+use Rattle.clap.specs.Faults.{word_fault}
 use Rattle.clap.specs.Kinds.{Kinds, check_kinds, or_else, range_kinds, request_kinds, value_kinds, values_kinds}
 use Rattle.clap.specs.Lexer.{long_of, short_of}
 use Rattle.clap.specs.Matches.{count_text}
 use Rattle.clap.specs.Simple.{Shape, entered}
 use Rattle.clap.specs.ValueTests.{accepts}
-use Rattle.clap.specs.Walk.{Held, Row, Rule, Step, Text, Waiting, Walk, action_of, arg_by_id, arg_by_index, arg_by_long, arg_by_short, attached_value, count_of, has_row, idle, is_empty, is_pending, most_values, next, nothing_held, option, positional, reacted, settled, subcommand, takes_several, takes_values, trailing, value, values_or_missing, walk, walk_from, walked, with_default, word_met}
+use Rattle.clap.specs.Walk.{Held, Row, Rule, Step, Text, Waiting, Walk, action_of, arg_by_id, arg_by_index}
+use Rattle.clap.specs.Walk.{arg_by_long, arg_by_short, attached_value, count_of, has_row, idle, is_empty, is_pending}
+use Rattle.clap.specs.Walk.{most_values, next, nothing_held, option, positional, reacted, settled, subcommand}
+use Rattle.clap.specs.Walk.{takes_several, takes_values, trailing, value, values_or_missing, walk, walk_from, walked}
+use Rattle.clap.specs.Walk.{with_default, word_met}
 use Rattle.clap.specs.declared.builder.action.ArgAction.{ArgAction}
-use Rattle.clap.specs.declared.builder.action.ArgAction.TheVariants.{Append, Count, Help, HelpLong, HelpShort, Set, SetFalse, SetTrue, Version}
+use Rattle.clap.specs.declared.builder.action.ArgAction.TheVariants.{Append, Count, Help, HelpLong, HelpShort, Set}
+use Rattle.clap.specs.declared.builder.action.ArgAction.TheVariants.{SetFalse, SetTrue, Version}
 use Rattle.clap.specs.declared.builder.value_parser.ValueParser.{ValueParser}
 
 -- at most one kind
@@ -31,10 +41,12 @@ choice-single false x y first second = second
 
 -- ---- one use of an option
 
-value_kinds-single : (ignore_case : Bool) (parser : ValueParser) (text : Text) → IsSingle (value_kinds ignore_case parser text)
+value_kinds-single : (ignore_case : Bool) (parser : ValueParser) (text : Text)
+    → IsSingle (value_kinds ignore_case parser text)
 value_kinds-single ignore_case parser text = choice-single (accepts ignore_case parser text) _ _ tt tt
 
-values_kinds-single : (ignore_case : Bool) (parser : ValueParser) (vs : List Text) → IsSingle (values_kinds ignore_case parser vs)
+values_kinds-single : (ignore_case : Bool) (parser : ValueParser) (vs : List Text)
+    → IsSingle (values_kinds ignore_case parser vs)
 values_kinds-single ignore_case parser [] = tt
 values_kinds-single ignore_case parser (v ∷ vs) =
     or_else-single _ _ (value_kinds-single ignore_case parser v) (values_kinds-single ignore_case parser vs)
@@ -43,7 +55,8 @@ values_fault-single : (a : Rule) (vs : List Text) → IsSingle (values_fault a v
 values_fault-single a vs = values_kinds-single a.ignore_case (parser_of_value a.parser) vs
 
 count_fault-single : (a : Rule) (vs : List Text) (rows : List Row) → IsSingle (count_fault a vs rows)
-count_fault-single a [] rows = value_kinds-single a.ignore_case (parser_of_value a.parser) (count_text (min (count_of a.id rows + 1) 255))
+count_fault-single a [] rows =
+    value_kinds-single a.ignore_case (parser_of_value a.parser) (count_text (min (count_of a.id rows + 1) 255))
 count_fault-single a (v ∷ vs) rows = values_fault-single a (v ∷ vs)
 
 set_fault-single : (again : Bool) (a : Rule) (vs : List Text) (rows : List Row) → IsSingle (set_fault again a vs rows)
@@ -100,7 +113,8 @@ module _ (c : List Rule) (again : Bool) where
   settle_fault-single h = pending_fault-single h.pending h.rows
 
   react_fault-single : (a : Rule) (vs : List Text) (h : Held) → IsSingle (react_fault c again a vs h)
-  react_fault-single a vs h = or_else-single _ _ (settle_fault-single h) (use_fault-single again a vs (settled c h).rows)
+  react_fault-single a vs h =
+      or_else-single _ _ (settle_fault-single h) (use_fault-single again a vs (settled c h).rows)
 
   option_fault-single : (a : Rule) (v : Option Text) (h : Held) → IsSingle (option_fault c again a v h)
   option_fault-single a (Some v) h = react_fault-single a (v ∷ []) h
@@ -114,7 +128,8 @@ module _ (c : List Rule) (again : Bool) where
   short_fault-single : (o : Option Rule) (text : Text) (h : Held) (f : Held → Kinds) → ((x : Held) → IsSingle (f x))
       → IsSingle (short_fault c again o text h f)
   short_fault-single None text h f all = tt
-  short_fault-single (Some a) text h f all = choice-single (takes_values a) _ _ (option_fault-single a (attached_value text) h)
+  short_fault-single (Some a) text h f all =
+      choice-single (takes_values a) _ _ (option_fault-single a (attached_value text) h)
       (or_else-single _ _ (react_fault-single a [] h) (all (reacted c a [] h)))
 
   bundle_step_fault-single : (o : Option ℕ) (flags : Text) (skip : ℕ) (h : Held) (f : Text → ℕ → Held → Kinds)
@@ -131,11 +146,13 @@ module _ (c : List Rule) (again : Bool) where
   flags_fault-single (suc k) flags skip h = bundle_step_fault-single (slice_get (chars flags) 0) flags skip h
       (flags_fault c again k) (flags_fault-single k)
 
-  bundle_fault-single : (o : Option Text) (h : Held) → IsSingle (option_map_or (λ flags. bundle_fault c again flags h) o [])
+  bundle_fault-single : (o : Option Text) (h : Held)
+      → IsSingle (option_map_or (λ flags. bundle_fault c again flags h) o [])
   bundle_fault-single None h = tt
   bundle_fault-single (Some flags) h = flags_fault-single (length flags) flags h.skip (record h { skip = 0 })
 
-  flag_word_fault-single : (o : Option (Text × Option Text)) (word : Text) (h : Held) → IsSingle (flag_word_fault c again o word h)
+  flag_word_fault-single : (o : Option (Text × Option Text)) (word : Text) (h : Held)
+      → IsSingle (flag_word_fault c again o word h)
   flag_word_fault-single (Some named) word h = long_fault-single (arg_by_long c named.0) named.1 h
   flag_word_fault-single None word h = bundle_fault-single (short_of word) h
 
@@ -152,7 +169,8 @@ module _ (s : Shape) (leaf : s.is_leaf ≡ true) where
   unnamed_fault-single word h = choice-single (bytes_eq word (45 ∷ 45 ∷ [])) _ _ tt
       (flag_word_fault-single s.rules s.args_override_self (long_of word) word h)
 
-  word_fault-single : (is_trailing : Bool) (waiting : Waiting) (word : Text) (h : Held) → IsSingle (word_fault s [] is_trailing waiting word h)
+  word_fault-single : (is_trailing : Bool) (waiting : Waiting) (word : Text) (h : Held)
+      → IsSingle (word_fault s [] is_trailing waiting word h)
   word_fault-single true waiting word h = tt
   word_fault-single false idle word h = unnamed_fault-single word h
   word_fault-single false (option id) word h = unnamed_fault-single word h
@@ -165,14 +183,16 @@ module _ (s : Shape) (leaf : s.is_leaf ≡ true) where
   step_fault-single position h (next waiting) = tt
   step_fault-single position h (trailing place) = tt
   step_fault-single position h (subcommand name) = tt
-  step_fault-single position h value = positional_fault-single s.rules s.args_override_self (arg_by_index s.rules position) h
+  step_fault-single position h value =
+      positional_fault-single s.rules s.args_override_self (arg_by_index s.rules position) h
       (stray_fault s) stray_fault-single
 
   turn_fault-single : (w : Walk) (word : Text) → IsSingle (turn_fault s [] w word)
   turn_fault-single w word =
       let met = word_met s.rules [] w.is_trailing w.waiting w.position word w.held in
       choice-single (is_some w.stopped) _ _ tt
-      (or_else-single _ _ (word_fault-single w.is_trailing w.waiting word w.held) (step_fault-single w.position met.0 met.1))
+      (or_else-single _ _ (word_fault-single w.is_trailing w.waiting word w.held)
+      (step_fault-single w.position met.0 met.1))
 
   walk_fault-single : (words : List Text) (w : Walk) → IsSingle (walk_fault s [] w words)
   unfolding walk_fault
@@ -190,7 +210,8 @@ module _ (s : Shape) (leaf : s.is_leaf ≡ true) where
   defaults_fault-single (a ∷ rules) rows =
       or_else-single _ _ (default_fault-single rows a) (defaults_fault-single rules (with_default rows a))
 
-  check_kinds-single : (help subcommand_wanted argument_wanted : Bool) → IsSingle (check_kinds help subcommand_wanted argument_wanted)
+  check_kinds-single : (help subcommand_wanted argument_wanted : Bool)
+      → IsSingle (check_kinds help subcommand_wanted argument_wanted)
   check_kinds-single help subcommand_wanted argument_wanted =
       choice-single help _ _ tt (choice-single subcommand_wanted _ _ tt (choice-single argument_wanted _ _ tt tt))
 
@@ -202,11 +223,14 @@ module _ (s : Shape) (leaf : s.is_leaf ≡ true) where
       (or_else-single _ _ single (or_else-single _ _ (settle_fault-single s.rules s.args_override_self end)
       (or_else-single _ _ (defaults_fault-single s.rules (settled s.rules end).rows) (check_kinds-single _ _ _))))
 
-  entered_fault-single : (stop : Option (Text × List Text)) → IsSingle (entered_fault (record { top = s; subs = [] }) stop)
+  entered_fault-single : (stop : Option (Text × List Text))
+      → IsSingle (entered_fault (record { top = s; subs = [] }) stop)
   entered_fault-single None = tt
   entered_fault-single (Some named) = tt
 
-  pub built_fault-single : (words : List Text) → IsSingle (built_fault (record { top = s; subs = [] }) nothing_held words)
+  pub built_fault-single : (words : List Text)
+      → IsSingle (built_fault (record { top = s; subs = [] }) nothing_held words)
   built_fault-single words =
       let stop = (walk s.rules [] nothing_held words).stopped in
-      level_fault-single nothing_held words (is_some (entered (record { top = s; subs = [] }) stop)) _ (entered_fault-single stop)
+      level_fault-single nothing_held words (is_some (entered (record { top = s; subs = [] }) stop)) _
+      (entered_fault-single stop)

@@ -30,16 +30,19 @@ others_built = drop 1 (built app).top.rules
 
 -- the names decide alone which modes are accepted
 accepted : (names : Names) → AreModeNames names → (text : Text)
-    → list_any (λ name. bytes_eq name.now text) names.now ≡ list_any (λ name. bytes_eq name.now text) placeless_names.now
+    → list_any (λ name. bytes_eq name.now text) names.now
+    ≡ list_any (λ name. bytes_eq name.now text) placeless_names.now
 accepted names are text = list_any-map (λ name. bytes_eq name text) (λ name. name.now) names.now
     ∙ ap (list_any (λ name. bytes_eq name text)) are
 
-fault_of-app_at : (names : Names) (words : List Text) → AreModeNames names → fault_of (app_at names) words ≡ faults words
+fault_of-app_at : (names : Names) (words : List Text) → AreModeNames names
+    → fault_of (app_at names) words ≡ faults words
 unfolding faults
 fault_of-app_at names words are =
     built_fault-same mode_built others_built names placeless_names (accepted names are) (built app).top words
 
-matches_of-app_at : (names : Names) (words : List Text) → AreModeNames names → matches_of (app_at names) words ≡ found words
+matches_of-app_at : (names : Names) (words : List Text) → AreModeNames names
+    → matches_of (app_at names) words ≡ found words
 unfolding found
 matches_of-app_at names words are =
     rows_after-same mode_built others_built names placeless_names [] words

@@ -1,10 +1,18 @@
--- Two lists of rules that differ in the names of the first rule's parser alone: a walk over words makes the same of both.
-use Rattle.std.proofs.Common.{◌≡◌, ◌∙◌, ◌==◌, ◌&&◌, ◌||◌, ℕ, Bool, zero, suc, true, false, not, refl, ap, cond, List, [], ◌∷◌, Option, Some, None, is_some, length, drop, if◌then◌else◌}
+-- Two lists of rules that differ in the names of the first rule's parser alone: a walk makes the same of both.
+use Rattle.std.proofs.Common.{◌≡◌, ◌∙◌, ◌==◌, ◌&&◌, ◌||◌, ℕ, Bool, zero, suc, true, false, not, refl, ap, cond, List}
+use Rattle.std.proofs.Common.{[], ◌∷◌, Option, Some, None, is_some, length, drop, if◌then◌else◌}
 use Rattle.std.specs.Prelude.{encode_utf8, fold, slice_get}
 use Rattle.std.specs.Option.{option_map_or}
 use Rattle.std.specs.Str.{bytes_eq, chars}
 use Rattle.clap.specs.Lexer.{long_of, short_of}
-use Rattle.clap.specs.Walk.{Held, Outcome, Row, Rule, Step, Text, Waiting, Walk, after_flag, after_step, arg_by_id, arg_by_index, arg_by_long, arg_by_short, attached_value, bundle, bundle_met, bundle_step, done, finished, flag_met, has_long, has_short, idle, is_multiple, is_pending, long_met, long_or_other, long_word, next, next_position, nothing_held, option, option_met, option_word, plain, plain_word, positional, positional_held, pushed, reacted, refused, rows_after, settled, settled_rows, short_met, short_or_plain, short_word, subcommand, subcommand_met, subcommand_or_other, takes_several, takes_values, to_positional, trailing, used, used_by_id, value, waits, walk_from, walked, walked_from, with_default, word_met}
+use Rattle.clap.specs.Walk.{Held, Outcome, Row, Rule, Step, Text, Waiting, Walk, after_flag, after_step, arg_by_id}
+use Rattle.clap.specs.Walk.{arg_by_index, arg_by_long, arg_by_short, attached_value, bundle, bundle_met, bundle_step}
+use Rattle.clap.specs.Walk.{done, finished, flag_met, has_long, has_short, idle, is_multiple, is_pending, long_met}
+use Rattle.clap.specs.Walk.{long_or_other, long_word, next, next_position, nothing_held, option, option_met}
+use Rattle.clap.specs.Walk.{option_word, plain, plain_word, positional, positional_held, pushed, reacted, refused}
+use Rattle.clap.specs.Walk.{rows_after, settled, settled_rows, short_met, short_or_plain, short_word, subcommand}
+use Rattle.clap.specs.Walk.{subcommand_met, subcommand_or_other, takes_several, takes_values, to_positional, trailing}
+use Rattle.clap.specs.Walk.{used, used_by_id, value, waits, walk_from, walked, walked_from, with_default, word_met}
 use Rattle.clap.specs.Walk as walks
 use Rattle.clap.specs.declared.builder.value_parser.ValueParser.TheVariants as values
 use Rattle.sm_words.specs.Command.{Names}
@@ -74,7 +82,8 @@ module _ (rule : Rule) (rest : List Rule) (p q : Names) where
   long_met-same : (name : Text) (v : Option Text) (h : Held)
       → long_met lefts (arg_by_long lefts name) v h ≡ long_met rights (arg_by_long rights name) v h
   long_met-same name v h = long_met-by (arg_by_long lefts name) v h
-      ∙ found-same (λ o. long_met rights o v h) (not (is_some rule.index) && has_long rule name) (arg_by_long rest name) refl
+      ∙ found-same (λ o. long_met rights o v h) (not (is_some rule.index) && has_long rule name)
+      (arg_by_long rest name) refl
 
   short_met-by : (o : Option Rule) (text : Text) (h : Held) (f g : Held → Held × Outcome) → ((x : Held) → f x ≡ g x)
       → short_met lefts o text h f ≡ short_met rights o text h g
@@ -85,7 +94,8 @@ module _ (rule : Rule) (rest : List Rule) (p q : Names) where
   short_met-same : (x : ℕ) (text : Text) (h : Held) (f g : Held → Held × Outcome) → ((x : Held) → f x ≡ g x)
       → short_met lefts (arg_by_short lefts x) text h f ≡ short_met rights (arg_by_short rights x) text h g
   short_met-same x text h f g same = short_met-by (arg_by_short lefts x) text h f g same
-      ∙ found-same (λ o. short_met rights o text h g) (not (is_some rule.index) && has_short rule x) (arg_by_short rest x) refl
+      ∙ found-same (λ o. short_met rights o text h g) (not (is_some rule.index) && has_short rule x)
+      (arg_by_short rest x) refl
 
   bundle_step-same : (o : Option ℕ) (flags : Text) (skip : ℕ) (so_far : Outcome) (h : Held)
       (f g : Text → ℕ → Outcome → Held → Held × Outcome)
@@ -95,7 +105,8 @@ module _ (rule : Rule) (rest : List Rule) (p q : Names) where
   bundle_step-same (Some x) flags zero so_far h f g same =
       let left_over : Text = drop (length (encode_utf8 x)) flags in
       short_met-same x left_over h (f left_over 0 done) (g left_over 0 done) (same left_over 0 done)
-  bundle_step-same (Some x) flags (suc skip) so_far h f g same = same (drop (length (encode_utf8 x)) flags) skip so_far h
+  bundle_step-same (Some x) flags (suc skip) so_far h f g same =
+      same (drop (length (encode_utf8 x)) flags) skip so_far h
 
   bundle_met-same : (k : ℕ) (flags : Text) (skip : ℕ) (so_far : Outcome) (h : Held)
       → bundle_met lefts k flags skip so_far h ≡ bundle_met rights k flags skip so_far h
@@ -126,7 +137,8 @@ module _ (rule : Rule) (rest : List Rule) (p q : Names) where
 
   short_or_plain-same : (waiting : Waiting) (word : Text) (o : Option Text) (h : Held)
       → short_or_plain lefts waiting word o h ≡ short_or_plain rights waiting word o h
-  short_or_plain-same waiting word (Some flags) h = after_met-same waiting word (bundle lefts flags h) (bundle rights flags h)
+  short_or_plain-same waiting word (Some flags) h =
+      after_met-same waiting word (bundle lefts flags h) (bundle rights flags h)
       (bundle_met-same (length flags) flags h.skip plain (record h { skip = 0 }))
   short_or_plain-same waiting word None h = plain_word-same waiting word h
 
@@ -143,12 +155,15 @@ module _ (rule : Rule) (rest : List Rule) (p q : Names) where
   subcommand_or_other-same None waiting position word h =
       choice-same (bytes_eq word (45 ∷ 45 ∷ [])) refl (long_or_other-same waiting word (long_of word) h)
 
-  pub word_met-same : (names : walks.Names) (is_trailing : Bool) (waiting : Waiting) (position : ℕ) (word : Text) (h : Held)
-      → word_met lefts names is_trailing waiting position word h ≡ word_met rights names is_trailing waiting position word h
+  pub word_met-same : (names : walks.Names) (is_trailing : Bool) (waiting : Waiting) (position : ℕ) (word : Text)
+      (h : Held)
+      → word_met lefts names is_trailing waiting position word h
+      ≡ word_met rights names is_trailing waiting position word h
   word_met-same names is_trailing waiting position word h = choice-same is_trailing refl
       (subcommand_or_other-same (subcommand_met names waiting word) waiting position word h)
 
-  positional_held-same : (a : Rule) (word : Text) (h : Held) → positional_held lefts a word h ≡ positional_held rights a word h
+  positional_held-same : (a : Rule) (word : Text) (h : Held)
+      → positional_held lefts a word h ≡ positional_held rights a word h
   positional_held-same a word h =
       ap (pushed a.id word) (choice-same (is_pending a h.pending && takes_several a) refl (settled-same h))
 
@@ -165,7 +180,8 @@ module _ (rule : Rule) (rest : List Rule) (p q : Names) where
       } in
       ap f (positional_held-same a word h)
 
-  after_step-same : (word : Text) (w : Walk) (h : Held) (step : Step) → after_step lefts word w h step ≡ after_step rights word w h step
+  after_step-same : (word : Text) (w : Walk) (h : Held) (step : Step)
+      → after_step lefts word w h step ≡ after_step rights word w h step
   after_step-same word w h (next waiting) = refl
   after_step-same word w h (trailing position) = refl
   after_step-same word w h (subcommand name) = refl
@@ -182,7 +198,8 @@ module _ (rule : Rule) (rest : List Rule) (p q : Names) where
       ∙ ap (λ (m : Held × Step). after_step rights word w m.0 m.1)
       (word_met-same names w.is_trailing w.waiting w.position word w.held)
 
-  pub walked-same : (names : walks.Names) (w : Walk) (word : Text) → walked lefts names w word ≡ walked rights names w word
+  pub walked-same : (names : walks.Names) (w : Walk) (word : Text)
+      → walked lefts names w word ≡ walked rights names w word
   unfolding walked
   walked-same names w word = walked_from-same names w.stopped w word
 
@@ -195,6 +212,7 @@ module _ (rule : Rule) (rest : List Rule) (p q : Names) where
   pub finished-same : (h : Held) → finished lefts h ≡ finished rights h
   finished-same h = ap (λ (s : Held). fold with_default s.rows lefts) (settled-same h)
 
-  pub rows_after-same : (names : walks.Names) (words : List Text) → rows_after lefts names words ≡ rows_after rights names words
+  pub rows_after-same : (names : walks.Names) (words : List Text)
+      → rows_after lefts names words ≡ rows_after rights names words
   rows_after-same names words = finished-same (fold (walked lefts names) (walk_from nothing_held) words).held
       ∙ ap (λ (w : Walk). finished rights w.held) (walk-same names words (walk_from nothing_held))

@@ -22,7 +22,8 @@ abbrev pub Names : Type 0
 Names = Bor (List (Bor Text))
 
 abbrev pub mode_rule : Names → Rule
-mode_rule names = with_default (codes "exec") (record (option_rule (codes "mode")) { parser = Some (values.Names names) })
+mode_rule names =
+    with_default (codes "exec") (record (option_rule (codes "mode")) { parser = Some (values.Names names) })
 
 abbrev pub mode_names : List Text
 mode_names = codes "exec" ∷ codes "serve" ∷ codes "check" ∷ codes "drill" ∷ []
