@@ -81,7 +81,8 @@ module _ {D : Type 0} {G : Ghosts D} (old new : Books D G) (seat : ℕ) (reply :
     (within : None ≡ limit_passed (state_in old) entry) where
   there : (result : Handled) → Handles G old new seat result (Replies reply (Some entry))
       → Handles G old new seat result (outcome_within (limit_passed (state_in old) entry) reply entry)
-  there result handles = subst (λ limit. Handles G old new seat result (outcome_within limit reply entry)) within handles
+  there result handles = subst (λ limit. Handles G old new seat result (outcome_within limit reply entry)) within
+      handles
 
   pub made_as : history_in new ≡ history_in old ++ (seat, Entry entry) ∷ [] → new.failed.value ≡ None
       → Handles G old new seat (Answered reply) (outcome_within (limit_passed (state_in old) entry) reply entry)

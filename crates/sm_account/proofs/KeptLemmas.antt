@@ -66,7 +66,8 @@ module _ {D : Type 0} {G : Ghosts D} (old new : Books D G) (seat : ℕ) (kept : 
 
     module _ (table : new.table ≡ changed (sweep old.table entry.moment) change) (last : new.last ≡ entry.moment)
         (made : new.made ≡ old.made + 1) (none : new.failed.value ≡ None) (sound : Sound new.table)
-        (wrote : WritesAs old.store entry new.store written.Ok) (count : G.faults (disk_in old) ≤ G.faults (disk_in new))
+        (wrote : WritesAs old.store entry new.store written.Ok)
+        (count : G.faults (disk_in old) ≤ G.faults (disk_in new))
       where
         state_new : state_in new ≡ state_at (base_in new) (history_in new)
         state_new =

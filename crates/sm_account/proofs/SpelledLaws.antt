@@ -44,7 +44,8 @@ tokens : (t : Option (List ℕ)) → IfSome t (λ x. IsTrue (is_token x)) → If
 tokens t h = some_then t (λ x. IsTrue (is_token x)) (λ x. length x ≤ 64) (λ x is. token_size x is) h
 
 values : (t : Option (List ℕ)) → IfSome t (λ x. IsTrue (is_value x)) → IfSome t (λ x. length x ≤ VALUE_LIMIT)
-values t h = some_then t (λ x. IsTrue (is_value x)) (λ x. length x ≤ VALUE_LIMIT) (λ x is. grind (arith, nat_tests, is)) h
+values t h =
+    some_then t (λ x. IsTrue (is_value x)) (λ x. length x ≤ VALUE_LIMIT) (λ x is. grind (arith, nat_tests, is)) h
 
 -- CreateSecret
 module _ (r : CreateSecret) (forms : create_forms r ≡ None) where
@@ -87,7 +88,8 @@ module _ (r : CreateSecret) (forms : create_forms r ≡ None) where
       (tokens r.client_request_token (create.create_token r forms)))
       (and_from ((optional text).fits r.description) _ (absent_fits text r.description unbuilt.0)
       (and_from ((optional text).fits r.kms_key_id) _ (absent_fits text r.kms_key_id unbuilt.1)
-      (and_from (text.fits r.name) _ (text_fits r.name name (omega (arith, name_size r.name (create.create_name r forms))))
+      (and_from (text.fits r.name) _
+      (text_fits r.name name (omega (arith, name_size r.name (create.create_name r forms))))
       (and_from ((optional octets).fits r.secret_binary) _ (absent_fits octets r.secret_binary unbuilt.2)
       (and_from ((optional text).fits r.secret_string) _
       (optional_fits r.secret_string VALUE_LIMIT (omega arith) string

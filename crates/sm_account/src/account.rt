@@ -124,7 +124,8 @@ impl<D: Disk, R: Rotator> Account<D, R> {
     /// takes no memory.
     pub fn value_of(&self, id: &SecretId, label: &Label, now: Moment) -> Option<&Value>
         requires { now.0 ≤ LAST_READING }
-        ensures { option_copied result ≡ value_labelled (rows self.now) (later self.now.books.last now) id.now label.now }
+        ensures { option_copied result ≡
+            value_labelled (rows self.now) (later self.now.books.last now) id.now label.now }
     {
         let moment = Moment(self.books.last.0.max(now.0));
         let row = self.books.table.find(id, moment)?;

@@ -1,4 +1,5 @@
-//! Accounts on disks in memory: what an opening finds, what requests are answered, and each device call failing in turn.
+//! Accounts on disks in memory: what an opening finds, what requests are answered, and each device call failing in
+//! turn.
 #![tactic(auto)]
 
 #[cfg(test)]

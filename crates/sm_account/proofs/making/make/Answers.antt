@@ -30,7 +30,8 @@ returns-in-Ok g c =
           (subst (λ t. ChangeSound (sweep t due.entry.moment) due.prepared.change) (sym table) c.requires.due.sound))
           c.in-Ok.ensures.answer c.write_ready.ensures.later;
       history = history;
-      origin = entered_origin old new mid.store c.args.seat c.requires.kept c.write_ready.ensures.same due.entry due.ready
+      origin = entered_origin old new mid.store c.args.seat c.requires.kept c.write_ready.ensures.same due.entry
+          due.ready
           due.prepared.change c.requires.due rest history;
       sure = λ _. c.enter.ensures.sure;
       fault = tt;
@@ -53,7 +54,8 @@ returns-in-Unmended g c =
     let length = c.in-Unmended.ensures.answer.2 in
     let stored = ap (λ b. b.store) still.1 in
     record {
-      kept = unmended_kept old new mid.store c.args.seat c.requires.kept c.write_ready.ensures.same still.1 history length
+      kept = unmended_kept old new mid.store c.args.seat c.requires.kept c.write_ready.ensures.same still.1 history
+          length
           due.entry still.0 c.in-Unmended.ensures.answer c.in-Unmended.ensures.failed;
       history = history;
       origin = faulted_origin old new mid.store c.args.seat c.requires.kept c.write_ready.ensures.same still.1 history
@@ -91,7 +93,8 @@ returns-in-Torn g c =
       origin = faulted_origin old new mid.store c.args.seat c.requires.kept c.write_ready.ensures.same rest history
           length;
       sure = λ is. absurd (false≢true is);
-      fault = faulted_state old new mid.store c.args.seat c.requires.kept c.write_ready.ensures.same rest history length;
+      fault = faulted_state old new mid.store c.args.seat c.requires.kept c.write_ready.ensures.same rest history
+          length;
       any_moment =
           subst (λ s. Throughout g.D.Disk (all_entries old) old.failed.value due.entry (disk_in old) (stores.disk_of s))
           (sym stored) c.write_ready.ensures.any_moment;

@@ -4,7 +4,8 @@ use Rattle.sm_account.proofs.opening.books_over.Goals as goal
 
 pub returns : goal.returns
 returns g c = record {
-  kept = opened_kept c.args.store c.args.entries.now c.args.limit c.requires.opened c.args.standing _ c.requires.replayed
+  kept = opened_kept c.args.store c.args.entries.now c.args.limit c.requires.opened c.args.standing _
+      c.requires.replayed
       c.requires.limits
       (record {
         table = refl;

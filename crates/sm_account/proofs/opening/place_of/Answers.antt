@@ -12,7 +12,8 @@ overflow_add-place c =
     omega (
       arith,
       ap length c.in_ok-spelled.ensures,
-      sizes_front c.args.entries.now c.loop-entry.entry-index c.entry-item.result c.loop-entry-test.true c.entry-item.is,
+      sizes_front c.args.entries.now c.loop-entry.entry-index c.entry-item.result c.loop-entry-test.true
+          c.entry-item.is,
       sizes_take c.args.entries.now (c.loop-entry.entry-index + 1),
     )
 
@@ -22,7 +23,8 @@ overflow_add-place-in-loop-entry c =
       arith,
       c.loop-entry.invariant,
       ap length c.in_ok-spelled.ensures,
-      sizes_front c.args.entries.now c.loop-entry.entry-index c.entry-item.result c.loop-entry-test.true c.entry-item.is,
+      sizes_front c.args.entries.now c.loop-entry.entry-index c.entry-item.result c.loop-entry-test.true
+          c.entry-item.is,
       sizes_take c.args.entries.now (c.loop-entry.entry-index + 1),
     )
 
@@ -32,7 +34,8 @@ loop-entry-preserved c =
       arith,
       c.loop-entry.invariant,
       ap length c.in_ok-spelled.ensures,
-      sizes_front c.args.entries.now c.loop-entry.entry-index c.entry-item.result c.loop-entry-test.true c.entry-item.is,
+      sizes_front c.args.entries.now c.loop-entry.entry-index c.entry-item.result c.loop-entry-test.true
+          c.entry-item.is,
     )
 
 pub returns : goal.returns

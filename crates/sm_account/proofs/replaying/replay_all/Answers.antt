@@ -7,7 +7,8 @@ use Rattle.sm_account.proofs.replaying.replay_all.Goals as goal
 pub follow-requires-clause-bound : goal.follow-requires-clause-bound
 follow-requires-clause-bound c =
     spelled_moment c.index-entries-k.result
-    (spelled_at c.args.entries.now c.loop-k.k c.index-entries-k.result c.requires c.loop-k-test.true c.index-entries-k.is)
+    (spelled_at c.args.entries.now c.loop-k.k c.index-entries-k.result c.requires c.loop-k-test.true
+    c.index-entries-k.is)
 
 pub loop-k-preserved : goal.loop-k-preserved
 loop-k-preserved c =
