@@ -10,7 +10,9 @@ import json
 import re
 import uuid
 
-NOW = 1700000000
+import entries
+
+NOW = entries.MOMENT
 STREAM_LIMIT = 4194304
 MESSAGE_LIMIT = 1000
 HEAD_LIMIT = 16384
@@ -254,6 +256,12 @@ class Account:
         self.secrets = []
         self.drawn = 0
         self.reached = collections.Counter()
+        # The entries that were made, as they stand in a journal.
+        self.entries = []
+
+    def restart(self):
+        """The random bytes of a run begin anew."""
+        self.drawn = 0
 
     def draw(self, count):
         drawn = [(self.drawn + place) % 256 for place in range(count)]
@@ -279,8 +287,14 @@ class Account:
         if operation == "GetSecretValue":
             return get(secret, members.get("VersionId"), members.get("VersionStage"))
         if operation == "PutSecretValue":
-            return put(secret, members, drawn)
-        return move(secret, members["VersionStage"], members.get("MoveToVersionId"), members.get("RemoveFromVersionId"))
+            is_new = (members.get("ClientRequestToken") or drawn_token(drawn)) not in secret.versions
+            reply = put(secret, members, drawn)
+            if is_new:
+                self.entries.append(put_entry(members, drawn))
+            return reply
+        reply = move(secret, members["VersionStage"], members.get("MoveToVersionId"), members.get("RemoveFromVersionId"))
+        self.entries.append(move_entry(members))
+        return reply
 
     def create(self, members, drawn):
         value = members.get("SecretString")
@@ -290,12 +304,31 @@ class Account:
             suffix = "".join(SUFFIX_CHARACTERS[byte % 62] for byte in drawn[:6])
             secret = Secret(members["Name"], f"{ARN_BEGINNING}{members['Name']}-{suffix}")
             self.secrets.append(secret)
+            self.entries.append(create_entry(members, drawn))
             if value is not None:
                 secret.versions[token] = value
                 secret.place("AWSCURRENT", token)
         elif value is None or secret.versions.get(token) != value:
             raise Refusal("ResourceExistsException", f"secret {secret.name} exists", "secret _ exists")
         return secret.named() | ({} if value is None else {"VersionId": token})
+
+
+def create_entry(members, drawn):
+    token, value = entries.text_option(members.get("ClientRequestToken")), entries.text_option(members.get("SecretString"))
+    none, name = entries.option(), entries.text(members["Name"])
+    return entries.entry(1, token, none, none, name, none, value, none, drawn=bytes(drawn))
+
+
+def put_entry(members, drawn):
+    token, value = entries.text_option(members.get("ClientRequestToken")), entries.text_option(members["SecretString"])
+    labels = members.get("VersionStages")
+    stages = entries.option(None if labels is None else entries.items(*map(entries.text, labels)))
+    return entries.entry(2, token, entries.option(), entries.text(members["SecretId"]), value, stages, drawn=bytes(drawn))
+
+
+def move_entry(members):
+    target, source = (entries.text_option(members.get(name)) for name in ("MoveToVersionId", "RemoveFromVersionId"))
+    return entries.entry(6, target, source, entries.text(members["SecretId"]), entries.text(members["VersionStage"]))
 
 
 def get(secret, version, label):

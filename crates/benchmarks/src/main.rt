@@ -2,11 +2,13 @@
 //! `benchmarks pieces 100` reads a message with a body of so many bytes, which come one by one, and says how many;
 //! `benchmarks open FOLDER` opens the store of a folder, `benchmarks copy FROM TO` adds its entries to another folder's
 //! store, and both say how many entries there are; `benchmarks account FOLDER` opens the account of a folder, and says
-//! how many entries that has.
+//! how many entries that has; `benchmarks run FOLDER` answers the messages of standard input on that account, and then
+//! says with which code the run ended.
 #![tactic(auto)]
 
 mod accounts;
 mod pieces;
+mod runs;
 mod stores;
 
 ghost use Rattle.std.specs.Prelude.{◌≡◌, IfOk};
@@ -38,7 +40,7 @@ fn main(rt: HostRuntime) -> ExitCode {
         }
         None => {
             let _ = eprintln!(rt;
-                "benchmarks: table <count>, pieces <count>, open <folder>, copy <from> <to> or account <folder>"
+                "benchmarks: table <count>, pieces <count>, open <folder>, copy <from> <to>, account <folder> or run <folder>"
             );
             ExitCode::from(2)
         }
@@ -66,6 +68,7 @@ fn run(rt: &HostRuntime, words: &[String]) -> Option<(usize, &'static str)> {
         [work, folder] if work.as_str() == "account" => {
             entries(accounts::count(rt, folder.as_str()))
         }
+        [work, folder] if work.as_str() == "run" => code(runs::run(rt, folder.as_str())),
         _ => None,
     }
 }
@@ -80,6 +83,10 @@ fn bytes(count: Option<usize>) -> Option<(usize, &'static str)> {
 
 fn entries(count: Option<usize>) -> Option<(usize, &'static str)> {
     Some((count?, "entries"))
+}
+
+fn code(code: Option<usize>) -> Option<(usize, &'static str)> {
+    Some((code?, "is the code"))
 }
 
 /// How many bytes the body of a message in pieces has, of as many as a word says.
