@@ -26,7 +26,7 @@ pub enum Answer {
 }
 
 /// CreateSecret of `db/app` with a value and the first token.
-pub fn creation(value: &'static str) -> Request {
+fn creation(value: &'static str) -> Request {
     Request::CreateSecret(CreateSecret {
         client_request_token: Some(Text::fixed("11111111-1111-4111-8111-111111111111")),
         description: None,
@@ -39,7 +39,7 @@ pub fn creation(value: &'static str) -> Request {
 }
 
 /// PutSecretValue of `b` with the second token.
-pub fn new_value() -> Request {
+fn new_value() -> Request {
     Request::PutSecretValue(PutSecretValue {
         client_request_token: Some(Text::fixed("22222222-2222-4222-8222-222222222222")),
         secret_binary: None,
@@ -60,7 +60,7 @@ fn answer_of(handled: &Handled) -> Answer {
 }
 
 /// What the account answers to a request of the account's root.
-pub fn ask(account: &mut Kept, request: &Request) -> Answer {
+fn ask(account: &mut Kept, request: &Request) -> Answer {
     let root = Person {
         key: Text::fixed(""),
         arn: Text::fixed("arn:aws:iam::000000000000:root"),
@@ -70,6 +70,16 @@ pub fn ask(account: &mut Kept, request: &Request) -> Answer {
         Some(drawn) => answer_of(&account.handle(1, &root, NOW, drawn, request)),
         None => Answer::Refused,
     }
+}
+
+/// What the account answers to a creation with this value.
+pub fn create(account: &mut Kept, value: &'static str) -> Answer {
+    ask(account, &creation(value))
+}
+
+/// What the account answers to a new value.
+pub fn put(account: &mut Kept) -> Answer {
+    ask(account, &new_value())
 }
 
 /// The current value of `db/app`, as text.

@@ -1,10 +1,9 @@
 //! Each device call of an opening, a creation, a new value and a mend failing in turn, and what a crash leaves then.
-use crate::asked::{Answer, Kept, ask, creation, current, new_value};
+use crate::asked::{Answer, Kept, create, current, put};
 use crate::journals::{CREATED, disk_of, failing, file_of};
 use sm_account::{Account, OpenRefused};
 use sm_base::Bytes;
 use sm_disk::MemoryDisk;
-use sm_model::Request;
 use std::alloc::Global;
 use std::test::Fail;
 
@@ -17,20 +16,35 @@ struct Left {
     unsure: bool,
 }
 
+/// What is asked of the account.
+#[derive(Clone, Copy, Debug, PartialEq, Eq)]
+enum Step {
+    Create,
+    Put,
+}
+
+fn ask(account: &mut Kept, step: Step) -> Answer {
+    match step {
+        Step::Create => create(account, "s3cret"),
+        Step::Put => put(account),
+    }
+}
+
 /// Asks, and asks once more where the disk fails.
-fn ask_twice(account: &mut Kept, request: &Request) -> Answer {
-    match ask(account, request) {
-        Answer::DiskFault => ask(account, request),
+fn ask_twice(account: &mut Kept, step: Step) -> Answer {
+    match ask(account, step) {
+        Answer::DiskFault => ask(account, step),
         answer => answer,
     }
 }
 
 /// A creation and a new value, up to the first that the disk fails twice, and whether that came.
 fn ask_both(account: &mut Kept) -> bool {
-    match ask_twice(account, &creation("s3cret")) {
-        Answer::Reply => ask_twice(account, &new_value()) == Answer::DiskFault,
-        answer => answer == Answer::DiskFault,
+    let created = ask_twice(account, Step::Create);
+    if created == Answer::Reply {
+        return ask_twice(account, Step::Put) == Answer::DiskFault;
     }
+    created == Answer::DiskFault
 }
 
 fn run(alloc: Global, disk: MemoryDisk, before: u64) -> Left {

@@ -19,8 +19,9 @@ pub const PUT_EARLIER: &[u8] = b"\0\0\0\0\x65\x53\xf0\xff\0\0\0\0\0\0\0\0\x02\
 pub const CANCELLED: &[u8] = b"\0\0\0\0\x65\x53\xf1\0\0\0\0\0\0\0\0\0\x0c\0\0\0\x01a";
 
 fn push_record(bytes: &mut Vec<u8>, body: &[u8]) -> Result<(), NoMemory> {
+    let length = u32::try_from(body.len()).unwrap_or(u32::MAX);
     bytes.push(1)?;
-    for byte in (body.len() as u32).to_be_bytes() {
+    for byte in length.to_be_bytes() {
         bytes.push(byte)?;
     }
     for byte in body {

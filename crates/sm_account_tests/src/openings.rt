@@ -1,5 +1,8 @@
 //! What an opening finds, and what requests are answered then.
-use crate::asked::{Answer, Kept, ask, creation, current, new_value};
+ghost use Rattle.std.specs.Prelude.{◌≤◌};
+ghost use Rattle.sm_model.specs.declared.limits.TheConstants.{JOURNAL_LIMIT};
+
+use crate::asked::{Answer, Kept, create, current, put};
 use crate::journals::{CANCELLED, CREATED, PUT, PUT_EARLIER, disk_of, file_of};
 use sm_account::{Account, Damage, OpenRefused};
 use sm_base::Fails;
@@ -104,16 +107,18 @@ fn openings_find_entries_or_damage(rt: HostRuntime) -> Result<(), Fail> {
 
 /// What a creation, the same again, the same with another value, and a new value are answered under a limit, and how
 /// many entries there are then.
-fn answers(alloc: Global, limit: u64) -> Result<([Answer; 4], u64), Fail> {
+fn answers(alloc: Global, limit: u64) -> Result<([Answer; 4], u64), Fail>
+    requires { (9 ≤ limit) × (limit ≤ JOURNAL_LIMIT) }
+{
     let disk = disk_of(alloc, file_of(alloc, &[], b"")?, Fails::never(alloc))?;
     let opened: Result<Kept, _> = Account::open(alloc, disk, 1, limit);
     let Ok(mut account) = opened else {
         return Err("not opened".into());
     };
-    let created = ask(&mut account, &creation("s3cret"));
-    let again = ask(&mut account, &creation("s3cret"));
-    let other = ask(&mut account, &creation("other"));
-    let put = ask(&mut account, &new_value());
+    let created = create(&mut account, "s3cret");
+    let again = create(&mut account, "s3cret");
+    let other = create(&mut account, "other");
+    let put = put(&mut account);
     Ok(([created, again, other, put], account.entries()))
 }
 
