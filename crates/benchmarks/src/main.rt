@@ -40,7 +40,7 @@ fn main(rt: HostRuntime) -> ExitCode {
         }
         None => {
             let _ = eprintln!(rt;
-                "benchmarks: table <count>, pieces <count>, open <folder>, copy <from> <to>, account <folder> or run <folder>"
+                "benchmarks: table|pieces <count>, open|account|run <folder> or copy <from> <to>"
             );
             ExitCode::from(2)
         }
