@@ -1,9 +1,11 @@
 //! Work to be timed from outside: `benchmarks table 100` makes so many secrets in a table, and says how many there are;
 //! `benchmarks pieces 100` reads a message with a body of so many bytes, which come one by one, and says how many;
 //! `benchmarks open FOLDER` opens the store of a folder, `benchmarks copy FROM TO` adds its entries to another folder's
-//! store, and both say how many entries there are.
+//! store, and both say how many entries there are; `benchmarks account FOLDER` opens the account of a folder, and says
+//! how many entries that has.
 #![tactic(auto)]
 
+mod accounts;
 mod pieces;
 mod stores;
 
@@ -36,7 +38,7 @@ fn main(rt: HostRuntime) -> ExitCode {
         }
         None => {
             let _ = eprintln!(rt;
-                "benchmarks: table <count>, pieces <count>, open <folder> or copy <from> <to>"
+                "benchmarks: table <count>, pieces <count>, open <folder>, copy <from> <to> or account <folder>"
             );
             ExitCode::from(2)
         }
@@ -60,6 +62,9 @@ fn run(rt: &HostRuntime, words: &[String]) -> Option<(usize, &'static str)> {
         [work, folder] if work.as_str() == "open" => entries(count(rt, folder.as_str())),
         [work, from, to] if work.as_str() == "copy" => {
             entries(copy(rt, from.as_str(), to.as_str()))
+        }
+        [work, folder] if work.as_str() == "account" => {
+            entries(accounts::count(rt, folder.as_str()))
         }
         _ => None,
     }

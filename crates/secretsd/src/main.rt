@@ -3,8 +3,9 @@
 //! For now it reads HTTP messages from standard input, answers them and ends: `secretsd --mode exec --number 0`.
 #![tactic(auto)]
 
+use sm_disk::MemoryDisk;
 use sm_io::{CountWords, FixedClock, StreamSink, StreamSource};
-use sm_model::{Fails, Moment};
+use sm_model::{Bytes, Fails, Moment, NoMemory};
 use sm_server::{Status, run_once};
 use std::alloc::Global;
 use std::env::Env;
@@ -38,19 +39,37 @@ fn words(rt: &(impl Env + AllocGlobal), alloc: Global) -> io::Result<Vec<String>
     Ok(words)
 }
 
-/// Answers the messages of standard input on standard output.
+/// An empty disk in memory.
+fn empty_disk(alloc: Global) -> Result<MemoryDisk, NoMemory> {
+    MemoryDisk::new(
+        alloc,
+        Bytes::empty(alloc),
+        Bytes::empty(alloc),
+        Bytes::empty(alloc),
+        Fails::never(alloc),
+    )
+}
+
+/// Answers the messages of standard input on standard output. What is kept is kept in memory, and let go at the end.
 fn exec(rt: &HostRuntime, words: &[String]) -> Status {
     let alloc = rt.alloc();
     let mut source = StreamSource::new(rt.stdin());
     let mut sink = StreamSink::new(rt.stdout());
     let mut clock = FixedClock::new(FIXED_MOMENT);
     let mut random = CountWords::new(alloc, 0, Fails::never(alloc));
-    run_once(
-        alloc,
-        words,
-        &mut source,
-        &mut sink,
-        &mut clock,
-        &mut random,
-    )
+    match empty_disk(alloc) {
+        Ok(disk) => {
+            let (status, _disk) = run_once(
+                alloc,
+                words,
+                &mut source,
+                &mut sink,
+                disk,
+                &mut clock,
+                &mut random,
+            );
+            status
+        }
+        Err(NoMemory) => Status::Memory,
+    }
 }

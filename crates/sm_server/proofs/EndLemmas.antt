@@ -8,8 +8,9 @@ use Rattle.sm_io.specs.declared.transfer.ReadEnd.TheVariants.{End, Full}
 use Rattle.sm_http.specs.Messages.{Message}
 use Rattle.sm_server.specs.declared.status.Status.{Status}
 use Rattle.sm_server.specs.declared.status.Status.TheVariants.{Done, Words, Damaged, OpenFault, Memory, People, SinkFault, SourceFault, EdgeFault, Cut, BadMessage, Enough, NotBuilt}
-use Rattle.sm_server.specs.Outside.{Outside, nothing_told, growth, Trace, Passed}
-use Rattle.sm_server.specs.Ran.{are_words, input_limit, AllAnswered, CutAt, Answers, Ended, WordsDecide, Ran}
+use Rattle.sm_server.specs.Outside.{Outside, nothing_told, Growth, growth, Trace, Passed, Within}
+use Rattle.sm_server.specs.Ran.{input_limit, Course, AreAnswered, AllAnswered, CutAt, Answers, Ended, WordsDecide, Runs}
+use Rattle.sm_server.specs.Stored.{WasOpened}
 use Rattle.sm_server.proofs.KnownLemmas.{append_known-nil}
 use Rattle.sm_server.proofs.RunLemmas.{trace_of}
 
@@ -35,113 +36,98 @@ passed_idle before after still = record {
   random = still.drawn ∙ sym (append_known-nil before.drawn);
   source_count = refl;
   sink_count = refl;
+  disk_count = refl;
   random_count = refl;
 }
 
-module _ (words : List (List ℕ)) (before after : Outside) (input : List ℕ)
-    (reads : before.left ≡ prepend_known input after.left)
-    (within : length input ≤ input_limit + 1) where
+module _ (course : Course) (before after : Outside) (input : List ℕ)
+    (reads : before.left ≡ prepend_known input after.left) (within : length input ≤ input_limit + 1) where
   -- the run ended before anything was answered
-  pub ran_idle : (status : Status) → WordsDecide status (are_words words) → Still before after
-      → Ended status input after.left (idle before after)
-      → Ran words status before after
-  ran_idle status decide still ended = record {
+  pub runs_idle : (status : Status) → Still before after → Ended course status input after.left (idle before after)
+      → Runs course status before after
+  runs_idle status still ended = record {
     input = input;
     trace = idle before after;
-    words_decide = decide;
     reads = reads;
     within = within;
     passed = passed_idle before after still;
     ended = ended;
   }
 
-  -- the same trace, with the source's count
-  abbrev with_source : Trace → Trace
-  with_source trace = record {
+  -- the same trace, with the source's count, and the disk's from an earlier one
+  abbrev with_counts : Trace → Trace
+  with_counts trace = record {
     written = trace.written;
     told = trace.told;
     source = growth (λ c. c.source) before after;
     sink = trace.sink;
+    disk = growth (λ c. c.disk) before after;
     random = trace.random;
   }
 
-  all_answered : (messages : List Message) (trace : Trace) → AllAnswered messages trace
-      → AllAnswered messages (with_source trace)
-  all_answered messages trace a =
-      record {
-        brought = a.brought;
-        turns = a.turns;
-        accepted = a.accepted;
-        told = a.told;
-        random = a.random;
-        writes =
-            a.writes;
-      }
+  module _ (trace : Trace) (wider : Within trace.disk (growth (λ c. c.disk) before after)) where
+    abbrev answered : (messages : List Message) → AreAnswered course messages trace
+        → AreAnswered course messages (with_counts trace)
+    answered messages a = record {
+      brought = a.brought;
+      turns = a.turns;
+      history = a.history;
+      accepted = a.accepted;
+      told = a.told;
+      disk = (omega (arith, a.disk.0, wider.0), omega (arith, a.disk.1, wider.1));
+      random = a.random;
+    }
 
-  cut_at : (messages : List Message) (counted : ℕ) (trace : Trace) → CutAt messages counted trace
-      → CutAt messages counted (with_source trace)
-  cut_at messages counted trace a = record {
-    answered = a.answered;
-    unanswered = a.unanswered;
-    parts = a.parts;
-    brought = a.brought;
-    turns = a.turns;
-    accepted = a.accepted;
-    told = a.told;
-    random = a.random;
-    earlier = a.earlier;
-    last = a.last;
-    replies = a.replies;
-    size = a.size;
-    short = a.short;
-    writes = a.writes;
-    counts = a.counts;
-  }
+    all_answered : (messages : List Message) → AllAnswered course messages trace
+        → AllAnswered course messages (with_counts trace)
+    all_answered messages a = record { answered = answered messages a.answered; writes = a.writes }
 
-  ended : (status : Status) (trace : Trace) → IsAtEnd after.left → length input ≤ input_limit
-      → Answers status input trace
-      → Ended status input after.left (with_source trace)
-  ended Done trace end short a = (end, short, (a.0, a.1, all_answered a.0 trace a.2))
-  ended Words trace end short a = absurd a.2
-  ended (Damaged at entry) trace end short a = absurd a.2
-  ended OpenFault trace end short a = absurd a.2
-  ended Memory trace end short a = a
-  ended (People place) trace end short a = absurd a.2
-  ended (SinkFault counted) trace end short a = (end, short, (a.0, a.1, (a.2.0, cut_at a.0 counted trace a.2.1)))
-  ended SourceFault trace end short a = absurd a.2
-  ended EdgeFault trace end short a = absurd a.2
-  ended (Cut bytes) trace end short a = absurd a.2
-  ended (BadMessage place) trace end short a = absurd a.2
-  ended Enough trace end short a = absurd a.2
-  ended NotBuilt trace end short a = inr (end, a)
+    cut_at : (messages : List Message) (counted : ℕ) → CutAt course messages counted trace
+        → CutAt course messages counted (with_counts trace)
+    cut_at messages counted a = record {
+      first = a.first;
+      unanswered = a.unanswered;
+      parts = a.parts;
+      answered = answered a.first a.answered;
+      earlier = a.earlier;
+      last = a.last;
+      replies = a.replies;
+      size = a.size;
+      short = a.short;
+      writes = a.writes;
+      counts = a.counts;
+    }
 
-  decides : (status : Status) (trace : Trace) (taken : Bool) → Answers status input trace → taken ≡ true
-      → WordsDecide status taken
-  decides Done trace taken a are = are
-  decides Words trace taken a are = absurd a.2
-  decides (Damaged at entry) trace taken a are = are
-  decides OpenFault trace taken a are = are
-  decides Memory trace taken a are = are
-  decides (People place) trace taken a are = are
-  decides (SinkFault counted) trace taken a are = are
-  decides SourceFault trace taken a are = are
-  decides EdgeFault trace taken a are = are
-  decides (Cut bytes) trace taken a are = are
-  decides (BadMessage place) trace taken a are = are
-  decides Enough trace taken a are = are
-  decides NotBuilt trace taken a are = are
+    ended : (status : Status) → IsAtEnd after.left → length input ≤ input_limit → Answers course status input trace
+        → Ended course status input after.left (with_counts trace)
+    ended Done end short a = (end, short, (a.0, a.1, all_answered a.0 a.2))
+    ended Words end short a = absurd a.2
+    ended (Damaged at entry) end short a = absurd a.2
+    ended OpenFault end short a = absurd a.2
+    ended Memory end short a = a
+    ended (People place) end short a = absurd a.2
+    ended (SinkFault counted) end short a = (end, short, (a.0, a.1, (a.2.0, cut_at a.0 counted a.2.1)))
+    ended SourceFault end short a = absurd a.2
+    ended EdgeFault end short a = absurd a.2
+    ended (Cut bytes) end short a = absurd a.2
+    ended (BadMessage place) end short a = absurd a.2
+    ended Enough end short a = absurd a.2
+    ended NotBuilt end short a = inr (end, a)
 
   -- the input was answered, by what has no source
-  pub ran_answered : (status : Status) (from to : Outside) (trace : Trace) → Passed from to trace
-      → Answers status input trace
-      → are_words words ≡ true → IsAtEnd after.left → length input ≤ input_limit
-      → from ≡ record before { left = None; counts = record before.counts { source = 0 } }
+  pub runs_answered : (status : Status) (from to : Outside) (trace : Trace) → Passed from to trace
+      → Answers course status input trace
+      → IsAtEnd after.left → length input ≤ input_limit
+      → before.counts.disk ≤ from.counts.disk
+      → from ≡ record before {
+        left = None;
+        counts = record before.counts { source = 0; disk = from.counts.disk };
+      }
       → to ≡ record after { left = None; counts = record after.counts { source = 0 } }
-      → Ran words status before after
-  ran_answered status from to trace passed answers are end short first last = record {
+      → Runs course status before after
+  runs_answered status from to trace passed answers end short earlier first last = record {
     input = input;
-    trace = with_source trace;
-    words_decide = decides status trace (are_words words) answers are;
+    trace = with_counts trace;
     reads = reads;
     within = within;
     passed = record {
@@ -150,16 +136,55 @@ module _ (words : List (List ℕ)) (before after : Outside) (input : List ℕ)
       random = p.random;
       source_count = refl;
       sink_count = p.sink_count;
+      disk_count = refl;
       random_count = p.random_count;
     };
-    ended = ended status trace end short answers;
+    ended = ended trace wider status end short answers;
   }
     where
-      p : Passed (record before { left = None; counts = record before.counts { source = 0 } })
-          (record after { left = None; counts = record after.counts { source = 0 } }) trace
+      p : Passed (record before {
+        left = None;
+        counts = record before.counts { source = 0; disk = from.counts.disk };
+      }) (record after { left = None; counts = record after.counts { source = 0 } }) trace
       p = subst (λ (o : Outside). Passed o (record after { left = None; counts = record after.counts { source = 0 } })
-          trace) first
-          (subst (λ (o : Outside). Passed from o trace) last passed)
+          trace) first (subst (λ (o : Outside). Passed from o trace) last passed)
+
+      wider : Within trace.disk (growth (λ c. c.disk) before after)
+      wider = subst (λ (g : Growth). Within g (growth (λ c. c.disk) before after)) (sym p.disk_count)
+          (earlier, omega arith)
+
+-- a run that read had its account opened
+pub was_opened : (course : Course) (status : Status) (input : List ℕ) (trace : Trace)
+    → Answers course status input trace → WasOpened status
+was_opened course Done input trace a = tt
+was_opened course Words input trace a = absurd a.2
+was_opened course (Damaged at entry) input trace a = absurd a.2
+was_opened course OpenFault input trace a = absurd a.2
+was_opened course Memory input trace a = tt
+was_opened course (People place) input trace a = tt
+was_opened course (SinkFault counted) input trace a = tt
+was_opened course SourceFault input trace a = tt
+was_opened course EdgeFault input trace a = tt
+was_opened course (Cut bytes) input trace a = tt
+was_opened course (BadMessage place) input trace a = tt
+was_opened course Enough input trace a = tt
+was_opened course NotBuilt input trace a = tt
+
+-- and its words were taken
+pub decides : (status : Status) (taken : Bool) → WasOpened status → taken ≡ true → WordsDecide status taken
+decides Done taken o are = are
+decides Words taken o are = absurd o
+decides (Damaged at entry) taken o are = are
+decides OpenFault taken o are = are
+decides Memory taken o are = are
+decides (People place) taken o are = are
+decides (SinkFault counted) taken o are = are
+decides SourceFault taken o are = are
+decides EdgeFault taken o are = are
+decides (Cut bytes) taken o are = are
+decides (BadMessage place) taken o are = are
+decides Enough taken o are = are
+decides NotBuilt taken o are = are
 
 -- a read that came to the end of the source is not full
 pub short_of : (bytes : List ℕ) (end : ReadEnd) → length bytes ≤ input_limit + 1

@@ -1,100 +1,184 @@
 -- The entries that messages make are a legal history.
 use Rattle.std.proofs.Common.{◌≡◌, ℕ, ◌≤◌, List, [], ◌∷◌, ◌++◌, length, Option, Some, None, Result, Ok, Err, refl, sym, ap, ◌∙◌, inl, inr, subst, append-nil, arith}
-use Rattle.sm_base.specs.declared.moment.Moment.{Moment}
-use Rattle.sm_model.specs.declared.entry.Entry.{Entry}
+use Rattle.sm_model.specs.declared.entry.Entry.{Entry as entries}
+use Rattle.sm_model.specs.declared.entry.Mark.{Mark}
+use Rattle.sm_model.specs.declared.entry.Mark.TheVariants.{Fault}
+use Rattle.sm_model.specs.declared.reply.Reply.{Reply}
 use Rattle.sm_model.specs.declared.request.Request.{Request}
-use Rattle.sm_model.specs.declared.rows.Rows.{Rows}
 use Rattle.sm_model.specs.declared.why.Why.{Why}
 use Rattle.sm_model.specs.Needed.{needed}
 use Rattle.sm_forms.specs.Forms.{forms_of}
 use Rattle.sm_judging.specs.declared.judged.Judged.{Judged}
 use Rattle.sm_judging.specs.declared.judged.Judged.TheVariants.{Accept, Refuse, Memory}
-use Rattle.sm_core.specs.Effects.{entry_of}
-use Rattle.sm_core.specs.Histories.{no_rows, replay, last_moment, IsDue, LegalAct, Legal}
+use Rattle.sm_core.specs.Admission.{admission}
+use Rattle.sm_core.specs.Histories.{replay, last_moment, IsDue, LegalAct, Legal}
 use Rattle.sm_core.specs.Judging.{judgement}
+use Rattle.sm_account.specs.History.{entries_in, by_seat}
+use Rattle.sm_account.specs.Outcome.{Outcome, unless_malformed, unless_denied, considered, limit_passed, outcome_within, outcome_judged, Question, moment_at, entry_at, outcome}
+use Rattle.sm_account.specs.States.{Base, State, state_at}
 use Rattle.sm_http.specs.Messages.{Message}
-use Rattle.sm_server.specs.Answer.{Answer, root_key, heard, Occasion, occasion, answer_unless, answer_request, entry_made}
+use Rattle.sm_server.specs.Answer.{Answer, heard, question_of, answer_of}
 use Rattle.sm_server.specs.Outside.{Told}
-use Rattle.sm_server.specs.Turns.{Turn, AnswerAt, TurnOf, entries_of, Brought, Turns}
-use Rattle.sm_server.proofs.AccountLemmas.{replay_more, last_more}
-
--- the moment before the first entry
-abbrev start : Moment
-start = record { 0 = 0 }
+use Rattle.sm_server.specs.Turns.{seat, Turn, AnswerAt, entry_marks, RequestTurn, TurnOf, marked, Brought, Turns}
+use Rattle.sm_server.proofs.HistoryLemmas.{entries_in-append, replay_more, last_more}
 
 -- the entry may follow the history
-abbrev MayFollow : List Entry → Entry → Type 0
-MayFollow history entry =
-    ((last_moment start history).0 ≤ entry.moment.0)
-    × LegalAct (replay no_rows history) entry.moment entry.drawn entry.act
+abbrev MayFollow : Base → List entries → entries → Type 0
+MayFollow base made entry =
+    ((last_moment base.last made).0 ≤ entry.moment.0)
+    × LegalAct (replay base.rows made) entry.moment entry.drawn entry.act
 
--- the entry of a request that was judged so
-judged_due : (judged : Judged) (at : Occasion) (request : Request) (entry : Entry)
-    → entry_made at request judged ≡ Some entry
-    → (entry ≡ entry_of at.moment root_key at.drawn request) × IsDue judged
-judged_due (Accept reply None) at request entry is = absurd (let h = is in cc)
-judged_due (Accept reply (Some change)) at request entry is = ((let h = is in cc), refl)
-judged_due (Refuse why) at request entry is = absurd (let h = is in cc)
-judged_due Memory at request entry is = absurd (let h = is in cc)
+-- the entry of an outcome
+abbrev entry_in : Outcome → Option entries
+entry_in outcome = (answer_of outcome).entry
 
-formed_due : (formed : Option Why) (rows : Rows) (at : Occasion) (request : Request) (entry : Entry)
-    → (answer_unless formed rows at request).entry ≡ Some entry
-    → (formed ≡ None) × (entry ≡ entry_of at.moment root_key at.drawn request)
-    × IsDue (judgement rows at.moment at.drawn request)
-formed_due (Some why) rows at request entry is = absurd (let h = is in cc)
-formed_due None rows at request entry is =
-    let due = judged_due (judgement rows at.moment at.drawn request) at request entry is in
-    (refl, due.0, due.1)
+within_due : (limit : Option Why) (reply : Reply) (due entry : entries)
+    → entry_in (outcome_within limit reply due) ≡ Some entry → entry ≡ due
+within_due (Some why) reply due entry is = absurd (let h = is in cc)
+within_due None reply due entry is = let h = is in cc
 
--- the model's entry may follow
-answer_follows : (history : List Entry) (now : ℕ) (drawn : List ℕ) (request : Request) (entry : Entry)
-    → length drawn ≡ needed request
-    → (answer_request history now drawn request).entry ≡ Some entry → MayFollow history entry
-answer_follows history now drawn request entry size is =
-    let due = formed_due (forms_of request) (replay no_rows history) (occasion history now drawn) request entry is in
-    subst (MayFollow history) (sym due.1) (omega arith, (size, due.0, due.2))
+judged_due : (state : State) (due : entries) (judged : Judged) (entry : entries)
+    → entry_in (outcome_judged state due judged) ≡ Some entry → (entry ≡ due) × IsDue judged
+judged_due state due (Accept reply None) entry is = absurd (let h = is in cc)
+judged_due state due (Accept reply (Some change)) entry is =
+    (within_due (limit_passed state due) reply due entry is, refl)
+judged_due state due (Refuse why) entry is = absurd (let h = is in cc)
+judged_due state due Memory entry is = absurd (let h = is in cc)
 
-made_follows : (history : List Entry) (request : Request) (told : Told) (answer : Answer)
-    → AnswerAt history request told answer
-    → (entry : Entry) → answer.entry ≡ Some entry → MayFollow history entry
-made_follows history request told answer at entry is =
-    answer_follows history at.now told.drawn request entry at.bytes (sym (ap (λ (a : Answer). a.entry) at.is) ∙ is)
+admitted_due : (denied : Option (Option ℕ)) (judged : Judged) → IsDue (unless_denied denied judged) → IsDue judged
+admitted_due (Some statement) judged due = absurd due
+admitted_due None judged due = due
 
--- the entry of a turn may follow
-turn_follows : (history : List Entry) (asked : Result Request Why) (turn : Turn) → TurnOf history asked turn
-    → (entry : Entry) → turn.made ≡ Some entry → MayFollow history entry
-turn_follows history (Err why) turn ((told, unmade), reply) entry is = absurd (let h = unmade in cc)
-turn_follows history (Ok request) turn (inl at) entry is =
-    made_follows history request turn.told (record { reply = turn.reply; entry = turn.made }) at entry is
-turn_follows history (Ok request) turn (inr (inl failed)) entry is = absurd (let h = failed.unmade in cc)
-turn_follows history (Ok request) turn (inr (inr (same, inl (told, unmade)))) entry is = absurd (let h = unmade in cc)
-turn_follows history (Ok request) turn (inr (inr (same, inr (answer, at, inl made)))) entry is =
-    made_follows history request turn.told answer at entry (sym made ∙ is)
-turn_follows history (Ok request) turn (inr (inr (same, inr (answer, at, inr unmade)))) entry is =
-    absurd (let h = unmade in cc)
+formed_due : (formed : Option Why) (next : Judged) → IsDue (unless_malformed formed next)
+    → (formed ≡ None) × IsDue next
+formed_due (Some why) next due = absurd due
+formed_due None next due = (refl, due)
 
--- an entry that may follow, and a legal history behind it
-legal_more : (history : List Entry) (made : Option Entry) (more : List Entry)
-    → ((entry : Entry) → made ≡ Some entry → MayFollow history entry)
-    → Legal (replay no_rows (history ++ entries_of made)) (last_moment start (history ++ entries_of made)) more
-    → Legal (replay no_rows history) (last_moment start history) (entries_of made ++ more)
-legal_more history None more follows legal = subst (λ h. Legal (replay no_rows h) (last_moment start h) more)
-    (append-nil history) legal
-legal_more history (Some entry) more follows legal =
+-- the outcome's entry may follow
+outcome_follows : (base : Base) (history : List (ℕ × Mark)) (question : Question) (entry : entries)
+    → length question.drawn ≡ needed question.request
+    → entry_in (outcome (state_at base history) question) ≡ Some entry
+    → MayFollow base (entries_in history) entry
+outcome_follows base history question entry size is =
+    let state = state_at base history in
+    let judged = judgement state.rows (moment_at state question) question.drawn question.request in
+    let denied = admission state.rows question.person (moment_at state question) question.request in
+    let due = judged_due state (entry_at state question)
+    (considered state.rows question.person (moment_at state question) question.drawn question.request) entry is in
+    let formed = formed_due (forms_of question.request) (unless_denied denied judged) due.1 in
+    subst (MayFollow base (entries_in history)) (sym due.0)
+    (omega arith, (size, formed.0, admitted_due denied judged formed.1))
+
+made_follows : (base : Base) (history : List (ℕ × Mark)) (request : Request) (told : Told) (answer : Answer)
+    → AnswerAt base history request told answer
+    → (entry : entries) → answer.entry ≡ Some entry → MayFollow base (entries_in history) entry
+made_follows base history request told answer at entry is =
+    outcome_follows base history (question_of at.now told.drawn request) entry at.bytes
+    (sym (ap (λ (a : Answer). a.entry) at.is) ∙ is)
+
+-- an entry, if there is one, as a list
+abbrev listed : Option entries → List entries
+listed None = []
+listed (Some entry) = entry ∷ []
+
+-- marks that are an entry which may follow, or none
+abbrev MarksFollow : Base → List entries → List Mark → Type 0
+MarksFollow base made marks = (entry : Option entries) × (entries_in (by_seat seat marks) ≡ listed entry)
+    × ((e : entries) → entry ≡ Some e → MayFollow base made e)
+
+none_follows : (base : Base) (made : List entries) (marks : List Mark) → entries_in (by_seat seat marks) ≡ []
+    → MarksFollow base made marks
+none_follows base made marks is = (None, is, λ e some. absurd (let h = some in cc))
+
+fault_follows : (base : Base) (made : List entries) (marks : List Mark) → marks ≡ Fault ∷ []
+    → MarksFollow base made marks
+fault_follows base made marks is =
+    none_follows base made marks (ap (λ (m : List Mark). entries_in (by_seat seat m)) is)
+
+nothing_follows : (base : Base) (made : List entries) (marks : List Mark) → marks ≡ [] → MarksFollow base made marks
+nothing_follows base made marks is =
+    none_follows base made marks (ap (λ (m : List Mark). entries_in (by_seat seat m)) is)
+
+entry_marks-listed : (entry : Option entries) → entries_in (by_seat seat (entry_marks entry)) ≡ listed entry
+entry_marks-listed None = refl
+entry_marks-listed (Some entry) = refl
+
+entry_follows : (base : Base) (history : List (ℕ × Mark)) (request : Request) (told : Told) (answer : Answer)
+    (marks : List Mark) → AnswerAt base history request told answer → marks ≡ entry_marks answer.entry
+    → MarksFollow base (entries_in history) marks
+entry_follows base history request told answer marks at is = (
+  answer.entry,
+  ap (λ (m : List Mark). entries_in (by_seat seat m)) is ∙ entry_marks-listed answer.entry,
+  made_follows base history request told answer at,
+)
+
+request_follows : (base : Base) (history : List (ℕ × Mark)) (request : Request) (turn : Turn)
+    → RequestTurn base history request turn → MarksFollow base (entries_in history) turn.marks
+request_follows base history request turn (inl (inl a)) =
+    entry_follows base history request turn.told a.answer turn.marks a.at a.made
+request_follows base history request turn (inl (inr a)) =
+    fault_follows base (entries_in history) turn.marks a.fault.2
+request_follows base history request turn (inr (inl a)) =
+    nothing_follows base (entries_in history) turn.marks a.nothing.1
+request_follows base history request turn (inr (inr (same, inl (told, unmade)))) =
+    nothing_follows base (entries_in history) turn.marks unmade
+request_follows base history request turn (inr (inr (same, inr a))) =
+    elim a.made [
+      | inl made ↦ entry_follows base history request turn.told a.answer turn.marks a.at made
+      | inr (inl fault) ↦ fault_follows base (entries_in history) turn.marks fault.2
+      | inr (inr unmade) ↦ nothing_follows base (entries_in history) turn.marks unmade
+    ]
+
+-- the marks of a turn may follow
+turn_follows : (base : Base) (history : List (ℕ × Mark)) (asked : Result Request Why) (turn : Turn)
+    → TurnOf base history asked turn → MarksFollow base (entries_in history) turn.marks
+turn_follows base history (Err why) turn ((told, unmade), reply) =
+    nothing_follows base (entries_in history) turn.marks unmade
+turn_follows base history (Ok request) turn t = request_follows base history request turn t
+
+-- an entry that may follow, and legal entries behind it
+legal_more : (base : Base) (made : List entries) (entry : Option entries) (more : List entries)
+    → ((e : entries) → entry ≡ Some e → MayFollow base made e)
+    → Legal (replay base.rows (made ++ listed entry)) (last_moment base.last (made ++ listed entry)) more
+    → Legal (replay base.rows made) (last_moment base.last made) (listed entry ++ more)
+legal_more base made None more follows legal =
+    subst (λ h. Legal (replay base.rows h) (last_moment base.last h) more) (append-nil made) legal
+legal_more base made (Some entry) more follows legal =
     let may = follows entry refl in (
       may.0,
       may.1,
-      subst (λ rows. Legal rows entry.moment more) (replay_more no_rows history entry)
-          (subst (λ last. Legal (replay no_rows (history ++ entry ∷ [])) last more)
-          (last_more start history entry) legal),
+      subst (λ rows. Legal rows entry.moment more) (replay_more base.rows made entry)
+          (subst (λ last. Legal (replay base.rows (made ++ entry ∷ [])) last more)
+          (last_more base.last made entry) legal),
     )
 
+marks_more : (base : Base) (history : List (ℕ × Mark)) (marks : List Mark) (rest : List (ℕ × Mark))
+    → MarksFollow base (entries_in history) marks
+    → Legal (replay base.rows (entries_in (history ++ by_seat seat marks)))
+    (last_moment base.last (entries_in (history ++ by_seat seat marks))) (entries_in rest)
+    → Legal (replay base.rows (entries_in history)) (last_moment base.last (entries_in history))
+    (entries_in (by_seat seat marks ++ rest))
+marks_more base history marks rest (entry, is, follows) legal =
+    let made = entries_in history in
+    let joined : entries_in (history ++ by_seat seat marks) ≡ made ++ listed entry =
+    entries_in-append history (by_seat seat marks) ∙ ap (λ (xs : List entries). made ++ xs) is in
+    let behind : entries_in (by_seat seat marks ++ rest) ≡ listed entry ++ entries_in rest =
+    entries_in-append (by_seat seat marks) rest ∙ ap (λ (xs : List entries). xs ++ entries_in rest) is in
+    subst (Legal (replay base.rows made) (last_moment base.last made)) (sym behind)
+    (legal_more base made entry (entries_in rest) follows
+    (subst (λ (xs : List entries). Legal (replay base.rows xs) (last_moment base.last xs) (entries_in rest)) joined
+    legal))
+
 -- the entries that messages make at a history may follow it
-pub turns_legal : (history : List Entry) (messages : List Message) (brought : Brought)
-    → Turns history messages brought → Legal (replay no_rows history) (last_moment start history) brought.made
-turns_legal history [] brought is =
-    subst (λ (b : Brought). Legal (replay no_rows history) (last_moment start history) b.made) (sym is) tt
-turns_legal history (m ∷ messages) brought (turn, others, turned, grows, rows, more, follows, is) =
-    subst (λ (b : Brought). Legal (replay no_rows history) (last_moment start history) b.made) (sym is)
-    (legal_more history turn.made others.made (turn_follows history (heard m) turn turned)
-    (turns_legal (history ++ entries_of turn.made) messages others more))
+pub turns_legal : (base : Base) (history : List (ℕ × Mark)) (messages : List Message) (brought : Brought)
+    → Turns base history messages brought
+    → Legal (replay base.rows (entries_in history)) (last_moment base.last (entries_in history))
+    (entries_in brought.history)
+turns_legal base history [] brought is =
+    subst (λ (b : Brought). Legal (replay base.rows (entries_in history)) (last_moment base.last (entries_in history))
+    (entries_in b.history)) (sym is) tt
+turns_legal base history (m ∷ messages) brought (turn, others, turned, goes, more, follows, is) =
+    subst (λ (b : Brought). Legal (replay base.rows (entries_in history)) (last_moment base.last (entries_in history))
+    (entries_in b.history)) (sym is)
+    (marks_more base history turn.marks others.history (turn_follows base history (heard m) turn turned)
+    (turns_legal base (history ++ marked turn) messages others more))

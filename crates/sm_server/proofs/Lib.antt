@@ -1,9 +1,13 @@
 pub mod KnownLemmas
 pub mod ReplyLemmas
-pub mod AccountLemmas
+pub mod HistoryLemmas
 pub mod TurnLemmas
 pub mod TurnsLemmas
 pub mod StreamLemmas
 pub mod LegalLemmas
 pub mod RunLemmas
 pub mod EndLemmas
+pub mod OriginLemmas
+pub mod UnsureLemmas
+pub mod StoredLemmas
+pub mod UnopenedLemmas

@@ -1,20 +1,20 @@
 -- One message's turn behind those of others.
-use Rattle.std.proofs.Common.{◌≡◌, ℕ, ◌≤◌, List, [], ◌∷◌, ◌++◌, refl, sym, ap, ◌∙◌, subst, append-nil, append_assoc}
-use Rattle.sm_model.specs.declared.entry.Entry.{Entry}
-use Rattle.sm_table.specs.Sound.{Sound}
-use Rattle.sm_core.specs.Histories.{no_rows, replay}
+use Rattle.std.proofs.Common.{◌≡◌, ℕ, List, [], ◌∷◌, ◌++◌, refl, sym, ap, ◌∙◌, subst, append-nil, append_assoc}
+use Rattle.sm_model.specs.declared.entry.Mark.{Mark}
+use Rattle.sm_account.specs.States.{Base}
 use Rattle.sm_http.specs.Messages.{Message}
 use Rattle.sm_server.specs.Answer.{heard}
 use Rattle.sm_server.specs.Outside.{Told, nothing_told, told_both}
-use Rattle.sm_server.specs.Turns.{Turn, TurnOf, entries_of, Brought, with_others, brought_nothing, Turns}
+use Rattle.sm_server.specs.Turns.{Turn, TurnOf, marked, Brought, growth_both, with_others, brought_nothing, GoesWell, Turns}
 
 -- what some messages and a turn after them brought
 abbrev pub with_last : Brought → Turn → Brought
 with_last brought turn = record {
   told = told_both brought.told turn.told;
   replies = brought.replies ++ turn.reply ∷ [];
-  made = brought.made ++ entries_of turn.made;
-  random = record { before = brought.random.before; after = turn.random.after };
+  history = brought.history ++ marked turn;
+  disk = growth_both brought.disk turn.disk;
+  random = growth_both brought.random turn.random;
 }
 
 told_assoc : (a b c : Told) → told_both (told_both a b) c ≡ told_both a (told_both b c)
@@ -28,71 +28,82 @@ told_nothing a =
     let of : List ℕ → List ℕ → Told = λ readings drawn. record { readings = readings; drawn = drawn } in
     ap (λ r. of r (a.drawn ++ [])) (append-nil a.readings) ∙ ap (of a.readings) (append-nil a.drawn)
 
+-- the turn follows what was brought
+abbrev pub Next : Brought → Turn → Type 0
+Next brought turn = (brought.disk.after ≡ turn.disk.before) × (brought.random.after ≡ turn.random.before)
+
 module _ (turn : Turn) where
-  alone : (count : ℕ) → count ≡ turn.random.before
-      → with_last (brought_nothing count) turn ≡ with_others turn (brought_nothing turn.random.after)
-  alone count same =
-      let of : Told → List Entry → ℕ → Brought
-      = λ told made before. record {
-        told = told;
-        replies = turn.reply ∷ [];
-        made = made;
-        random =
-            record { before = before; after = turn.random.after };
-      } in
-      ap (λ n. of turn.told (entries_of turn.made) n) same
-      ∙ ap (λ told. of told (entries_of turn.made) turn.random.before) (sym (told_nothing turn.told))
-      ∙ ap (λ made. of (told_both turn.told nothing_told) made turn.random.before)
-      (sym (append-nil (entries_of turn.made)))
+  -- the turn behind nothing
+  abbrev alone_from : ℕ → ℕ → Told → List (ℕ × Mark) → Brought
+  alone_from disk random told history = record {
+    told = told;
+    replies = turn.reply ∷ [];
+    history = history;
+    disk = record { before = disk; after = turn.disk.after };
+    random = record { before = random; after = turn.random.after };
+  }
+
+  alone : (disk random : ℕ) → disk ≡ turn.disk.before → random ≡ turn.random.before
+      → with_last (brought_nothing disk random) turn
+      ≡ with_others turn (brought_nothing turn.disk.after turn.random.after)
+  alone disk random same_disk same_random =
+      ap (λ n. alone_from n random turn.told (marked turn)) same_disk
+      ∙ ap (λ n. alone_from turn.disk.before n turn.told (marked turn)) same_random
+      ∙ ap (λ told. alone_from turn.disk.before turn.random.before told (marked turn)) (sym (told_nothing turn.told))
+      ∙ ap (alone_from turn.disk.before turn.random.before (told_both turn.told nothing_told))
+      (sym (append-nil (marked turn)))
 
   behind : (first : Turn) (others : Brought) → with_last (with_others first others) turn
       ≡ with_others first (with_last others turn)
   behind first others =
-      let of : Told → List Entry → Brought
-      = λ told made. record {
+      let of : Told → List (ℕ × Mark) → Brought
+      = λ told history. record {
         told = told;
         replies = first.reply ∷ (others.replies ++ turn.reply ∷ []);
-        made = made;
-        random = record { before = first.random.before; after = turn.random.after };
+        history = history;
+        disk = growth_both first.disk turn.disk;
+        random = growth_both first.random turn.random;
       } in
-      ap (λ told. of told ((entries_of first.made ++ others.made) ++ entries_of turn.made))
+      ap (λ told. of told ((marked first ++ others.history) ++ marked turn))
       (told_assoc first.told others.told turn.told)
       ∙ ap (of (told_both first.told (told_both others.told turn.told)))
-      (append_assoc (entries_of first.made) others.made (entries_of turn.made))
+      (append_assoc (marked first) others.history (marked turn))
 
-  module _ (m : Message) (later : turn.random.before ≤ turn.random.after) where
+  module _ (base : Base) (m : Message) where
     -- one turn more
-    pub turns_more : (history : List Entry) (messages : List Message) (brought : Brought)
-        → TurnOf (history ++ brought.made) (heard m) turn
-        → brought.random.after ≡ turn.random.before
-        → Sound (replay no_rows ((history ++ brought.made) ++ entries_of turn.made))
-        → Turns history messages brought → Turns history (messages ++ m ∷ []) (with_last brought turn)
-    turns_more history [] brought turned next sound is =
-        let nil : history ++ brought.made ≡ history = ap (λ (b : Brought). history ++ b.made) is ∙ append-nil history in
-        let count : brought.random.before ≡ turn.random.before = sym (ap (λ (b : Brought). b.random.after) is)
-        ∙ next in (
+    pub turns_more : (history : List (ℕ × Mark)) (messages : List Message) (brought : Brought)
+        → TurnOf base (history ++ brought.history) (heard m) turn
+        → Next brought turn
+        → GoesWell base (history ++ brought.history) turn
+        → Turns base history messages brought → Turns base history (messages ++ m ∷ []) (with_last brought turn)
+    turns_more history [] brought turned next well is =
+        let nil : history ++ brought.history ≡ history =
+        ap (λ (b : Brought). history ++ b.history) is ∙ append-nil history in
+        let disk : brought.disk.before ≡ turn.disk.before = sym (ap (λ (b : Brought). b.disk.after) is) ∙ next.0 in
+        let random : brought.random.before ≡ turn.random.before =
+        sym (ap (λ (b : Brought). b.random.after) is) ∙ next.1 in (
           turn,
-          brought_nothing turn.random.after,
-          subst (λ h. TurnOf h (heard m) turn) nil turned,
-          later,
-          subst (λ h. Sound (replay no_rows (h ++ entries_of turn.made))) nil sound,
+          brought_nothing turn.disk.after turn.random.after,
+          subst (λ h. TurnOf base h (heard m) turn) nil turned,
+          subst (λ h. GoesWell base h turn) nil well,
           refl,
-          refl,
-          ap (λ (b : Brought). with_last b turn) is ∙ alone brought.random.before count,
+          (refl, refl),
+          ap (λ (b : Brought). with_last b turn) is ∙ alone brought.disk.before brought.random.before disk random,
         )
-    turns_more history (n ∷ messages) brought turned next sound
-        (first, others, turned_first, grows, rows, more, follows, is) =
-        let same : history ++ brought.made ≡ (history ++ entries_of first.made) ++ others.made =
-        ap (λ (b : Brought). history ++ b.made) is ∙ sym (append_assoc history (entries_of first.made) others.made) in (
+    turns_more history (n ∷ messages) brought turned next well (first, others, turned_first, goes, more, follows, is) =
+        let same : history ++ brought.history ≡ (history ++ marked first) ++ others.history =
+        ap (λ (b : Brought). history ++ b.history) is ∙ sym (append_assoc history (marked first) others.history) in
+        let disk : others.disk.after ≡ turn.disk.before = sym (ap (λ (b : Brought). b.disk.after) is) ∙ next.0 in
+        let random : others.random.after ≡ turn.random.before =
+        sym (ap (λ (b : Brought). b.random.after) is) ∙ next.1 in (
           first,
           with_last others turn,
           turned_first,
-          grows,
-          rows,
-          turns_more (history ++ entries_of first.made) messages others
-              (subst (λ h. TurnOf h (heard m) turn) same turned)
-              (sym (ap (λ (b : Brought). b.random.after) is) ∙ next)
-              (subst (λ h. Sound (replay no_rows (h ++ entries_of turn.made))) same sound) more,
+          goes,
+          turns_more (history ++ marked first) messages others
+              (subst (λ h. TurnOf base h (heard m) turn) same turned)
+              (disk, random)
+              (subst (λ h. GoesWell base h turn) same well) more,
           follows,
           ap (λ (b : Brought). with_last b turn) is ∙ behind first others,
         )

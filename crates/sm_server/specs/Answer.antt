@@ -1,19 +1,14 @@
 -- The answer to a message at a history: the model of the API that every reply is compared with.
-use Rattle.std.specs.Prelude.{ℕ, Bool, ◌&&◌, if◌then◌else◌, List, [], Option, Some, None, Result, Ok, Err, codes, option_copied}
+use Rattle.std.specs.Prelude.{ℕ, Bool, true, ◌&&◌, if◌then◌else◌, List, [], Option, Some, None, Result, Ok, Err, codes, option_copied}
 use Rattle.std.specs.Str.{bytes_eq}
-use Rattle.sm_base.specs.declared.moment.Moment.{Moment}
-use Rattle.sm_model.specs.declared.entry.Change.{Change}
 use Rattle.sm_model.specs.declared.entry.Entry.{Entry}
+use Rattle.sm_model.specs.declared.entry.Mark.{Mark}
+use Rattle.sm_model.specs.declared.person.Person.{Person}
 use Rattle.sm_model.specs.declared.request.Request.{Request}
-use Rattle.sm_model.specs.declared.rows.Rows.{Rows}
 use Rattle.sm_model.specs.declared.why.Why.{Why}
 use Rattle.sm_model.specs.declared.why.Why.TheVariants as whys
-use Rattle.sm_forms.specs.Forms.{forms_of}
-use Rattle.sm_judging.specs.declared.judged.Judged.{Judged}
-use Rattle.sm_judging.specs.declared.judged.Judged.TheVariants.{Accept, Refuse, Memory}
-use Rattle.sm_core.specs.Effects.{entry_of}
-use Rattle.sm_core.specs.Judging.{judgement}
-use Rattle.sm_core.specs.Histories.{no_rows, replay, moment_of}
+use Rattle.sm_account.specs.Outcome.{Outcome, Refuses, Replies, Question, outcome}
+use Rattle.sm_account.specs.States.{Base, state_at}
 use Rattle.sm_http.specs.declared.message.MessageView.{MessageView}
 use Rattle.sm_http.specs.Heads.{field_of}
 use Rattle.sm_http.specs.Messages.{Message}
@@ -74,52 +69,29 @@ pub record Answer : Type 0 where
 abbrev pub refusing : Why → Answer
 refusing why = record { reply = refused why; entry = None }
 
--- when a request is judged, and what was drawn for it
-pub record Occasion : Type 0 where
-  pub moment : Moment
-  pub drawn : List ℕ
+-- the person who may do everything
+abbrev pub root : Person
+root = record { key = root_key; arn = codes "arn:aws:iam::000000000000:root"; full = true }
 
--- an entry is due where there is a change
-abbrev pub entry_due : Occasion → Request → Option Change → Option Entry
-entry_due at request None = None
-entry_due at request (Some change) = Some (entry_of at.moment root_key at.drawn request)
+-- what is asked of an account, as whose caller everybody is taken
+abbrev pub question_of : ℕ → List ℕ → Request → Question
+question_of now drawn request =
+    record { person = root; now = record { 0 = now }; drawn = drawn; request = request }
 
--- the reply to a request that was judged so
-abbrev pub reply_of : Judged → Answered
-reply_of (Accept reply change) = shown reply
-reply_of (Refuse why) = refused why
-reply_of Memory = refused whys.Memory
+-- an outcome as a reply and its entry
+abbrev pub answer_of : Outcome → Answer
+answer_of (Refuses why) = refusing why
+answer_of (Replies reply entry) = record { reply = shown reply; entry = entry }
 
--- the entry of a request that was judged so, if one is due
-abbrev pub entry_made : Occasion → Request → Judged → Option Entry
-entry_made at request (Accept reply change) = entry_due at request change
-entry_made at request (Refuse why) = None
-entry_made at request Memory = None
+-- the answer to a request at a history: its forms, then access, then the tests on the rows, then the limits
+abbrev pub answer_request : Base → List (ℕ × Mark) → ℕ → List ℕ → Request → Answer
+answer_request base history now drawn request =
+    answer_of (outcome (state_at base history) (question_of now drawn request))
 
-abbrev pub answer_judged : Occasion → Request → Judged → Answer
-answer_judged at request judged = record { reply = reply_of judged; entry = entry_made at request judged }
+abbrev pub answer_heard : Base → List (ℕ × Mark) → ℕ → List ℕ → Result Request Why → Answer
+answer_heard base history now drawn (Err why) = refusing why
+answer_heard base history now drawn (Ok request) = answer_request base history now drawn request
 
-abbrev pub answer_unless : Option Why → Rows → Occasion → Request → Answer
-answer_unless (Some why) rows at request = refusing why
-answer_unless None rows at request = answer_judged at request (judgement rows at.moment at.drawn request)
-
--- when a request at a history is judged: at the greater of the last entry's moment and the clock's reading
-abbrev pub occasion : List Entry → ℕ → List ℕ → Occasion
-occasion history now drawn = record {
-  moment = moment_of (record { 0 = 0 }) history (record { 0 = now });
-  drawn =
-      drawn;
-}
-
--- the answer to a request: first its forms, then the tests on the rows
-abbrev pub answer_request : List Entry → ℕ → List ℕ → Request → Answer
-answer_request history now drawn request =
-    answer_unless (forms_of request) (replay no_rows history) (occasion history now drawn) request
-
-abbrev pub answer_heard : List Entry → ℕ → List ℕ → Result Request Why → Answer
-answer_heard history now drawn (Err why) = refusing why
-answer_heard history now drawn (Ok request) = answer_request history now drawn request
-
--- the answer to a message at a history, with the clock's reading and the random bytes that were drawn
-abbrev pub answer : List Entry → ℕ → List ℕ → Message → Answer
-answer history now drawn message = answer_heard history now drawn (heard message)
+-- the answer to a message at a history over a base, with the clock's reading and the random bytes that were drawn
+abbrev pub answer : Base → List (ℕ × Mark) → ℕ → List ℕ → Message → Answer
+answer base history now drawn message = answer_heard base history now drawn (heard message)

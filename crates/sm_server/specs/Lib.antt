@@ -5,4 +5,4 @@ pub mod Turns
 pub mod Status
 pub mod Streams
 pub mod Ran
-pub mod Accounts
+pub mod Stored

@@ -1,11 +1,12 @@
 -- What the outside of a run tells, and what passes between a run and the outside.
-use Rattle.std.specs.Prelude.{◌≡◌, ℕ, List, [], ◌++◌, Option}
+use Rattle.std.specs.Prelude.{◌≡◌, ◌≤◌, ℕ, List, [], ◌++◌, Option}
 use Rattle.std.specs.Io.KnownBytes.{append_known}
 
 -- how often those of the outside that can fail have failed
 pub record Counts : Type 0 where
   pub source : ℕ
   pub sink : ℕ
+  pub disk : ℕ
   pub random : ℕ
 
 -- what the source has left, what the sink took, what the clock and the random source told, and the counts of faults
@@ -33,12 +34,17 @@ pub record Growth : Type 0 where
   pub before : ℕ
   pub after : ℕ
 
+-- the one growth is a part of the other
+abbrev pub Within : Growth → Growth → Type 0
+Within part whole = (whole.before ≤ part.before) × (part.after ≤ whole.after)
+
 -- what passed: what was written and told, and how the counts grew
 pub record Trace : Type 0 where
   pub written : List ℕ
   pub told : Told
   pub source : Growth
   pub sink : Growth
+  pub disk : Growth
   pub random : Growth
 
 -- how a count grew from one state of the outside to another
@@ -52,4 +58,5 @@ pub record Passed (before after : Outside) (trace : Trace) : Type 0 where
   pub random : after.drawn ≡ append_known before.drawn trace.told.drawn
   pub source_count : trace.source ≡ growth (λ c. c.source) before after
   pub sink_count : trace.sink ≡ growth (λ c. c.sink) before after
+  pub disk_count : trace.disk ≡ growth (λ c. c.disk) before after
   pub random_count : trace.random ≡ growth (λ c. c.random) before after

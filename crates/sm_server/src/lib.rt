@@ -1,7 +1,7 @@
 //! The top calls of the server: from the bytes of requests to the bytes of replies.
 #![tactic(auto)]
 
-mod account;
+mod answering;
 mod hear;
 mod reply;
 mod run;

@@ -1,8 +1,9 @@
 //! The replies to messages: a status and a body.
 ghost use Rattle.std.specs.Prelude.{◌≡◌, IfOk};
 ghost use Rattle.sm_reply.specs.Shown.{shown, refused};
-ghost use Rattle.sm_server.specs.Replies.{IsReply};
+ghost use Rattle.sm_server.specs.Replies.{IsReply, Says};
 
+use sm_account::Handled;
 use sm_model::{Bytes, NoMemory, Reply, Why};
 use sm_reply::{body, refusal};
 use std::alloc::Global;
@@ -32,4 +33,16 @@ pub fn render_refusal(alloc: Global, why: &Why) -> Result<MadeReply, NoMemory>
         status: refused.status,
         body: refused.body,
     })
+}
+
+/// The reply to a request that an account handled so.
+pub fn render_handled(alloc: Global, handled: Handled) -> Result<MadeReply, NoMemory>
+    ensures { Says handled result }
+{
+    match handled {
+        Handled::Answered(reply) => render_reply(alloc, &reply),
+        Handled::Refused(why) => render_refusal(alloc, &why),
+        Handled::DiskFault => render_refusal(alloc, &Why::DiskFault),
+        Handled::Memory => Err(NoMemory),
+    }
 }

@@ -1,40 +1,34 @@
 //! The top call over one stream.
-ghost use Rattle.std.specs.Prelude.{◌≡◌, ◌≤◌, List, None, map, string_bytes};
+ghost use Rattle.std.specs.Prelude.{◌≡◌, ◌≤◌, [], None, map, string_bytes};
 ghost use Rattle.std.specs.Str.{bytes_eq};
-ghost use Rattle.sm_http.specs.Framed.{Sends};
-ghost use Rattle.sm_http.specs.Messages.{Message};
-ghost use Rattle.sm_server.specs.Outside.{Trace, Passed};
-ghost use Rattle.sm_server.specs.Ran.{Ran, are_words, Answers, AnswersAll};
-ghost use Rattle.sm_server.specs.Replies.{reply_made, framed_answer, unavailable};
-ghost use Rattle.sm_server.specs.Streams.{ShowAll};
+ghost use Rattle.sm_account.specs.Accounts.{history, base, began, taken, disk, failed};
+ghost use Rattle.sm_account.specs.States.{base_of};
+ghost use Rattle.sm_model.specs.declared.limits.TheConstants.{JOURNAL_LIMIT};
+ghost use Rattle.sm_server.specs.Ran.{Ran, Runs, Story, course_of, are_words};
+ghost use Rattle.sm_server.specs.Stored.{Leaves, Stands, WasOpened, status_unopened, disk_unopened};
 
-use crate::account::Account;
-use crate::reply::MadeReply;
+use crate::answering::answer_source;
 use crate::status::Status;
-use crate::stream::{SplitFault, split};
-use crate::turn::take_turn;
-use sm_http::{MessageView, Piece, Sent, write_through};
-use sm_io::{Clock, ReadEnd, Sink, Source, Words, read_to};
-use sm_model::NoMemory;
+use sm_account::{Account, OpenRefused};
+use sm_disk::Disk;
+use sm_io::{Clock, Sink, Source, Words};
+use sm_model::limits::JOURNAL_LIMIT;
+use sm_rotator::NoRotator;
 use std::alloc::Global;
 
-/// How many bytes are read at most: one more than is answered.
-const READ_LIMIT: usize = 4_194_305;
-
-/// The body of the reply for want of memory.
-const UNAVAILABLE: &[u8] = b"{\"Message\":\"out of memory\",\"__type\":\"ServiceUnavailable\"}";
-
-/// Reads all messages from the source, judges them one after the other on an account without secrets, and writes the
-/// replies to the sink. The words are those of the program's command line.
-pub fn run_once<Q: Source, K: Sink, C: Clock, W: Words>(
+/// Opens the account of the disk, reads all messages from the source, judges them one after the other on the account,
+/// and writes the replies to the sink. The words are those of the program's command line. The disk is handed back.
+pub fn run_once<Q: Source, K: Sink, D: Disk, C: Clock, W: Words>(
     alloc: Global,
     words: &[String],
     source: &mut Q,
     sink: &mut K,
+    disk: D,
     clock: &mut C,
     random: &mut W,
-) -> Status
-    ensures ran { Ran (map string_bytes words.now) result
+) -> (Status, D)
+    // How the run went, and what stands on the disk.
+    ensures ran { (story : Story) × Ran (map string_bytes words.now) result.0
         (record {
           left = Q.left source.old;
           taken = K.taken sink.old;
@@ -43,6 +37,7 @@ pub fn run_once<Q: Source, K: Sink, C: Clock, W: Words>(
           counts = record {
             source = Q.source_faults source.old;
             sink = K.sink_faults sink.old;
+            disk = D.faults disk;
             random = W.faults random.old;
           };
         })
@@ -54,22 +49,34 @@ pub fn run_once<Q: Source, K: Sink, C: Clock, W: Words>(
           counts = record {
             source = Q.source_faults source.new;
             sink = K.sink_faults sink.new;
+            disk = D.faults result.1;
             random = W.faults random.new;
           };
-        }) }
+        }) story
+        × Leaves D.Disk result.0 story disk result.1 }
     ensures source_later { Q.source_faults source.old ≤ Q.source_faults source.new }
     ensures sink_later { K.sink_faults sink.old ≤ K.sink_faults sink.new }
+    ensures disk_later { D.faults disk ≤ D.faults result.1 }
     ensures random_later { W.faults random.old ≤ W.faults random.new }
 {
     if !are_words(words) {
-        return Status::Words;
+        return (Status::Words, disk);
     }
-    let read = read_to(alloc, source, READ_LIMIT);
-    match read.end {
-        ReadEnd::End => answer_input(alloc, read.bytes.as_slice(), sink, clock, random),
-        ReadEnd::Full => Status::NotBuilt,
-        ReadEnd::Failed => Status::SourceFault,
-        ReadEnd::Memory => Status::Memory,
+    match Account::open(alloc, disk, 1, JOURNAL_LIMIT) {
+        Ok(account) => run_opened(alloc, account, source, sink, clock, random),
+        Err(refused) => end_unopened(refused),
+    }
+}
+
+/// How a run ends whose account was not opened, and the disk again.
+fn end_unopened<D>(refused: OpenRefused<D>) -> (Status, D)
+    ensures status { result.0 ≡ status_unopened refused }
+    ensures disk { result.1 ≡ disk_unopened refused }
+{
+    match refused {
+        OpenRefused::Damaged(disk, damage) => (Status::Damaged(damage.at, damage.entry), disk),
+        OpenRefused::Failed(disk) => (Status::OpenFault, disk),
+        OpenRefused::Memory(disk) => (Status::Memory, disk),
     }
 }
 
@@ -91,102 +98,53 @@ fn is_word(word: &String, wanted: &str) -> bool
     word.as_str() == wanted
 }
 
-/// Answers the messages that the input is.
-fn answer_input<K: Sink, C: Clock, W: Words>(
+/// Reads all messages from the source, and answers them on an account that was just opened.
+fn run_opened<Q: Source, K: Sink, D: Disk, C: Clock, W: Words>(
     alloc: Global,
-    input: &[u8],
+    account: Account<D, NoRotator>,
+    source: &mut Q,
     sink: &mut K,
     clock: &mut C,
     random: &mut W,
-) -> Status
-    ensures answered { (trace : Trace)
-        × Passed
+) -> (Status, D)
+    requires fresh { history account ≡ [] }
+    requires base { base account ≡ base_of (taken account) JOURNAL_LIMIT }
+    requires sure { failed account ≡ None }
+    requires later { D.faults (began account) ≤ D.faults (disk account) }
+    ensures ran { (story : Story) × (story.taken ≡ taken account) × Runs (course_of story) result.0
         (record {
-          left = None;
+          left = Q.left source.old;
           taken = K.taken sink.old;
           readings = C.readings clock.old;
           drawn = W.drawn random.old;
-          counts = record { source = 0; sink = K.sink_faults sink.old; random = W.faults random.old };
+          counts = record {
+            source = Q.source_faults source.old;
+            sink = K.sink_faults sink.old;
+            disk = D.faults (began account);
+            random = W.faults random.old;
+          };
         })
         (record {
-          left = None;
+          left = Q.left source.new;
           taken = K.taken sink.new;
           readings = C.readings clock.new;
           drawn = W.drawn random.new;
-          counts = record { source = 0; sink = K.sink_faults sink.new; random = W.faults random.new };
+          counts = record {
+            source = Q.source_faults source.new;
+            sink = K.sink_faults sink.new;
+            disk = D.faults result.1;
+            random = W.faults random.new;
+          };
         })
-        trace
-        × Answers result input.now trace }
+        × Stands D.Disk story (began account) result.1 }
+    ensures opened { WasOpened result.0 }
+    ensures source_later { Q.source_faults source.old ≤ Q.source_faults source.new }
     ensures sink_later { K.sink_faults sink.old ≤ K.sink_faults sink.new }
+    ensures disk_later { D.faults (disk account) ≤ D.faults result.1 }
     ensures random_later { W.faults random.old ≤ W.faults random.new }
 {
-    match split(alloc, input) {
-        Ok(messages) => answer_all(alloc, messages.as_slice(), sink, clock, random),
-        Err(SplitFault::NoStream) => Status::NotBuilt,
-        Err(SplitFault::Memory) => Status::Memory,
-    }
-}
-
-/// Answers messages one after the other, on one account.
-fn answer_all<K: Sink, C: Clock, W: Words>(
-    alloc: Global,
-    messages: &[MessageView<'_>],
-    sink: &mut K,
-    clock: &mut C,
-    random: &mut W,
-) -> Status
-    ensures answered { (all : List Message) → ShowAll all messages.now → (trace : Trace)
-        × Passed
-        (record {
-          left = None;
-          taken = K.taken sink.old;
-          readings = C.readings clock.old;
-          drawn = W.drawn random.old;
-          counts = record { source = 0; sink = K.sink_faults sink.old; random = W.faults random.old };
-        })
-        (record {
-          left = None;
-          taken = K.taken sink.new;
-          readings = C.readings clock.new;
-          drawn = W.drawn random.new;
-          counts = record { source = 0; sink = K.sink_faults sink.new; random = W.faults random.new };
-        })
-        trace
-        × AnswersAll result all trace }
-    ensures sink_later { K.sink_faults sink.old ≤ K.sink_faults sink.new }
-    ensures random_later { W.faults random.old ≤ W.faults random.new }
-{
-    let mut account = Account::new(alloc);
-    let mut piece = Piece::new();
-    let mut count: u64 = 0;
-    for message in messages {
-        let reply = take_turn(alloc, &mut account, message, clock, random);
-        let sent = send(sink, &mut piece, &reply);
-        count = count.saturating_add(sent.taken);
-        if !sent.whole {
-            return Status::SinkFault(count);
-        }
-    }
-    Status::Done
-}
-
-/// Writes a reply, or the one that stands for want of memory.
-fn send<K: Sink>(sink: &mut K, piece: &mut Piece, reply: &Result<MadeReply, NoMemory>) -> Sent
-    ensures sent { Sends result (framed_answer (reply_made reply.now)) (K.taken sink.old) (K.taken sink.new)
-        (K.sink_faults sink.old) (K.sink_faults sink.new) }
-    ensures later { K.sink_faults sink.old ≤ K.sink_faults sink.new }
-{
-    match reply {
-        Ok(reply) => write_through(sink, piece, reply.status, reply.body.as_slice()),
-        Err(_) => send_unavailable(sink, piece),
-    }
-}
-
-/// Writes the reply for want of memory. It takes none.
-fn send_unavailable<K: Sink>(sink: &mut K, piece: &mut Piece) -> Sent
-    ensures sent { Sends result (framed_answer unavailable) (K.taken sink.old) (K.taken sink.new)
-        (K.sink_faults sink.old) (K.sink_faults sink.new) }
-    ensures later { K.sink_faults sink.old ≤ K.sink_faults sink.new }
-{
-    write_through(sink, piece, 503, UNAVAILABLE)
+    let mut account = account;
+    let status = answer_source(alloc, &mut account, source, sink, clock, random);
+    account.standing();
+    (status, account.close())
 }

@@ -1,40 +1,17 @@
 //! Messages over one account, and the replies that they must get.
-use crate::support::{Outside, WELL, add_message, add_reply, expect};
+use crate::exchanges::{
+    APP, APP_CREATED, BAD, CREATE, Exchange, FIRST_VALUE, GET, GET_APP, NOT_FOUND, OK, PUT, PUT_B,
+    PUT_B_DONE, spoken,
+};
+use crate::support::{Outside, WELL, expect};
 use sm_server::Status;
 use std::process::Abort;
 use std::test::Fail;
 
-/// A message's operation and body, and its reply's status line and body.
-type Exchange = (&'static str, &'static str, &'static str, &'static str);
-
-const CREATE: &str = "CreateSecret";
-
-const PUT: &str = "PutSecretValue";
-
-const GET: &str = "GetSecretValue";
-
 const MOVE: &str = "UpdateSecretVersionStage";
-
-const OK: &str = "200 OK";
-
-const BAD: &str = "400 Bad Request";
-
-const APP: &str =
-    r#"{"Name":"db/app","SecretString":"s3cret","ClientRequestToken":"11111111-1111-4111-8111-111111111111"}"#;
-
-const APP_CREATED: &str =
-    "{\"ARN\":\"arn:aws:secretsmanager:us-east-1:000000000000:secret:db/app-ABCDEF\",\"Name\":\"db/app\",\
-        \"VersionId\":\"11111111-1111-4111-8111-111111111111\"}";
 
 const APP_NAMED: &str =
     r#"{"ARN":"arn:aws:secretsmanager:us-east-1:000000000000:secret:db/app-ABCDEF","Name":"db/app"}"#;
-
-const PUT_B: &str =
-    r#"{"SecretId":"db/app","SecretString":"b","ClientRequestToken":"22222222-2222-4222-8222-222222222222"}"#;
-
-const PUT_B_DONE: &str =
-    "{\"ARN\":\"arn:aws:secretsmanager:us-east-1:000000000000:secret:db/app-ABCDEF\",\"Name\":\"db/app\",\
-        \"VersionId\":\"22222222-2222-4222-8222-222222222222\",\"VersionStages\":[\"AWSCURRENT\"]}";
 
 const PUT_C: &str =
     r#"{"SecretId":"db/app","SecretString":"c","ClientRequestToken":"33333333-3333-4333-8333-333333333333"}"#;
@@ -43,22 +20,13 @@ const PUT_C_DONE: &str =
     "{\"ARN\":\"arn:aws:secretsmanager:us-east-1:000000000000:secret:db/app-ABCDEF\",\"Name\":\"db/app\",\
         \"VersionId\":\"33333333-3333-4333-8333-333333333333\",\"VersionStages\":[\"AWSCURRENT\"]}";
 
-const NOT_FOUND: &str = r#"{"Message":"secret not found","__type":"ResourceNotFoundException"}"#;
-
 const NO_VERSION: &str = r#"{"Message":"version not found","__type":"ResourceNotFoundException"}"#;
 
 /// The same message twice is answered twice, and what it made is there once.
 const TWICE: [Exchange; 3] = [
     (CREATE, APP, OK, APP_CREATED),
     (CREATE, APP, OK, APP_CREATED),
-    (
-        GET,
-        r#"{"SecretId":"db/app"}"#,
-        OK,
-        "{\"ARN\":\"arn:aws:secretsmanager:us-east-1:000000000000:secret:db/app-ABCDEF\",\"CreatedDate\":1700000000,\
-            \"Name\":\"db/app\",\"SecretString\":\"s3cret\",\"VersionId\":\"11111111-1111-4111-8111-111111111111\",\
-            \"VersionStages\":[\"AWSCURRENT\"]}",
-    ),
+    (GET, GET_APP, OK, FIRST_VALUE),
 ];
 
 /// A name and a token keep the value that they were first sent with.
@@ -395,12 +363,7 @@ fn converse(
     exchanges: &[Exchange],
     step: usize,
 ) -> Result<(), Fail> {
-    let mut input = Vec::new(rt.alloc());
-    let mut output = Vec::new(rt.alloc());
-    for (operation, body, status, reply) in exchanges {
-        add_message(rt.alloc(), &mut input, operation, body.as_bytes())?;
-        add_reply(rt.alloc(), &mut output, status, reply)?;
-    }
+    let (input, output) = spoken(rt.alloc(), exchanges)?;
     let outside = Outside {
         take: step,
         put: step,

@@ -4,6 +4,12 @@
 #[cfg(test)]
 mod conversations;
 #[cfg(test)]
+mod disks;
+#[cfg(test)]
+mod exchanges;
+#[cfg(test)]
+mod failing;
+#[cfg(test)]
 mod outside;
 #[cfg(test)]
 mod streams;

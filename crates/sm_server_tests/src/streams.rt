@@ -1,4 +1,5 @@
 //! Streams that are, and are not, whole messages, and the limits of their count and sizes.
+use crate::exchanges::{APP, BAD, CREATE, OK};
 use crate::support::{WELL, add_message, add_reply, expect};
 use sm_server::Status;
 use std::alloc::Global;
@@ -8,12 +9,7 @@ use std::test::Fail;
 /// A message that asks for nothing, and its reply's status line and body.
 const ASKS_NOTHING: &[u8] = b"GET / HTTP/1.1\r\n\r\n";
 
-const BAD: &str = "400 Bad Request";
-
 const UNKNOWN: &str = r#"{"Message":"unknown operation","__type":"UnknownOperationException"}"#;
-
-const APP: &str =
-    r#"{"Name":"db/app","SecretString":"s3cret","ClientRequestToken":"11111111-1111-4111-8111-111111111111"}"#;
 
 /// So many messages that ask for nothing.
 fn messages(alloc: Global, count: usize) -> Result<Vec<u8>, Fail> {
@@ -87,9 +83,9 @@ fn answers_up_to_four_mebibytes(rt: HostRuntime) -> Result<(), Fail> {
 #[test]
 fn refuses_parts_of_messages(rt: HostRuntime) -> Result<(), Fail> {
     let mut input = Vec::new(rt.alloc());
-    add_message(rt.alloc(), &mut input, "CreateSecret", APP.as_bytes())?;
+    add_message(rt.alloc(), &mut input, CREATE, APP.as_bytes())?;
     let first = input.len();
-    add_message(rt.alloc(), &mut input, "CreateSecret", APP.as_bytes())?;
+    add_message(rt.alloc(), &mut input, CREATE, APP.as_bytes())?;
     for (size, _) in input.as_slice().iter().enumerate() {
         if size != 0 && size != first {
             let (front, _) = input.as_slice().split_at(size);
@@ -148,7 +144,7 @@ fn creates(
     let value = "v".repeat(alloc, value.min(100_000))?;
     let body = format!(in alloc; "{{\"Name\":\"{name}\",\"SecretString\":\"{value}\"}}")?;
     let mut input = Vec::new(alloc);
-    add_message(alloc, &mut input, "CreateSecret", body.as_bytes())?;
+    add_message(alloc, &mut input, CREATE, body.as_bytes())?;
     let mut output = Vec::new(alloc);
     match refused {
         Some(member) => {
@@ -162,7 +158,7 @@ fn creates(
                 "{{\"ARN\":\"arn:aws:secretsmanager:us-east-1:000000000000:secret:{name}-ABCDEF\",\
                     \"Name\":\"{name}\",\"VersionId\":\"06070809-0a0b-4c0d-8e0f-101112131415\"}}"
             )?;
-            add_reply(alloc, &mut output, "200 OK", reply.as_str())?;
+            add_reply(alloc, &mut output, OK, reply.as_str())?;
         }
     }
     expect(rt, input.as_slice(), &WELL, Status::Done, output.as_slice())

@@ -1,6 +1,7 @@
 //! Runs over memory, and the bytes of messages and replies.
+use sm_disk::MemoryDisk;
 use sm_io::{CountWords, FixedClock, MemorySink, MemorySource};
-use sm_model::{Bytes, Fails, List, Moment};
+use sm_model::{Bytes, Fails, List, Moment, NoMemory};
 use sm_server::{Status, run_once};
 use std::alloc::Global;
 use std::process::Abort;
@@ -32,8 +33,24 @@ fn fails(alloc: Global, from: Option<u64>) -> Fails {
     }
 }
 
-/// What a run over this input answers and writes.
-pub fn run(alloc: Global, input: &[u8], outside: &Outside) -> Result<(Status, Vec<u8>), Fail> {
+/// A disk in memory whose journal holds these bytes.
+pub fn disk_of(alloc: Global, journal: &[u8], fails: Fails) -> Result<MemoryDisk, NoMemory> {
+    MemoryDisk::new(
+        alloc,
+        Bytes::from_slice(alloc, journal)?,
+        Bytes::empty(alloc),
+        Bytes::empty(alloc),
+        fails,
+    )
+}
+
+/// What a run over this input answers and writes, and the disk behind it.
+pub fn run(
+    alloc: Global,
+    input: &[u8],
+    outside: &Outside,
+    disk: MemoryDisk,
+) -> Result<(Status, Vec<u8>, MemoryDisk), Fail> {
     let take = outside.take.max(1);
     let put = outside.put.max(1);
     let bytes = Bytes::from_slice(alloc, input)?;
@@ -42,15 +59,17 @@ pub fn run(alloc: Global, input: &[u8], outside: &Outside) -> Result<(Status, Ve
     let mut clock = FixedClock::new(Moment(1_700_000_000));
     let mut random = CountWords::new(alloc, 0, fails(alloc, outside.random_from));
     let words = words(alloc)?;
-    let status = run_once(
+    let (status, disk) = run_once(
         alloc,
         words.as_slice(),
         &mut source,
         &mut sink,
+        disk,
         &mut clock,
         &mut random,
     );
-    Ok((status, Vec::from_slice(alloc, sink.taken().as_slice())?))
+    let written = Vec::from_slice(alloc, sink.taken().as_slice())?;
+    Ok((status, written, disk))
 }
 
 fn words(alloc: Global) -> Result<Vec<String>, Fail> {
@@ -61,7 +80,7 @@ fn words(alloc: Global) -> Result<Vec<String>, Fail> {
     Ok(words)
 }
 
-/// Asserts that a run ends so and writes this.
+/// Asserts that a run over an empty disk ends so and writes this.
 pub fn expect(
     rt: &(impl Abort + AllocGlobal),
     input: &[u8],
@@ -69,10 +88,24 @@ pub fn expect(
     status: Status,
     output: &[u8],
 ) -> Result<(), Fail> {
-    let (ended, written) = run(rt.alloc(), input, outside)?;
+    let disk = disk_of(rt.alloc(), b"", Fails::never(rt.alloc()))?;
+    expect_over(rt, input, outside, disk, status, output)?;
+    Ok(())
+}
+
+/// Asserts that a run over a disk ends so and writes this, and gives the disk again.
+pub fn expect_over(
+    rt: &(impl Abort + AllocGlobal),
+    input: &[u8],
+    outside: &Outside,
+    disk: MemoryDisk,
+    status: Status,
+    output: &[u8],
+) -> Result<MemoryDisk, Fail> {
+    let (ended, written, disk) = run(rt.alloc(), input, outside, disk)?;
     assert_eq!(rt; ended, status);
     assert!(rt; written.as_slice() == output);
-    Ok(())
+    Ok(disk)
 }
 
 /// Adds a message that asks for an operation.

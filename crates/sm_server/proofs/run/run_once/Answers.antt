@@ -1,7 +1,15 @@
-use Rattle.std.proofs.Common.{[], sym, refl, inl, arith, map, string_bytes}
-use Rattle.sm_server.specs.declared.status.Status.TheVariants.{Words, Memory, SourceFault, NotBuilt}
+use Rattle.std.proofs.Common.{◌≡◌, ◌≤◌, ℕ, List, [], sym, refl, ap, subst, arith, map, string_bytes}
+use Rattle.sm_model.specs.declared.entry.Entry.{Entry}
+use Rattle.sm_journal.specs.Openings.{ReadsAs}
+use Rattle.sm_store.specs.Entries.{HasEntries}
+use Rattle.sm_store.specs.declared.files.TheConstants.{JOURNAL}
+use Rattle.sm_server.specs.declared.status.Status.TheVariants.{Words}
 use Rattle.sm_server.specs.Outside.{Outside}
-use Rattle.sm_server.proofs.EndLemmas.{prepend_known-nil, ran_idle, ran_answered, short_of}
+use Rattle.sm_server.specs.Ran.{are_words, Ran, Runs, course_of}
+use Rattle.sm_server.specs.Stored.{Leaves, Stands, status_unopened, disk_unopened}
+use Rattle.sm_server.proofs.EndLemmas.{prepend_known-nil, runs_idle, decides}
+use Rattle.sm_server.proofs.StoredLemmas.{leaves_opened}
+use Rattle.sm_server.proofs.UnopenedLemmas.{no_story, leaves_unopened, later_unopened, ran_unopened}
 use Rattle.sm_server.proofs.run.run_once.Goals as goal
 
 pub returns-then-not-are_words-clause-ran : goal.returns-then-not-are_words-clause-ran
@@ -13,18 +21,70 @@ returns-then-not-are_words-clause-ran g c =
       drawn = g.W.Words.drawn c.args.random.now;
       counts = record {
         source = g.Q.Source.source_faults c.args.source.now;
-        sink =
-            g.K.Sink.sink_faults c.args.sink.now;
+        sink = g.K.Sink.sink_faults c.args.sink.now;
+        disk = g.D.Disk.faults c.args.disk;
+        random = g.W.Words.faults c.args.random.now;
+      };
+    } in (
+      no_story,
+      record {
+        words_decide = sym c.if-not-are_words.ensures;
+        runs = runs_idle (course_of no_story) before before [] (sym (prepend_known-nil before.left)) (omega arith)
+            Words (record { taken = refl; readings = refl; drawn = refl }) (refl, (refl, refl, refl));
+      },
+      refl,
+    )
+
+pub returns-in-Ok-clause-ran : goal.returns-in-Ok-clause-ran
+returns-in-Ok-clause-ran g c =
+    let run = c.run_opened in
+    let opened = c.in-Ok.ensures.opened in
+    let story = run.ensures.ran.0 in
+    let before : ℕ → Outside = λ (faults : ℕ). record {
+      left = g.Q.Source.left c.args.source.now;
+      taken = g.K.Sink.taken c.args.sink.now;
+      readings = g.C.Clock.readings c.args.clock.now;
+      drawn = g.W.Words.drawn c.args.random.now;
+      counts = record {
+        source = g.Q.Source.source_faults c.args.source.now;
+        sink = g.K.Sink.sink_faults c.args.sink.now;
+        disk = faults;
         random = g.W.Words.faults c.args.random.now;
       };
     } in
-    ran_idle (map string_bytes c.args.words.now) before before [] (sym (prepend_known-nil before.left))
-    (omega arith) Words (sym c.if-not-are_words.ensures)
-    (record { taken = refl; readings = refl; drawn = refl }) (refl, (refl, refl))
+    let after : ℕ → Outside = λ (faults : ℕ). record {
+      left = g.Q.Source.left c.run_opened.new.source;
+      taken = g.K.Sink.taken c.run_opened.new.sink;
+      readings = g.C.Clock.readings c.run_opened.new.clock;
+      drawn = g.W.Words.drawn c.run_opened.new.random;
+      counts = record {
+        source = g.Q.Source.source_faults c.run_opened.new.source;
+        sink = g.K.Sink.sink_faults c.run_opened.new.sink;
+        disk = faults;
+        random = g.W.Words.faults c.run_opened.new.random;
+      };
+    } in (
+      story,
+      record {
+        words_decide = decides run.result.0 (are_words (map string_bytes c.args.words.now)) run.ensures.opened
+            (sym c.if-not-are_words.ensures);
+        runs = subst (λ d. Runs (course_of story) run.result.0 (before (g.D.Disk.faults d))
+            (after (g.D.Disk.faults run.result.1))) opened.began_is run.ensures.ran.2;
+      },
+      leaves_opened g.D.Disk run.result.0 story c.args.disk run.result.1 run.ensures.opened (record {
+        recovered = subst (λ (t : List Entry). ReadsAs JOURNAL (λ bytes. HasEntries bytes t)
+            (g.D.Disk.sight c.args.disk)) (sym run.ensures.ran.1) c.in-Ok.ensures.list;
+        stands = subst (λ d. Stands g.D.Disk story d run.result.1) opened.began_is run.ensures.ran.3;
+      }),
+    )
 
-pub returns-in-End-clause-ran : goal.returns-in-End-clause-ran
-returns-in-End-clause-ran g c =
-    let read = c.read_to-read in
+pub returns-in-Err-clause-ran : goal.returns-in-Err-clause-ran
+returns-in-Err-clause-ran g c =
+    let refused = c.in-Err.refused in
+    let why = c.in-Err.ensures.refused in
+    let words = map string_bytes c.args.words.now in
+    let status = c.end_unopened.result.0 in
+    let now = c.end_unopened.result.1 in
     let before : Outside = record {
       left = g.Q.Source.left c.args.source.now;
       taken = g.K.Sink.taken c.args.sink.now;
@@ -32,119 +92,23 @@ returns-in-End-clause-ran g c =
       drawn = g.W.Words.drawn c.args.random.now;
       counts = record {
         source = g.Q.Source.source_faults c.args.source.now;
-        sink =
-            g.K.Sink.sink_faults c.args.sink.now;
+        sink = g.K.Sink.sink_faults c.args.sink.now;
+        disk = g.D.Disk.faults c.args.disk;
         random = g.W.Words.faults c.args.random.now;
       };
     } in
-    let after : Outside = record {
-      left = g.Q.Source.left c.read_to-read.new.source;
-      taken = g.K.Sink.taken c.answer_input.new.sink;
-      readings = g.C.Clock.readings c.answer_input.new.clock;
-      drawn = g.W.Words.drawn c.answer_input.new.random;
-      counts = record {
-        source = g.Q.Source.source_faults c.read_to-read.new.source;
-        sink =
-            g.K.Sink.sink_faults c.answer_input.new.sink;
-        random = g.W.Words.faults c.answer_input.new.random;
-      };
-    } in
-    let a = c.answer_input.ensures.answered in
-    ran_answered (map string_bytes c.args.words.now) before after read.result.bytes read.ensures.bytes
-    read.ensures.within c.answer_input.result _ _ a.0 a.1
-    (rw c.as_slice.ensures at a.2) (sym c.if-not-are_words.ensures) (rw c.in-End.is at read.ensures.end)
-    (short_of read.result.bytes read.result.end read.ensures.within read.ensures.full c.in-End.is) refl refl
+    let after : Outside = record before { counts = record before.counts { disk = g.D.Disk.faults now } } in
+    let same : disk_unopened refused ≡ now = sym c.end_unopened.ensures.disk in (
+      no_story,
+      subst (λ s. Ran words s before after no_story) (sym c.end_unopened.ensures.status)
+          (ran_unopened g.D.Disk c.args.disk refused words before after why (sym c.if-not-are_words.ensures) refl
+          (ap g.D.Disk.faults (sym same)) refl (record { taken = refl; readings = refl; drawn = refl })),
+      subst (λ s. Leaves g.D.Disk s no_story c.args.disk now) (sym c.end_unopened.ensures.status)
+          (subst (λ d. Leaves g.D.Disk (status_unopened refused) no_story c.args.disk d) same
+          (leaves_unopened g.D.Disk c.args.disk refused why)),
+    )
 
-pub returns-in-Full-clause-ran : goal.returns-in-Full-clause-ran
-returns-in-Full-clause-ran g c =
-    let read = c.read_to-read in
-    let before : Outside = record {
-      left = g.Q.Source.left c.args.source.now;
-      taken = g.K.Sink.taken c.args.sink.now;
-      readings = g.C.Clock.readings c.args.clock.now;
-      drawn = g.W.Words.drawn c.args.random.now;
-      counts = record {
-        source = g.Q.Source.source_faults c.args.source.now;
-        sink =
-            g.K.Sink.sink_faults c.args.sink.now;
-        random = g.W.Words.faults c.args.random.now;
-      };
-    } in
-    let after : Outside = record {
-      left = g.Q.Source.left c.read_to-read.new.source;
-      taken = g.K.Sink.taken c.args.sink.now;
-      readings = g.C.Clock.readings c.args.clock.now;
-      drawn = g.W.Words.drawn c.args.random.now;
-      counts = record {
-        source = g.Q.Source.source_faults c.read_to-read.new.source;
-        sink =
-            g.K.Sink.sink_faults c.args.sink.now;
-        random = g.W.Words.faults c.args.random.now;
-      };
-    } in
-    ran_idle (map string_bytes c.args.words.now) before after read.result.bytes read.ensures.bytes read.ensures.within
-    NotBuilt (sym c.if-not-are_words.ensures)
-    (record { taken = refl; readings = refl; drawn = refl })
-    (inl (omega (arith, read.ensures.full.0 c.in-Full.is), (refl, refl)))
-
-pub returns-in-Failed-clause-ran : goal.returns-in-Failed-clause-ran
-returns-in-Failed-clause-ran g c =
-    let read = c.read_to-read in
-    let before : Outside = record {
-      left = g.Q.Source.left c.args.source.now;
-      taken = g.K.Sink.taken c.args.sink.now;
-      readings = g.C.Clock.readings c.args.clock.now;
-      drawn = g.W.Words.drawn c.args.random.now;
-      counts = record {
-        source = g.Q.Source.source_faults c.args.source.now;
-        sink =
-            g.K.Sink.sink_faults c.args.sink.now;
-        random = g.W.Words.faults c.args.random.now;
-      };
-    } in
-    let after : Outside = record {
-      left = g.Q.Source.left c.read_to-read.new.source;
-      taken = g.K.Sink.taken c.args.sink.now;
-      readings = g.C.Clock.readings c.args.clock.now;
-      drawn = g.W.Words.drawn c.args.random.now;
-      counts = record {
-        source = g.Q.Source.source_faults c.read_to-read.new.source;
-        sink =
-            g.K.Sink.sink_faults c.args.sink.now;
-        random = g.W.Words.faults c.args.random.now;
-      };
-    } in
-    ran_idle (map string_bytes c.args.words.now) before after read.result.bytes read.ensures.bytes read.ensures.within
-    SourceFault (sym c.if-not-are_words.ensures)
-    (record { taken = refl; readings = refl; drawn = refl }) (rw c.in-Failed.is at read.ensures.failed, (refl, refl))
-
-pub returns-clause-ran : goal.returns-clause-ran
-returns-clause-ran g c =
-    let read = c.read_to-read in
-    let before : Outside = record {
-      left = g.Q.Source.left c.args.source.now;
-      taken = g.K.Sink.taken c.args.sink.now;
-      readings = g.C.Clock.readings c.args.clock.now;
-      drawn = g.W.Words.drawn c.args.random.now;
-      counts = record {
-        source = g.Q.Source.source_faults c.args.source.now;
-        sink =
-            g.K.Sink.sink_faults c.args.sink.now;
-        random = g.W.Words.faults c.args.random.now;
-      };
-    } in
-    let after : Outside = record {
-      left = g.Q.Source.left c.read_to-read.new.source;
-      taken = g.K.Sink.taken c.args.sink.now;
-      readings = g.C.Clock.readings c.args.clock.now;
-      drawn = g.W.Words.drawn c.args.random.now;
-      counts = record {
-        source = g.Q.Source.source_faults c.read_to-read.new.source;
-        sink =
-            g.K.Sink.sink_faults c.args.sink.now;
-        random = g.W.Words.faults c.args.random.now;
-      };
-    } in
-    ran_idle (map string_bytes c.args.words.now) before after read.result.bytes read.ensures.bytes read.ensures.within
-    Memory (sym c.if-not-are_words.ensures)
-    (record { taken = refl; readings = refl; drawn = refl }) (refl, refl)
+pub returns-in-Err-clause-disk_later : goal.returns-in-Err-clause-disk_later
+returns-in-Err-clause-disk_later g c =
+    subst (λ d. g.D.Disk.faults c.args.disk ≤ g.D.Disk.faults d) (sym c.end_unopened.ensures.disk)
+    (later_unopened g.D.Disk c.args.disk c.in-Err.refused c.in-Err.ensures.refused)

@@ -1,0 +1,164 @@
+-- What always holds of the books goes on to hold.
+use Rattle.std.proofs.Common.{◌≡◌, ℕ, ◌+◌, ◌≤◌, min, List, [], ◌∷◌, ◌++◌, length, None, is_some, sym, ap, ◌∙◌, subst, append_assoc, append-nil, arith}
+use Rattle.std.proofs.Math.Logic.{∥∥₁_map}
+use Rattle.sm_base.specs.Faults.{Rose}
+use Rattle.sm_base.specs.declared.moment.Moment.{Moment}
+use Rattle.sm_base.specs.declared.moment.TheConstants.{LAST_READING}
+use Rattle.sm_model.specs.declared.entry.Change.{Change}
+use Rattle.sm_model.specs.declared.entry.Entry.{Entry as entries}
+use Rattle.sm_model.specs.declared.entry.Mark.{Mark}
+use Rattle.sm_model.specs.declared.entry.Mark.TheVariants.{Entry, Fault}
+use Rattle.sm_model.specs.declared.limits.TheConstants.{JOURNAL_LIMIT}
+use Rattle.sm_table.specs.Changes.{changed}
+use Rattle.sm_table.specs.Sound.{Sound}
+use Rattle.sm_table.specs.Sweep.{sweep}
+use Rattle.sm_core.specs.Effects.{effect}
+use Rattle.sm_core.specs.Histories.{no_rows, replay, last_moment, LegalAct}
+use Rattle.sm_disk.specs.declared.disk.Disk.{Ghosts}
+use Rattle.sm_store.specs.Stores as stores
+use Rattle.sm_account.specs.declared.books.Books.{Books}
+use Rattle.sm_account.specs.declared.writing.Written.TheVariants as written
+use Rattle.sm_account.specs.Books.{count_limit, IsLegal, MayFollow, MayFollowIf, history_in, disk_in, all_entries, base_in, state_in, Kept, IsDueAt}
+use Rattle.sm_account.specs.History.{entries_in, faults_in}
+use Rattle.sm_account.specs.States.{first_moment, base_of, State, state_at, state_with}
+use Rattle.sm_account.specs.Writing.{WritesAs}
+use Rattle.sm_account.proofs.StateLaws.{entries_more, faults_more, replay_joined, last_joined, state_more, state_faulted, legal_more}
+
+module _ {D : Type 0} {G : Ghosts D} (books : Books D G) (kept : Kept G books) where
+  -- the rows are those of all entries
+  pub rows_of_all : books.table ≡ replay no_rows (all_entries books)
+  rows_of_all = ap (λ (s : State). s.rows) kept.state
+      ∙ sym (replay_joined no_rows books.taken.value (entries_in (history_in books)))
+
+  pub last_of_all : books.last ≡ last_moment first_moment (all_entries books)
+  last_of_all = ap (λ (s : State). s.last) kept.state
+      ∙ sym (last_joined first_moment books.taken.value (entries_in (history_in books)))
+
+  -- an entry that is legal at the rows may follow all entries
+  pub may_follow : (entry : entries) → books.last.0 ≤ entry.moment.0
+      → LegalAct books.table entry.moment entry.drawn entry.act → MayFollow (all_entries books) entry
+  may_follow entry later legal = record {
+    later = subst (λ (m : Moment). m.0 ≤ entry.moment.0) last_of_all later;
+    legal = subst (λ rows. LegalAct rows entry.moment entry.drawn entry.act) rows_of_all legal;
+  }
+
+-- a legal list goes on with an entry that may follow
+pub goes_on : (all : List entries) (entry : entries) → IsLegal all → MayFollow all entry → IsLegal (all ++ entry ∷ [])
+goes_on all entry legal follows = legal_more no_rows first_moment all entry legal follows.later follows.legal
+
+-- what stays when the history grows by one mark of an entry that was tried
+pub record Continues {D : Type 0} {G : Ghosts D} (old new : Books D G) (seat : ℕ) (mark : Mark) : Type 0 where
+  pub taken : new.taken.value ≡ old.taken.value
+  pub began : new.began.value ≡ old.began.value
+  pub recovered : new.recovered ≡ old.recovered
+  pub limit : new.limit ≡ old.limit
+  pub under : stores.limit_of new.store ≡ stores.limit_of old.store
+  pub history : new.marks.items ≡ old.marks.items ++ (seat, mark) ∷ []
+
+module _ {D : Type 0} {G : Ghosts D} (old new : Books D G) (seat : ℕ) (kept : Kept G old) where
+  module _ (entry : entries) (ready : List ℕ) (change : Change) (due : IsDueAt old entry ready change)
+      (goes : Continues old new seat (Entry entry)) where
+    all_more : all_entries new ≡ all_entries old ++ entry ∷ []
+    all_more = ap (λ (t : List entries). t ++ entries_in (history_in new)) goes.taken
+        ∙ ap (λ h. old.taken.value ++ entries_in h) goes.history
+        ∙ ap (λ es. old.taken.value ++ es) (entries_more (history_in old) seat (Entry entry))
+        ∙ sym (append_assoc old.taken.value (entries_in (history_in old)) (entry ∷ []))
+
+    module _ (table : new.table ≡ changed (sweep old.table entry.moment) change) (last : new.last ≡ entry.moment)
+        (made : new.made ≡ old.made + 1) (none : new.failed.value ≡ None) (sound : Sound new.table)
+        (wrote : WritesAs old.store entry new.store written.Ok)
+        (count : G.faults (disk_in old) ≤ G.faults (disk_in new))
+      where
+        state_new : state_in new ≡ state_at (base_in new) (history_in new)
+        state_new =
+            let rows : new.table ≡ effect old.table entry = table ∙ due.makes in
+            let limit : new.limit ≡ old.limit = goes.limit in
+            let bytes = wrote.1 in
+            let step : state_in new ≡ state_with (state_in old) entry = cc in
+            let there : state_at (base_in new) (history_in new)
+            ≡ state_at (base_in old) (history_in old ++ (seat, Entry entry) ∷ []) =
+            ap (λ t. state_at (base_of t new.limit) (history_in new)) goes.taken
+            ∙ ap (λ l. state_at (base_of old.taken.value l) (history_in new)) goes.limit
+            ∙ ap (state_at (base_in old)) goes.history in
+            step ∙ ap (λ s. state_with s entry) kept.state
+            ∙ sym (state_more (base_in old) (history_in old) seat entry) ∙ sym there
+
+        faults_new : min (G.faults new.began.value + faults_in (history_in new)) count_limit ≤ G.faults (disk_in new)
+        faults_new =
+            let began : G.faults new.began.value ≡ G.faults old.began.value = ap G.faults goes.began in
+            let same : faults_in (history_in new) ≡ faults_in (history_in old) + 0 =
+            ap faults_in goes.history ∙ faults_more (history_in old) seat (Entry entry) in
+            omega (arith, began, same, kept.faults, count)
+
+        -- an entry was made
+        pub kept_made : Kept G new
+        kept_made = record {
+          sound = sound;
+          bound = subst (λ (m : Moment). m.0 ≤ LAST_READING) (sym last) due.bound;
+          within = omega (arith, made, due.counted);
+          recovered = goes.recovered ∙ kept.recovered ∙ ap length (sym goes.taken);
+          few = omega (arith, goes.recovered, kept.few);
+          limit = subst (λ (n : ℕ). (9 ≤ n) × (n ≤ JOURNAL_LIMIT)) (sym goes.limit) kept.limit;
+          under = goes.under ∙ kept.under ∙ sym goes.limit;
+          state = state_new;
+          sure = wrote.0 ∙ ap is_some (sym none);
+          holds =
+              subst (stores.Holds new.store (all_entries new)) (sym none)
+              (subst (λ all. stores.Holds new.store all None) (sym all_more)
+              (wrote.2 (all_entries old) old.failed.value kept.holds));
+          legal =
+              subst (λ all. ∥ IsLegal all ∥₁) (sym all_more)
+              (∥∥₁_map kept.legal (λ legal. goes_on (all_entries old) entry legal
+              (may_follow old kept entry due.later due.legal)));
+          next = subst (λ f. ∥ MayFollowIf (all_entries new) f ∥₁) (sym none) ∣ tt ∣₁;
+          faults = faults_new;
+        }
+
+  -- the disk failed, and the history has one fault more
+  module _ (goes : Continues old new seat Fault) where
+    all_same : all_entries new ≡ all_entries old
+    all_same = ap (λ (t : List entries). t ++ entries_in (history_in new)) goes.taken
+        ∙ ap (λ h. old.taken.value ++ entries_in h) goes.history
+        ∙ ap (λ es. old.taken.value ++ es) (entries_more (history_in old) seat Fault
+        ∙ append-nil (entries_in (history_in old)))
+
+    module _ (table : new.table ≡ old.table) (last : new.last ≡ old.last) (made : new.made ≡ old.made)
+        (bytes : stores.length_of new.store ≡ stores.length_of old.store) where
+      pub state_stays : state_in new ≡ state_in old
+      state_stays = let limit : new.limit ≡ old.limit = goes.limit in cc
+
+      state_there : state_in new ≡ state_at (base_in new) (history_in new)
+      state_there =
+          let there : state_at (base_in new) (history_in new)
+          ≡ state_at (base_in old) (history_in old ++ (seat, Fault) ∷ []) =
+          ap (λ t. state_at (base_of t new.limit) (history_in new)) goes.taken
+          ∙ ap (λ l. state_at (base_of old.taken.value l) (history_in new)) goes.limit
+          ∙ ap (state_at (base_in old)) goes.history in
+          state_stays ∙ kept.state ∙ sym (state_faulted (base_in old) (history_in old) seat) ∙ sym there
+
+      module _ (rose : Rose (G.faults (disk_in old)) (G.faults (disk_in new))) where
+        faults_risen : min (G.faults new.began.value + faults_in (history_in new)) count_limit ≤ G.faults (disk_in new)
+        faults_risen =
+            let began : G.faults new.began.value ≡ G.faults old.began.value = ap G.faults goes.began in
+            let same : faults_in (history_in new) ≡ faults_in (history_in old) + 1 =
+            ap faults_in goes.history ∙ faults_more (history_in old) seat Fault in
+            omega (arith, began, same, kept.faults, rose)
+
+        pub kept_faulted : stores.is_unsure new.store ≡ is_some new.failed.value
+            → stores.Holds new.store (all_entries old) new.failed.value
+            → ∥ MayFollowIf (all_entries old) new.failed.value ∥₁ → Kept G new
+        kept_faulted sure holds next = record {
+          sound = subst Sound (sym table) kept.sound;
+          bound = subst (λ (m : Moment). m.0 ≤ LAST_READING) (sym last) kept.bound;
+          within = omega (arith, made, kept.within);
+          recovered = goes.recovered ∙ kept.recovered ∙ ap length (sym goes.taken);
+          few = omega (arith, goes.recovered, kept.few);
+          limit = subst (λ (n : ℕ). (9 ≤ n) × (n ≤ JOURNAL_LIMIT)) (sym goes.limit) kept.limit;
+          under = goes.under ∙ kept.under ∙ sym goes.limit;
+          state = state_there;
+          sure = sure;
+          holds = subst (λ all. stores.Holds new.store all new.failed.value) (sym all_same) holds;
+          legal = subst (λ all. ∥ IsLegal all ∥₁) (sym all_same) kept.legal;
+          next = subst (λ all. ∥ MayFollowIf all new.failed.value ∥₁) (sym all_same) next;
+          faults = faults_risen;
+        }

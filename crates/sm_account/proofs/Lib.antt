@@ -1,0 +1,12 @@
+pub mod StateLaws
+pub mod KeptLemmas
+pub mod MakeLemmas
+pub mod WriteLemmas
+pub mod HandleLemmas
+pub mod FieldSizes
+pub mod SpelledLaws
+pub mod ReplayLemmas
+pub mod OpenLemmas
+pub mod RoomLemmas
+pub mod DoorLemmas
+pub mod QuestionLemmas

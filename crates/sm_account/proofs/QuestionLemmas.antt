@@ -1,0 +1,78 @@
+-- What becomes of a question at the books, by how it was judged.
+use Rattle.std.proofs.Common.{◌≡◌, ℕ, max, Option, Some, None, sym, ap, ◌∙◌, subst}
+use Rattle.sm_base.specs.Outcomes.{OrMemory}
+use Rattle.sm_base.specs.declared.moment.Moment.{Moment}
+use Rattle.sm_disk.specs.declared.disk.Disk.{Ghosts}
+use Rattle.sm_model.specs.declared.entry.Change.{Change}
+use Rattle.sm_model.specs.declared.entry.Entry.{Entry}
+use Rattle.sm_model.specs.declared.reply.Reply.{Reply}
+use Rattle.sm_model.specs.declared.why.Why.{Why}
+use Rattle.sm_judging.specs.Judged.{judged_told, IfChange}
+use Rattle.sm_judging.specs.declared.judged.Judged.TheVariants as judged
+use Rattle.sm_core.specs.Effects.{entry_of}
+use Rattle.sm_account.specs.declared.books.Books.{Books}
+use Rattle.sm_account.specs.declared.due.Due.{Due}
+use Rattle.sm_account.specs.declared.handled.Handled.{Handled}
+use Rattle.sm_account.specs.declared.handled.Handled.TheVariants.{Answered, Refused}
+use Rattle.sm_account.specs.Books.{state_in}
+use Rattle.sm_account.specs.Growing.{SameButRoom}
+use Rattle.sm_account.specs.Handling.{Handles}
+use Rattle.sm_account.specs.Outcome.{Outcome, Question, considered, entry_at, limit_passed, moment_at, outcome, outcome_due, outcome_within}
+use Rattle.sm_account.specs.States.{State}
+use Rattle.sm_account.proofs.HandleLemmas.{after_room, judged_as, read_as, refused_as}
+use Rattle.sm_account.proofs.RoomLemmas.{same_state}
+
+-- a fact of the change that there is
+pub of_change : (reply : Reply) (change : Option Change) (made : Change) → change ≡ Some made → (P : Change → Type 0)
+    → IfChange (judged.Accept reply change) P → P made
+of_change reply change made is P h = subst (λ c. IfChange (judged.Accept reply c) P) is h
+
+module _ {D : Type 0} {G : Ghosts D} (books : Books D G) (seat : ℕ) (q : Question) (n : ℕ)
+    (is : n ≡ max books.last.0 q.now.0) where
+  at : record { 0 = n } ≡ moment_at (state_in books) q
+  at = let of : ℕ → Moment = λ k. record { 0 = k } in ap of is
+
+  -- it was accepted, and changes nothing
+  pub read_so : (reply : Reply) (change : Option Change) → change ≡ None
+      → OrMemory (judged_told (judged.Accept reply change))
+      (considered books.table q.person (record { 0 = n }) q.drawn q.request)
+      → Handles G books books seat (Answered reply) (outcome (state_in books) q)
+  read_so reply change none told =
+      judged_as books q (record { 0 = n }) at (judged.Accept reply change) told
+      (λ w. Handles G books books seat (Answered reply) w) (λ never. absurd (cc))
+      (subst
+      (λ c. Handles G books books seat (Answered reply)
+      (outcome_due (state_in books) (entry_at (state_in books) q) reply c))
+      (sym none) (read_as books seat reply))
+
+  -- it was refused
+  pub refused_so : (why : Why)
+      → OrMemory (judged_told (judged.Refuse why))
+      (considered books.table q.person (record { 0 = n }) q.drawn q.request)
+      → Handles G books books seat (Refused why) (outcome (state_in books) q)
+  refused_so why told =
+      judged_as books q (record { 0 = n }) at (judged.Refuse why) told
+      (λ w. Handles G books books seat (Refused why) w) (λ never. absurd (cc)) (refused_as books seat why)
+
+  -- it was accepted, and its entry was made, or passed a limit, or met a fault, where there was room for its mark
+  pub made_so : (mid new : Books D G) (room : SameButRoom books mid) (due : Due) (reply : Reply)
+      (change : Option Change) (made : Change) → change ≡ Some made
+      → OrMemory (judged_told (judged.Accept reply change))
+      (considered books.table q.person (record { 0 = n }) q.drawn q.request)
+      → due.entry ≡ entry_of (record { 0 = n }) q.person.key q.drawn q.request → (result : Handled)
+      → Handles G mid new seat result (outcome_within (limit_passed (state_in mid) due.entry) reply due.entry)
+      → Handles G books new seat result (outcome (state_in books) q)
+  made_so mid new room due reply change made some told entry result handles =
+      let within : State → Entry → Outcome = λ s e. outcome_within (limit_passed s e) reply e in
+      let behind : Handles G books new seat result (within (state_in mid) due.entry) =
+      after_room books mid new seat room result (within (state_in mid) due.entry) handles in
+      let entry_is : due.entry ≡ entry_at (state_in books) q =
+      entry ∙ ap (λ m. entry_of m q.person.key q.drawn q.request) at in
+      let stated : Handles G books new seat result (within (state_in books) (entry_at (state_in books) q)) =
+      subst (λ e. Handles G books new seat result (within (state_in books) e)) entry_is
+      (subst (λ s. Handles G books new seat result (within s due.entry)) (same_state books mid room) behind) in
+      judged_as books q (record { 0 = n }) at (judged.Accept reply change) told
+      (λ w. Handles G books new seat result w) (λ never. absurd (cc))
+      (subst
+      (λ c. Handles G books new seat result (outcome_due (state_in books) (entry_at (state_in books) q) reply c))
+      (sym some) stated)

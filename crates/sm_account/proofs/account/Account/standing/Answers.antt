@@ -1,0 +1,8 @@
+use Rattle.sm_store.proofs.StoreStands.{holds_images}
+use Rattle.sm_account.specs.Accounts.{all_of, failed}
+use Rattle.sm_account.proofs.account.Account.standing.Goals as goal
+
+pub returns-clause-images : goal.returns-clause-images
+returns-clause-images g c =
+    holds_images c.args.self.now.books.store (all_of c.args.self.now) (failed c.args.self.now)
+    c.args.self.now.kept.holds

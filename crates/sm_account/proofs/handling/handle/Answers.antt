@@ -1,0 +1,116 @@
+use Rattle.std.proofs.Common.{◌≡◌, false, arith}
+use Rattle.sm_table.specs.Changes.{CanMake, StandsAt}
+use Rattle.sm_table.specs.Sound.{ChangeSound}
+use Rattle.sm_table.specs.Sweep.{sweep}
+use Rattle.sm_core.specs.Effects.{entry_of, Makes}
+use Rattle.sm_core.specs.Histories.{LegalAct}
+use Rattle.sm_core.specs.Judging.{is_reading}
+use Rattle.sm_model.specs.declared.entry.Act.TheVariants.{Asked}
+use Rattle.sm_account.specs.Outcome.{Question}
+use Rattle.sm_account.proofs.HandleLemmas.{after_room, wanted_memory}
+use Rattle.sm_account.proofs.QuestionLemmas.{of_change, read_so, refused_so, made_so}
+use Rattle.sm_account.proofs.RoomLemmas.{limits_aside, room_kept}
+use Rattle.sm_account.specs.declared.handled.Handled.TheVariants.{Memory}
+use Rattle.sm_account.proofs.handling.handle.Goals as goal
+
+pub consider-requires : goal.consider-requires
+consider-requires g c = record {
+  sound = c.requires.kept.sound;
+  moment = omega (arith, c.max.ensures, c.requires.kept.bound, c.requires.bound);
+  drawn = c.requires.drawn;
+}
+
+pub grow-requires : goal.grow-requires
+grow-requires g c =
+    let books = c.args.books.now in
+    let request = c.args.request.now in
+    let change = of_change c.in-Accept.reply c.in-Accept.change c.in-Some.change c.in-Some.is in
+    let legal = change
+    (λ _. LegalAct books.table (record { 0 = c.max.result }) c.args.drawn.now (Asked request))
+    c.in-Accept.ensures.legal in
+    record {
+      can = change (CanMake books.table) c.in-Accept.ensures.can;
+      bound = omega (arith, c.max.ensures, c.requires.kept.bound, c.requires.bound);
+      key = c.requires.key;
+      drawn = c.requires.drawn;
+      forms = legal.1;
+      changes = change (λ _. is_reading request ≡ false) c.in-Accept.ensures.changes;
+    }
+
+pub finish-requires : goal.finish-requires
+finish-requires g c =
+    let books = c.args.books.now in
+    let mid = c.grow.new.books in
+    let drawn = c.args.drawn.now in
+    let request = c.args.request.now in
+    let entry = entry_of (record { 0 = c.max.result }) c.args.person.now.key drawn request in
+    let change = of_change c.in-Accept.reply c.in-Accept.change c.in-Some.change c.in-Some.is in
+    record {
+      kept = room_kept books mid c.in-Ok.ensures.same c.requires.kept;
+      due = limits_aside books mid c.in-Ok.ensures.same entry c.in-Some.change c.in-Ok.due c.in-Ok.ensures.grown
+          (change (CanMake books.table) c.in-Accept.ensures.can)
+          (change (StandsAt books.table (record { 0 = c.max.result })) c.in-Accept.ensures.stands)
+          (change (Makes books.table entry) c.in-Accept.ensures.makes)
+          (change (ChangeSound (sweep books.table (record { 0 = c.max.result }))) c.in-Accept.ensures.change_sound)
+          (change (λ _. LegalAct books.table (record { 0 = c.max.result }) drawn (Asked request))
+          c.in-Accept.ensures.legal)
+          (omega (arith, c.max.ensures))
+          (omega (arith, c.max.ensures, c.requires.kept.bound, c.requires.bound));
+      room = c.in-Ok.ensures.room;
+    }
+
+pub returns-in-None : goal.returns-in-None
+returns-in-None g c =
+    let q : Question = record {
+      person = c.args.person.now;
+      now = c.args.now;
+      drawn = c.args.drawn.now;
+      request = c.args.request.now;
+    } in
+    record {
+      kept = c.requires.kept;
+      handles = read_so c.args.books.now c.args.seat q c.max.result c.max.ensures c.in-Accept.reply c.in-Accept.change
+          c.in-None.is c.in-Accept.ensures.considered;
+    }
+
+pub returns-in-Refuse : goal.returns-in-Refuse
+returns-in-Refuse g c =
+    let q : Question = record {
+      person = c.args.person.now;
+      now = c.args.now;
+      drawn = c.args.drawn.now;
+      request = c.args.request.now;
+    } in
+    record {
+      kept = c.requires.kept;
+      handles = refused_so c.args.books.now c.args.seat q c.max.result c.max.ensures c.in-Refuse.why
+          c.in-Refuse.ensures.considered;
+    }
+
+pub returns-in-Memory : goal.returns-in-Memory
+returns-in-Memory g c = record {
+  kept = c.requires.kept;
+  handles = wanted_memory c.args.books.now c.args.seat _;
+}
+
+pub returns-in-Err : goal.returns-in-Err
+returns-in-Err g c = record {
+  kept = room_kept c.args.books.now c.grow.new.books c.grow.ensures.same c.requires.kept;
+  handles = after_room c.args.books.now c.grow.new.books c.grow.new.books c.args.seat c.grow.ensures.same Memory _
+      (wanted_memory c.grow.new.books c.args.seat _);
+}
+
+pub returns-in-Ok : goal.returns-in-Ok
+returns-in-Ok g c =
+    let q : Question = record {
+      person = c.args.person.now;
+      now = c.args.now;
+      drawn = c.args.drawn.now;
+      request = c.args.request.now;
+    } in
+    record {
+      kept = c.finish.ensures.kept;
+      handles = made_so c.args.books.now c.args.seat q c.max.result c.max.ensures c.grow.new.books c.finish.new.books
+          c.in-Ok.ensures.same c.in-Ok.due c.in-Accept.reply c.in-Accept.change c.in-Some.change c.in-Some.is
+          c.in-Accept.ensures.considered c.in-Ok.ensures.grown.entry_is c.finish.result c.finish.ensures.handles;
+    }

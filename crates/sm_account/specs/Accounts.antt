@@ -1,0 +1,60 @@
+-- An account, and what is said of it.
+use Rattle.std.specs.Prelude.{◌≡◌, ℕ, Bool, List, Option}
+use Rattle.sm_disk.specs.declared.disk.Disk.{Ghosts as DiskGhosts}
+use Rattle.sm_model.specs.declared.entry.Entry.{Entry}
+use Rattle.sm_model.specs.declared.entry.Mark.{Mark}
+use Rattle.sm_model.specs.declared.rows.Rows.{Rows}
+use Rattle.sm_rotator.specs.declared.rotator.Rotator.{Ghosts as RotatorGhosts}
+use Rattle.sm_store.specs.Stores as stores
+use Rattle.sm_account.specs.Books as books
+use Rattle.sm_account.specs.States.{Base, State, state_at}
+use Rattle.sm_account.specs.declared.account.Account.{Account}
+
+module _ {D R : Type 0} {G : DiskGhosts D} {V : RotatorGhosts R} where
+  -- the history since the opening: each mark beside the seat that made it
+  abbrev pub history : Account D R G V → List (ℕ × Mark)
+  history account = books.history_in account.books
+
+  -- what it was opened over
+  abbrev pub base : Account D R G V → Base
+  base account = books.base_in account.books
+
+  -- the state at its history
+  abbrev pub state : Account D R G V → State
+  state account = state_at (base account) (history account)
+
+  -- the secrets
+  abbrev pub rows : Account D R G V → Rows
+  rows account = account.books.table
+
+  -- the disk now, and as it was before the opening
+  abbrev pub disk : Account D R G V → D
+  disk account = books.disk_in account.books
+
+  abbrev pub began : Account D R G V → D
+  began account = account.books.began.value
+
+  -- the entries that were recovered, and these with those that were made since
+  abbrev pub taken : Account D R G V → List Entry
+  taken account = account.books.taken.value
+
+  abbrev pub all_of : Account D R G V → List Entry
+  all_of account = books.all_entries account.books
+
+  -- the entry whose write failed last, while the journal's tail is unsure
+  abbrev pub failed : Account D R G V → Option Entry
+  failed account = account.books.failed.value
+
+  -- whether the last write may have failed in part
+  abbrev pub is_unsure : Account D R G V → Bool
+  is_unsure account = stores.is_unsure account.books.store
+
+  abbrev pub doors : Account D R G V → ℕ
+  doors account = account.doors
+
+  -- what an account began with stays, and so do its doors
+  pub record SameOrigin (old new : Account D R G V) : Type 0 where
+    pub taken_stays : taken new ≡ taken old
+    pub began_stays : began new ≡ began old
+    pub base_stays : base new ≡ base old
+    pub doors_stay : doors new ≡ doors old

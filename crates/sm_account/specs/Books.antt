@@ -1,0 +1,104 @@
+-- What holds of the books of an account.
+use Rattle.std.specs.Prelude.{◌≡◌, ℕ, ◌+◌, ◌-◌, ◌^◌, ◌<◌, ◌≤◌, min, List, ◌++◌, length, Option, Some, None, is_some}
+use Rattle.sm_base.specs.declared.moment.TheConstants.{LAST_READING}
+use Rattle.sm_model.specs.declared.entry.Change.{Change}
+use Rattle.sm_model.specs.declared.entry.Entry.{Entry}
+use Rattle.sm_model.specs.declared.entry.Mark.{Mark}
+use Rattle.sm_model.specs.declared.limits.TheConstants.{ENTRIES_LIMIT, JOURNAL_LIMIT}
+use Rattle.sm_table.specs.Changes.{CanMake, StandsAt}
+use Rattle.sm_table.specs.Sound.{Sound, ChangeSound}
+use Rattle.sm_table.specs.Sweep.{sweep}
+use Rattle.sm_core.specs.Effects.{Makes}
+use Rattle.sm_core.specs.Histories.{no_rows, replay, last_moment, Legal, LegalAct}
+use Rattle.sm_disk.specs.declared.disk.Disk.{Ghosts}
+use Rattle.sm_journal.specs.Records.{body_limit}
+use Rattle.sm_store.specs.Entries.{Spells}
+use Rattle.sm_store.specs.Stores as stores
+use Rattle.sm_account.specs.declared.books.Books.{Books}
+use Rattle.sm_account.specs.History.{entries_in, faults_in}
+use Rattle.sm_account.specs.States.{Base, base_of, State, state_at, first_moment, size_of}
+
+-- the greatest count of faults
+abbrev pub count_limit : ℕ
+count_limit = 2 ^ 64 - 1
+
+-- entries that are legal one after the other, from no rows on
+abbrev pub IsLegal : List Entry → Type 0
+IsLegal entries = Legal no_rows first_moment entries
+
+-- the entry may follow these, at its moment and at their rows
+pub record MayFollow (entries : List Entry) (entry : Entry) : Type 0 where
+  pub later : (last_moment first_moment entries).0 ≤ entry.moment.0
+  pub legal : LegalAct (replay no_rows entries) entry.moment entry.drawn entry.act
+
+-- the entry, if there is one, may follow these
+abbrev pub MayFollowIf : List Entry → Option Entry → Type 0
+MayFollowIf entries None = Unit {0}
+MayFollowIf entries (Some entry) = MayFollow entries entry
+
+module _ {D : Type 0} {G : Ghosts D} where
+  abbrev pub history_in : Books D G → List (ℕ × Mark)
+  history_in books = books.marks.items
+
+  abbrev pub disk_in : Books D G → D
+  disk_in books = stores.disk_of books.store
+
+  -- the recovered entries and those that were made since
+  abbrev pub all_entries : Books D G → List Entry
+  all_entries books = books.taken.value ++ entries_in (history_in books)
+
+  abbrev pub base_in : Books D G → Base
+  base_in books = base_of books.taken.value books.limit
+
+  -- the state that the books show
+  abbrev pub state_in : Books D G → State
+  state_in books = record {
+    rows = books.table;
+    last = books.last;
+    made = books.made;
+    bytes = stores.length_of books.store;
+    limit = books.limit;
+  }
+
+-- the history has at most as many faults as the disk's count rose by
+abbrev pub FaultsBound : ℕ → List (ℕ × Mark) → ℕ → Type 0
+FaultsBound began history now = min (began + faults_in history) count_limit ≤ now
+
+-- What always holds: the rows are sound; the state is that at the history; each image of the disk recovers to all
+-- entries, or while the tail is unsure to these or these and the one whose write failed last; all this is legal; and
+-- the history has at most as many faults as the disk's count rose by.
+pub record Kept {D : Type 0} (G : Ghosts D) (books : Books D G) : Type 0 where
+  pub sound : Sound books.table
+  pub bound : books.last.0 ≤ LAST_READING
+  pub within : books.made ≤ ENTRIES_LIMIT
+  pub recovered : books.recovered ≡ length books.taken.value
+  pub few : books.recovered < 2 ^ 63
+  pub limit : (9 ≤ books.limit) × (books.limit ≤ JOURNAL_LIMIT)
+  pub under : stores.limit_of books.store ≡ books.limit
+  pub state : state_in books ≡ state_at (base_in books) (history_in books)
+  pub sure : stores.is_unsure books.store ≡ is_some books.failed.value
+  pub holds : stores.Holds books.store (all_entries books) books.failed.value
+  pub legal : ∥ IsLegal (all_entries books) ∥₁
+  pub next : ∥ MayFollowIf (all_entries books) books.failed.value ∥₁
+  pub faults : FaultsBound (G.faults books.began.value) (history_in books) (G.faults (disk_in books))
+
+-- what the books began with stays
+pub record SameOrigin {D : Type 0} {G : Ghosts D} (old new : Books D G) : Type 0 where
+  pub taken : new.taken.value ≡ old.taken.value
+  pub began : new.began.value ≡ old.began.value
+  pub limit : new.limit ≡ old.limit
+
+-- An entry that is due at the books: its spelling, the change that makes its rows, and room for it under both limits.
+pub record IsDueAt {D : Type 0} {G : Ghosts D} (books : Books D G) (entry : Entry) (ready : List ℕ) (change : Change)
+    : Type 0 where
+  pub spells : Spells entry ready
+  pub short : length ready ≤ body_limit
+  pub counted : books.made < ENTRIES_LIMIT
+  pub fits : stores.length_of books.store + size_of entry ≤ books.limit
+  pub can : CanMake books.table change
+  pub stands : StandsAt books.table entry.moment change
+  pub makes : Makes books.table entry change
+  pub sound : ChangeSound (sweep books.table entry.moment) change
+  pub legal : LegalAct books.table entry.moment entry.drawn entry.act
+  pub later : books.last.0 ≤ entry.moment.0
+  pub bound : entry.moment.0 ≤ LAST_READING

@@ -1,0 +1,24 @@
+-- An entry that is due, with all the memory that it needs.
+use Rattle.std.specs.Prelude.{◌≡◌, ◌≤◌, length}
+use Rattle.sm_disk.specs.declared.disk.Disk.{Ghosts}
+use Rattle.sm_journal.specs.Records.{body_limit}
+use Rattle.sm_model.specs.declared.entry.Change.{Change}
+use Rattle.sm_model.specs.declared.entry.Entry.{Entry}
+use Rattle.sm_store.specs.Entries.{Spells}
+use Rattle.sm_account.specs.declared.books.Books.{Books}
+use Rattle.sm_account.specs.declared.due.Due.{Due}
+use Rattle.sm_account.specs.Books.{history_in}
+
+-- the entry, its spelling, and its change as it was prepared on the books' rows
+pub record IsGrown {D : Type 0} {G : Ghosts D} (books : Books D G) (entry : Entry) (change : Change) (due : Due)
+    : Type 0 where
+  pub entry_is : due.entry ≡ entry
+  pub spells : Spells entry due.ready
+  pub short : length due.ready ≤ body_limit
+  pub before : due.prepared.before ≡ books.table
+  pub change_is : due.prepared.change ≡ change
+
+-- nothing has changed but the room for marks
+pub record SameButRoom {D : Type 0} {G : Ghosts D} (old new : Books D G) : Type 0 where
+  pub history : history_in new ≡ history_in old
+  pub rest : new ≡ record old { marks = new.marks }

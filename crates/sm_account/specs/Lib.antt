@@ -1,0 +1,16 @@
+pub mod History
+pub mod States
+pub mod Outcome
+pub mod Handled
+pub mod Crashes
+pub mod Books
+pub mod KeptOnce
+pub mod Writing
+pub mod Making
+pub mod Growing
+pub mod Texts
+pub mod Handling
+pub mod Replaying
+pub mod Values
+pub mod Accounts
+pub mod Openings

@@ -1,0 +1,174 @@
+//! The account.
+ghost use Rattle.sm_account.specs.Books.{Kept};
+ghost use Rattle.sm_account.specs.KeptOnce.{Kept-prop};
+
+use crate::books::Books;
+use crate::handled::Handled;
+use crate::handling::handle;
+use sm_disk::Disk;
+use sm_model::{Label, Moment, Person, Request, SecretId, Value};
+use sm_rotator::Rotator;
+use sm_table::Table;
+use sm_versions::{Found, find};
+use std::marker::PhantomData;
+
+/// All secrets of an account, its entries on a disk, and the history since it was opened. Between any two calls its
+/// books keep what `Kept` says.
+#[derive(Drop)]
+pub struct Account<D: Disk, R: Rotator> {
+    books: Books<D>,
+    doors: u32,
+    rotator: PhantomData<R>,
+    ghost kept: { Kept D.Disk books } by { Kept-prop books },
+}
+
+impl<D: Disk, R: Rotator> Account<D, R> {
+    ghost use Rattle.std.specs.Prelude.{◌≡◌, ◌≤◌, ◌+◌, ◌-◌, ◌++◌, ℕ, length, is_some, option_copied};
+    ghost use Rattle.sm_base.specs.Faults.{Rose};
+    ghost use Rattle.sm_base.specs.declared.moment.TheConstants.{LAST_READING};
+    ghost use Rattle.sm_disk.specs.OneFile.{EachHas};
+    ghost use Rattle.sm_model.specs.Needed.{needed};
+    ghost use Rattle.sm_store.specs.Entries.{HasEither};
+    ghost use Rattle.sm_store.specs.declared.files.TheConstants.{JOURNAL};
+    ghost use Rattle.sm_table.specs.Sound.{Sound};
+    ghost use Rattle.sm_account.specs.Accounts.{history, base, state, rows, disk, began, taken, all_of, failed, is_unsure, doors, SameOrigin};
+    ghost use Rattle.sm_account.specs.Books.{IsLegal, MayFollowIf, FaultsBound};
+    ghost use Rattle.sm_account.specs.Handled.{HandledAs, marks_of, OnDiskFault};
+    ghost use Rattle.sm_account.specs.History.{by_seat, entries_in};
+    ghost use Rattle.sm_account.specs.Handling.{StaysAfter, LeavesBy, Acknowledges};
+    ghost use Rattle.sm_account.specs.Outcome.{outcome};
+    ghost use Rattle.sm_account.specs.Values.{value_labelled};
+    ghost use Rattle.sm_core.specs.Histories.{later, replay, Legal};
+
+    /// An account over books of which all holds that is kept.
+    pub(crate) fn over(books: Books<D>, doors: u32) -> Account<D, R>
+        requires { Kept D.Disk books }
+        ensures books { result.books ≡ books }
+        ensures doors { result.doors ≡ doors }
+    {
+        Account {
+            books,
+            doors,
+            rotator: PhantomData,
+        }
+    }
+
+    /// How many marks its history has.
+    pub(crate) fn marks_count(&self) -> u64
+        ensures { result ≡ length (history self.now) }
+    {
+        self.books.marks.len() as u64
+    }
+
+    /// Answers a request of a person at a reading of the clock, with the random bytes that were drawn for it. An entry
+    /// that is due is written to the disk before its change is made, and stands in the history under the seat.
+    pub fn handle(
+        &mut self,
+        seat: u32,
+        person: &Person,
+        now: Moment,
+        drawn: &[u8],
+        request: &Request,
+    ) -> Handled
+        requires bound { now.0 ≤ LAST_READING }
+        requires drawn { length drawn.now ≡ needed request.now }
+        requires key { length person.now.key ≤ 256 }
+
+        // The answer is that at the history, and the history goes on by its mark.
+        ensures handled { HandledAs result (outcome (state self.old)
+            (record { person = person.now; now = now; drawn = drawn.now; request = request.now })) }
+        ensures history { history self.new ≡ history self.old ++ by_seat seat (marks_of result
+            (outcome (state self.old)
+            (record { person = person.now; now = now; drawn = drawn.now; request = request.now }))) }
+
+        // A refusal and want of memory leave rows, journal and disk, and a fault of the disk leaves the rows.
+        ensures stays { StaysAfter result self.old.books self.new.books }
+        ensures origin { SameOrigin self.old self.new }
+
+        // What a crash at any moment of the call leaves. Once an entry is acknowledged, the tail is sure.
+        ensures any_moment { LeavesBy D.Disk result (outcome (state self.old)
+            (record { person = person.now; now = now; drawn = drawn.now; request = request.now }))
+            self.old.books self.new.books }
+        ensures acknowledged { Acknowledges result (outcome (state self.old)
+            (record { person = person.now; now = now; drawn = drawn.now; request = request.now })) self.new.books }
+
+        ensures later { D.faults (disk self.old) ≤ D.faults (disk self.new) }
+        ensures fault { OnDiskFault result (Rose (D.faults (disk self.old)) (D.faults (disk self.new))) }
+    {
+        handle(&mut self.books, seat, person, now, drawn, request)
+    }
+
+    /// What always holds of an account. It takes no memory, and does nothing.
+    pub fn standing(&self)
+        // Each image of the disk recovers to all entries, or while the tail is unsure to these, or to these and the
+        // entry whose write failed last.
+        ensures images { EachHas JOURNAL (HasEither (all_of self.now) (failed self.now))
+            (D.sight (disk self.now)).images }
+
+        // The tail is unsure exactly where there is such an entry.
+        ensures unsure { is_unsure self.now ≡ is_some (failed self.now) }
+
+        // Both lists are legal; the rows are those that the history makes of the base, and they are sound.
+        ensures legal { ∥ IsLegal (all_of self.now) ∥₁ }
+        ensures next { ∥ MayFollowIf (all_of self.now) (failed self.now) ∥₁ }
+        ensures rows { rows self.now ≡ replay (base self.now).rows (entries_in (history self.now)) }
+        ensures sound { Sound (rows self.now) }
+
+        // There are at most as many faults in the history as the disk's count rose by since the opening.
+        ensures faults { FaultsBound (D.faults (began self.now)) (history self.now) (D.faults (disk self.now)) }
+    {
+        let _books = &self.books;
+    }
+
+    /// The value of the version that has the label, in the secret that the SecretId names at a reading of the clock. It
+    /// takes no memory.
+    pub fn value_of(&self, id: &SecretId, label: &Label, now: Moment) -> Option<&Value>
+        requires { now.0 ≤ LAST_READING }
+        ensures { option_copied result ≡
+            value_labelled (rows self.now) (later self.now.books.last now) id.now label.now }
+    {
+        let moment = Moment(self.books.last.0.max(now.0));
+        let row = self.books.table.find(id, moment)?;
+        match find(row, None, Some(label)) {
+            Found::Version(version) => version.value.as_ref(),
+            Found::None | Found::Differ => None,
+        }
+    }
+
+    /// The secrets. It takes no memory.
+    pub fn table(&self) -> &Table
+        ensures { result.now ≡ rows self.now }
+    {
+        &self.books.table
+    }
+
+    /// How many entries were recovered and made. It takes no memory.
+    pub fn entries(&self) -> u64
+        ensures { result ≡ length (all_of self.now) }
+    {
+        self.books.recovered + self.books.made
+    }
+
+    /// How many doors are open. It takes no memory.
+    pub fn open_doors(&self) -> u32
+        ensures { result ≡ doors self.now }
+    {
+        self.doors
+    }
+
+    /// Takes one off the open doors, and changes nothing where none is open. It takes no memory.
+    pub fn close_door(&mut self)
+        ensures { self.new ≡ record self.old { doors = doors self.old - 1 } }
+    {
+        self.doors = self.doors.saturating_sub(1);
+    }
+
+    /// The disk again. It takes no memory.
+    pub fn close(self) -> D
+        ensures { result ≡ disk self }
+    {
+        let Account { books, .. } = self;
+        let Books { store, .. } = books;
+        store.close()
+    }
+}

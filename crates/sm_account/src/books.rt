@@ -1,0 +1,31 @@
+//! The books of an account: its secrets, its entries on the disk, and its history.
+use sm_disk::Disk;
+use sm_model::{Entry, List, Mark, Moment};
+use sm_store::Store;
+use sm_table::Table;
+use std::alloc::Global;
+use std::snapshot::Snapshot;
+
+/// What an account is made of. What holds of it between two calls is `Kept`.
+#[derive(Drop)]
+pub struct Books<D: Disk> {
+    pub alloc: Global,
+    pub table: Table,
+    pub store: Store<D>,
+    /// The history since the opening: each mark beside the seat that made it.
+    pub marks: Vec<(u32, Mark)>,
+    /// The moment of the last entry, or 0.
+    pub last: Moment,
+    /// How many entries the history has.
+    pub made: u64,
+    /// How many entries were recovered at the opening.
+    pub recovered: u64,
+    /// The greatest length of the journal, in bytes.
+    pub limit: u64,
+    /// The entries that were recovered.
+    pub taken: Snapshot<List<Entry>>,
+    /// The disk before the opening.
+    pub began: Snapshot<D>,
+    /// The entry whose write failed last, while the journal's tail is unsure.
+    pub failed: Snapshot<Option<Entry>>,
+}

@@ -1,0 +1,69 @@
+//! All the memory that an entry needs.
+ghost use Rattle.std.specs.Prelude.{◌≡◌, ◌≤◌, ◌<◌, length, vec_len, vec_capacity, IfOk, OnOk, None, false};
+ghost use Rattle.sm_base.specs.declared.moment.TheConstants.{LAST_READING};
+ghost use Rattle.sm_core.specs.Effects.{entry_of};
+ghost use Rattle.sm_core.specs.Judging.{is_reading};
+ghost use Rattle.sm_forms.specs.Forms.{forms_of};
+ghost use Rattle.sm_model.specs.Needed.{needed};
+ghost use Rattle.sm_table.specs.Changes.{CanMake};
+ghost use Rattle.sm_account.specs.Growing.{IsGrown, SameButRoom};
+
+use crate::books::Books;
+use crate::due::Due;
+use crate::spelling::spell;
+use sm_disk::Disk;
+use sm_model::{Act, Bytes, Change, Copied, Entry, Moment, NoMemory, Person, Request};
+use std::alloc::Global;
+
+/// Takes all the memory that the entry of an accepted request needs: a place in the history, the entry and its
+/// spelling, and what its change needs. The books stay.
+pub fn grow<D: Disk>(
+    books: &mut Books<D>,
+    person: &Person,
+    moment: Moment,
+    drawn: &[u8],
+    request: &Request,
+    change: Change,
+) -> Result<Due, NoMemory>
+    requires can { CanMake books.old.table change }
+    requires bound { moment.0 ≤ LAST_READING }
+    requires key { length person.now.key ≤ 256 }
+    requires drawn { length drawn.now ≡ needed request.now }
+    requires forms { forms_of request.now ≡ None }
+    requires changes { is_reading request.now ≡ false }
+    ensures grown { IfOk result (λ due. IsGrown books.old
+        (entry_of moment person.now.key drawn.now request.now) change due) }
+    ensures room { OnOk result (vec_len books.new.marks < vec_capacity books.new.marks) }
+    ensures same { SameButRoom books.old books.new }
+{
+    let entry = make_entry(books.alloc, moment, person, drawn, request)?;
+    let ready = spell(books.alloc, person, request, &entry)?;
+    let prepared = books.table.prepare(change)?;
+    books.marks.reserve(1)?;
+    Ok(Due {
+        entry,
+        ready,
+        prepared,
+    })
+}
+
+/// The entry of an accepted request.
+fn make_entry(
+    alloc: Global,
+    moment: Moment,
+    person: &Person,
+    drawn: &[u8],
+    request: &Request,
+) -> Result<Entry, NoMemory>
+    ensures { IfOk result (λ entry. entry ≡ entry_of moment person.now.key drawn.now request.now) }
+{
+    let caller = person.key.copy(alloc)?;
+    let drawn = Bytes::from_slice(alloc, drawn)?;
+    let request = request.copy(alloc)?;
+    Ok(Entry {
+        moment,
+        caller,
+        drawn,
+        act: Act::Asked(request),
+    })
+}

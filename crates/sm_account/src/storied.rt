@@ -1,0 +1,30 @@
+//! The account as a value that stands for its history.
+use crate::account::Account;
+use sm_disk::Disk;
+use sm_lock::Storied;
+use sm_model::{Entry, List, Mark};
+use sm_rotator::Rotator;
+
+/// What an account was opened over: the entries that its disk recovered, the limit on its journal, and the disk as it
+/// was. No value of it is made: it is what clauses say of a lock that an account stands behind.
+pub struct Opened<D> {
+    pub taken: List<Entry>,
+    pub limit: u64,
+    pub began: D,
+}
+
+impl<D: Disk, R: Rotator> Storied for Account<D, R> {
+    ghost use Rattle.sm_account.specs.Accounts.{history, base, began, taken};
+
+    type Origin = Opened<D>;
+
+    type Entry = Mark;
+
+    ghost origin = { λ account. record { taken = taken account; limit = (base account).limit; began = began account } };
+
+    ghost story = { λ account. history account };
+
+    fn length(&self) -> u64 {
+        self.marks_count()
+    }
+}

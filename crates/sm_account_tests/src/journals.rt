@@ -1,0 +1,60 @@
+//! Journals byte by byte: AWS Secrets Manager has none, so they are made from the format alone.
+use sm_base::{Bytes, Fails, List, NoMemory};
+use sm_disk::MemoryDisk;
+use std::alloc::Global;
+
+/// The entry that makes `db/app` with the value `s3cret` and the first token, at 1700000000, with six random bytes.
+pub const CREATED: &[u8] = b"\0\0\0\0\x65\x53\xf1\0\0\0\0\0\0\0\0\x06\0\x01\x02\x03\x04\x05\x01\
+    \x01\0\0\0\x2411111111-1111-4111-8111-111111111111\0\0\0\0\0\x06db/app\0\x01\0\0\0\x06s3cret\0";
+
+/// The entry that gives it the value `b` with the second token, at the same moment.
+pub const PUT: &[u8] = b"\0\0\0\0\x65\x53\xf1\0\0\0\0\0\0\0\0\0\x02\
+    \x01\0\0\0\x2422222222-2222-4222-8222-222222222222\0\0\0\0\x06db/app\x01\0\0\0\x01b\0";
+
+/// The same one second earlier.
+pub const PUT_EARLIER: &[u8] = b"\0\0\0\0\x65\x53\xf0\xff\0\0\0\0\0\0\0\0\x02\
+    \x01\0\0\0\x2422222222-2222-4222-8222-222222222222\0\0\0\0\x06db/app\x01\0\0\0\x01b\0";
+
+/// CancelRotateSecret of the secret `a`.
+pub const CANCELLED: &[u8] = b"\0\0\0\0\x65\x53\xf1\0\0\0\0\0\0\0\0\0\x0c\0\0\0\x01a";
+
+fn push_record(bytes: &mut Vec<u8>, body: &[u8]) -> Result<(), NoMemory> {
+    bytes.push(1)?;
+    for byte in (body.len() as u32).to_be_bytes() {
+        bytes.push(byte)?;
+    }
+    for byte in body {
+        bytes.push(*byte)?;
+    }
+    Ok(())
+}
+
+/// The file with these bodies, and some bytes behind its closed gate.
+pub fn file_of(alloc: Global, bodies: &[&[u8]], behind: &[u8]) -> Result<Bytes, NoMemory> {
+    let mut bytes = Vec::from_slice(alloc, b"SMJRNL01")?;
+    for body in bodies {
+        push_record(&mut bytes, body)?;
+    }
+    bytes.push(0)?;
+    for byte in behind {
+        bytes.push(*byte)?;
+    }
+    Ok(Bytes::new(bytes))
+}
+
+pub fn disk_of(alloc: Global, journal: Bytes, fails: Fails) -> Result<MemoryDisk, NoMemory> {
+    MemoryDisk::new(
+        alloc,
+        journal,
+        Bytes::empty(alloc),
+        Bytes::empty(alloc),
+        fails,
+    )
+}
+
+/// This call fails, or it and all later ones.
+pub fn failing(alloc: Global, call: u64, later: bool) -> Result<Fails, NoMemory> {
+    let calls = List::new(Vec::from_slice(alloc, &[call])?);
+    let from = if later { Some(call) } else { None };
+    Ok(Fails { calls, from })
+}

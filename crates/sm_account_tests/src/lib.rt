@@ -1,0 +1,12 @@
+//! Accounts on disks in memory: what an opening finds, what requests are answered, and each device call failing in
+//! turn.
+#![tactic(auto)]
+
+#[cfg(test)]
+mod asked;
+#[cfg(test)]
+mod faults;
+#[cfg(test)]
+mod journals;
+#[cfg(test)]
+mod openings;

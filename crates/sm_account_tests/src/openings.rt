@@ -1,0 +1,156 @@
+//! What an opening finds, and what requests are answered then.
+use crate::asked::{Answer, Kept, ask, creation, current, new_value};
+use crate::journals::{CANCELLED, CREATED, PUT, PUT_EARLIER, disk_of, file_of};
+use sm_account::{Account, Damage, OpenRefused};
+use sm_base::Fails;
+use sm_model::What;
+use std::alloc::Global;
+use std::test::Fail;
+
+/// What an opening finds: so many entries and this current value; or damage.
+#[derive(Debug, PartialEq, Eq, Drop)]
+enum Found {
+    Entries(u64, Option<String>),
+    Damaged(Damage),
+    Other,
+}
+
+struct Case {
+    name: &'static str,
+    bodies: &'static [&'static [u8]],
+    /// How many entries there are, and the value that is current then.
+    kept: Option<(u64, &'static str)>,
+    damage: Damage,
+}
+
+const WHOLE: Damage = Damage { at: 0, entry: 0 };
+
+const CASES: [Case; 7] = [
+    Case {
+        name: "no entries",
+        bodies: &[],
+        kept: Some((0, "")),
+        damage: WHOLE,
+    },
+    Case {
+        name: "a creation",
+        bodies: &[CREATED],
+        kept: Some((1, "s3cret")),
+        damage: WHOLE,
+    },
+    Case {
+        name: "a creation and a new value",
+        bodies: &[CREATED, PUT],
+        kept: Some((2, "b")),
+        damage: WHOLE,
+    },
+    Case {
+        name: "an operation on an absent secret",
+        bodies: &[CANCELLED],
+        kept: None,
+        damage: Damage { at: 8, entry: 0 },
+    },
+    Case {
+        name: "a value of an absent secret",
+        bodies: &[PUT, CREATED],
+        kept: None,
+        damage: Damage { at: 8, entry: 0 },
+    },
+    Case {
+        name: "a creation made again",
+        bodies: &[CREATED, CREATED],
+        kept: None,
+        damage: Damage { at: 102, entry: 1 },
+    },
+    Case {
+        name: "a moment before the last one",
+        bodies: &[CREATED, PUT_EARLIER],
+        kept: None,
+        damage: Damage { at: 102, entry: 1 },
+    },
+];
+
+fn wanted(alloc: Global, case: &Case) -> Result<Found, Fail> {
+    match case.kept {
+        Some((0, _)) => Ok(Found::Entries(0, None)),
+        Some((count, value)) => Ok(Found::Entries(count, Some(String::from_str(alloc, value)?))),
+        None => Ok(Found::Damaged(case.damage)),
+    }
+}
+
+fn find(alloc: Global, case: &Case) -> Result<Found, Fail> {
+    let journal = file_of(alloc, case.bodies, b"")?;
+    let opened: Result<Kept, _> = Account::open(
+        alloc,
+        disk_of(alloc, journal, Fails::never(alloc))?,
+        2,
+        1000,
+    );
+    match opened {
+        Ok(account) => Ok(Found::Entries(account.entries(), current(alloc, &account)?)),
+        Err(OpenRefused::Damaged(_, damage)) => Ok(Found::Damaged(damage)),
+        Err(OpenRefused::Failed(_)) | Err(OpenRefused::Memory(_)) => Ok(Found::Other),
+    }
+}
+
+#[test]
+fn openings_find_entries_or_damage(rt: HostRuntime) -> Result<(), Fail> {
+    for case in &CASES {
+        let found = find(rt.alloc(), case)?;
+        assert_eq!(rt; found, wanted(rt.alloc(), case)?, "{}", case.name);
+    }
+    Ok(())
+}
+
+/// What a creation, the same again, the same with another value, and a new value are answered under a limit, and how
+/// many entries there are then.
+fn answers(alloc: Global, limit: u64) -> Result<([Answer; 4], u64), Fail> {
+    let disk = disk_of(alloc, file_of(alloc, &[], b"")?, Fails::never(alloc))?;
+    let opened: Result<Kept, _> = Account::open(alloc, disk, 1, limit);
+    let Ok(mut account) = opened else {
+        return Err("not opened".into());
+    };
+    let created = ask(&mut account, &creation("s3cret"));
+    let again = ask(&mut account, &creation("s3cret"));
+    let other = ask(&mut account, &creation("other"));
+    let put = ask(&mut account, &new_value());
+    Ok(([created, again, other, put], account.entries()))
+}
+
+#[test]
+fn requests_are_answered_within_the_limits(rt: HostRuntime) -> Result<(), Fail> {
+    let full = Answer::Limit(9, What::JournalBytes);
+    let most = Answer::Limit(183, What::JournalBytes);
+    let whole = [Answer::Reply, Answer::Reply, Answer::Refused, Answer::Reply];
+    assert_eq!(rt; answers(rt.alloc(), 184)?, (whole, 2), "both entries fit");
+    let one = [Answer::Reply, Answer::Reply, Answer::Refused, most];
+    assert_eq!(rt;
+        answers(rt.alloc(), 183)?,
+        (one, 1),
+        "the second one passes the limit by a byte"
+    );
+    let none = [full, full, full, Answer::Refused];
+    assert_eq!(rt; answers(rt.alloc(), 9)?, (none, 0), "no entry fits");
+    Ok(())
+}
+
+/// The doors that are open at first, after one was closed, and after two more.
+fn doors(alloc: Global) -> Result<[u32; 3], Fail> {
+    let disk = disk_of(alloc, file_of(alloc, &[], b"")?, Fails::never(alloc))?;
+    let opened: Result<Kept, _> = Account::open(alloc, disk, 2, 1000);
+    let Ok(mut account) = opened else {
+        return Err("not opened".into());
+    };
+    let before = account.open_doors();
+    account.close_door();
+    let between = account.open_doors();
+    account.close_door();
+    account.close_door();
+    Ok([before, between, account.open_doors()])
+}
+
+#[test]
+fn doors_are_closed_one_by_one(rt: HostRuntime) -> Result<(), Fail> {
+    assert_eq!(rt; doors(rt.alloc())?, [2, 1, 0]);
+    Ok(())
+}

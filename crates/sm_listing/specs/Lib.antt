@@ -1,0 +1,4 @@
+pub mod Filters
+pub mod Pages
+pub mod PageTokens
+pub mod Walks

@@ -1,0 +1,10 @@
+//! Rotators: what is asked at each step of a rotation, and what may be answered.
+#![tactic(auto)]
+
+pub mod absent;
+pub mod rotator;
+pub mod work;
+
+pub use absent::NoRotator;
+pub use rotator::{Asked, Rotator};
+pub use work::Work;

@@ -1,0 +1,62 @@
+use Rattle.std.proofs.Common.{◌≡◌, ℕ, sym, ap, subst, ◌∙◌}
+use Rattle.sm_model.specs.declared.limits.TheConstants.{JOURNAL_LIMIT}
+use Rattle.sm_account.specs.Accounts.{history, base, began, taken, disk, failed}
+use Rattle.sm_account.specs.Books.{FaultsBound}
+use Rattle.sm_account.specs.States.{Base, base_of}
+use Rattle.sm_server.specs.Outside.{Outside}
+use Rattle.sm_server.specs.Ran.{Story, Runs, course_of}
+use Rattle.sm_server.specs.Stored.{Stands}
+use Rattle.sm_server.proofs.StoredLemmas.{cause_since}
+use Rattle.sm_server.proofs.run.run_opened.Goals as goal
+
+pub returns-clause-ran : goal.returns-clause-ran
+returns-clause-ran g c =
+    let answered = c.answer_source-status in
+    let old = c.args.account in
+    let new = answered.new.account in
+    let story : Story = record { taken = taken new; history = history new; failed = failed new } in
+    let before : ℕ → Outside = λ (faults : ℕ). record {
+      left = g.Q.Source.left c.args.source.now;
+      taken = g.K.Sink.taken c.args.sink.now;
+      readings = g.C.Clock.readings c.args.clock.now;
+      drawn = g.W.Words.drawn c.args.random.now;
+      counts = record {
+        source = g.Q.Source.source_faults c.args.source.now;
+        sink = g.K.Sink.sink_faults c.args.sink.now;
+        disk = faults;
+        random = g.W.Words.faults c.args.random.now;
+      };
+    } in
+    let after : ℕ → Outside = λ (faults : ℕ). record {
+      left = g.Q.Source.left c.answer_source-status.new.source;
+      taken = g.K.Sink.taken c.answer_source-status.new.sink;
+      readings = g.C.Clock.readings c.answer_source-status.new.clock;
+      drawn = g.W.Words.drawn c.answer_source-status.new.random;
+      counts = record {
+        source = g.Q.Source.source_faults c.answer_source-status.new.source;
+        sink = g.K.Sink.sink_faults c.answer_source-status.new.sink;
+        disk = faults;
+        random = g.W.Words.faults c.answer_source-status.new.random;
+      };
+    } in
+    let based : base old ≡ base_of (taken new) JOURNAL_LIMIT =
+    c.requires.base ∙ ap (λ t. base_of t JOURNAL_LIMIT) (sym answered.ensures.origin.taken_stays) in
+    let first = g.D.Disk.faults (began old) in
+    let runs : Runs (course_of story) answered.result (before first) (after (g.D.Disk.faults (disk new))) =
+    subst (λ (b : Base). Runs (record { base = b; history = history new }) answered.result (before first)
+    (after (g.D.Disk.faults (disk new)))) based (answered.ensures.runs first c.requires.later) in
+    let stands : Stands g.D.Disk story (began old) (disk new) = record {
+      images = c.standing.ensures.images;
+      cause = cause_since (failed old) (failed new) first (g.D.Disk.faults (disk old)) (g.D.Disk.faults (disk new))
+          c.requires.sure answered.ensures.unsure c.requires.later;
+      legal = c.standing.ensures.legal;
+      next = c.standing.ensures.next;
+      faults = subst (λ d. FaultsBound (g.D.Disk.faults d) (history new) (g.D.Disk.faults (disk new)))
+          answered.ensures.origin.began_stays c.standing.ensures.faults;
+    } in (
+      story,
+      answered.ensures.origin.taken_stays,
+      subst (λ d. Runs (course_of story) answered.result (before first) (after (g.D.Disk.faults d)))
+          (sym c.close.ensures) runs,
+      subst (Stands g.D.Disk story (began old)) (sym c.close.ensures) stands,
+    )

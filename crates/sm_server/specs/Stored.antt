@@ -1,0 +1,64 @@
+-- What stands on the disk after a run.
+use Rattle.std.specs.Prelude.{◌≡◌, ◌⊎◌, ◌++◌, List, IsSome}
+use Rattle.sm_base.specs.Faults.{Rose}
+use Rattle.sm_disk.specs.declared.disk.Disk.{Ghosts}
+use Rattle.sm_disk.specs.OneFile.{EachHas}
+use Rattle.sm_journal.specs.Openings.{ReadsAs}
+use Rattle.sm_journal.specs.declared.answers.OpenRefused.{OpenRefused}
+use Rattle.sm_journal.specs.declared.answers.OpenRefused.TheVariants as refusals
+use Rattle.sm_model.specs.declared.entry.Entry.{Entry}
+use Rattle.sm_store.specs.Entries.{HasEntries, HasEither}
+use Rattle.sm_store.specs.declared.files.TheConstants.{JOURNAL}
+use Rattle.sm_account.specs.Books.{IsLegal, MayFollowIf, FaultsBound}
+use Rattle.sm_account.specs.History.{entries_in}
+use Rattle.sm_account.specs.Openings.{IsRefused}
+use Rattle.sm_server.specs.declared.status.Status.{Status}
+use Rattle.sm_server.specs.declared.status.Status.TheVariants.{Words, Damaged, OpenFault, Memory}
+use Rattle.sm_server.specs.Ran.{Story}
+
+-- the recovered entries and those of the history
+abbrev pub all_of : Story → List Entry
+all_of story = story.taken ++ entries_in story.history
+
+-- Each image of the disk now recovers to all entries of the story, or, only where the disk's count rose since old, to
+-- these and the one whose write failed last. Both lists are legal. The history has at most as many faults as the count
+-- rose by.
+pub record Stands {D : Type 0} (G : Ghosts D) (story : Story) (old now : D) : Type 0 where
+  pub images : EachHas JOURNAL (HasEither (all_of story) story.failed) (G.sight now).images
+  pub cause : IsSome story.failed → Rose (G.faults old) (G.faults now)
+  pub legal : ∥ IsLegal (all_of story) ∥₁
+  pub next : ∥ MayFollowIf (all_of story) story.failed ∥₁
+  pub faults : FaultsBound (G.faults old) story.history (G.faults now)
+
+-- the disk recovered the taken entries, and has the story now
+pub record Records {D : Type 0} (G : Ghosts D) (story : Story) (old now : D) : Type 0 where
+  pub recovered : ReadsAs JOURNAL (λ bytes. HasEntries bytes story.taken) (G.sight old)
+  pub stands : Stands G story old now
+
+-- a run that ended so had its account opened
+abbrev pub WasOpened : Status → Type 0
+WasOpened Words = ⊥
+WasOpened (Damaged at entry) = ⊥
+WasOpened OpenFault = ⊥
+WasOpened status = Unit {0}
+
+-- how a run ends where the opening was refused, and the disk that is handed back
+abbrev pub status_unopened : {D : Type 0} → OpenRefused D → Status
+status_unopened (refusals.Damaged disk damage) = Damaged damage.at damage.entry
+status_unopened (refusals.Failed disk) = OpenFault
+status_unopened (refusals.Memory disk) = Memory
+
+abbrev pub disk_unopened : {D : Type 0} → OpenRefused D → D
+disk_unopened (refusals.Damaged disk damage) = disk
+disk_unopened (refusals.Failed disk) = disk
+disk_unopened (refusals.Memory disk) = disk
+
+-- What a run leaves of the disk: where the words were refused it is as it was, where the opening was refused the
+-- account's own clause speaks of it, and else it has the story.
+abbrev pub Leaves : {D : Type 0} → Ghosts D → Status → Story → D → D → Type 0
+Leaves G Words story old new = new ≡ old
+Leaves G (Damaged at entry) story old new =
+    IsRefused G old (refusals.Damaged new (record { at = at; entry = entry }))
+Leaves G OpenFault story old new = IsRefused G old (refusals.Failed new)
+Leaves G Memory story old new = IsRefused G old (refusals.Memory new) ⊎ Records G story old new
+Leaves G status story old new = Records G story old new

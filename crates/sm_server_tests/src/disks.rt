@@ -1,0 +1,153 @@
+//! Runs over disks that hold something, or fail.
+use crate::exchanges::{
+    APP, APP_CREATED, CREATE, DISK_FAULT, Exchange, FAULT, FIRST_VALUE, GET, GET_APP, OK, PUT,
+    PUT_B, PUT_B_DONE, spoken,
+};
+use crate::support::{WELL, disk_of, expect_over};
+use sm_account::Account;
+use sm_disk::MemoryDisk;
+use sm_model::limits::JOURNAL_LIMIT;
+use sm_model::{Fails, List};
+use sm_rotator::NoRotator;
+use sm_server::Status;
+use std::alloc::Global;
+use std::process::Abort;
+use std::test::Fail;
+
+const SECOND_VALUE: &str =
+    "{\"ARN\":\"arn:aws:secretsmanager:us-east-1:000000000000:secret:db/app-ABCDEF\",\"CreatedDate\":1700000000,\
+        \"Name\":\"db/app\",\"SecretString\":\"b\",\"VersionId\":\"22222222-2222-4222-8222-222222222222\",\
+        \"VersionStages\":[\"AWSCURRENT\"]}";
+
+/// A journal with one entry, which cancels the rotation of a secret that isn't there.
+const CANCELLED: &[u8; 36] = b"SMJRNL01\x01\x00\x00\x00\x16\x00\x00\x00\x00\x65\x53\xf1\x00\x00\
+        \x00\x00\x00\x00\x00\x00\x00\x0c\x00\x00\x00\x01a\x00";
+
+/// The call of the disk that syncs the gate of the second entry: opening a new journal takes six calls, and each entry
+/// six more.
+pub const SYNC_OF_THE_PUT: u64 = 18;
+
+/// A conversation over an empty disk whose call of that number fails, and how many entries crashes behind it recover:
+/// with each file as it was synced last, with it as it reads, and with other bytes where it was not synced.
+struct Case {
+    name: &'static str,
+    fails: u64,
+    exchanges: &'static [Exchange],
+    recovered: [Option<u64>; 3],
+}
+
+const CASES: [Case; 3] = [
+    Case {
+        name: "a message twice",
+        fails: 0,
+        exchanges: &[
+            (CREATE, APP, OK, APP_CREATED),
+            (CREATE, APP, OK, APP_CREATED),
+        ],
+        recovered: [Some(1), Some(1), Some(1)],
+    },
+    Case {
+        name: "an entry whose last sync fails is there or not, and the old value is shown",
+        fails: SYNC_OF_THE_PUT,
+        exchanges: &[
+            (CREATE, APP, OK, APP_CREATED),
+            (PUT, PUT_B, FAULT, DISK_FAULT),
+            (GET, GET_APP, OK, FIRST_VALUE),
+        ],
+        recovered: [Some(1), Some(2), Some(1)],
+    },
+    Case {
+        name: "the same put is accepted behind that, and there once",
+        fails: SYNC_OF_THE_PUT,
+        exchanges: &[
+            (CREATE, APP, OK, APP_CREATED),
+            (PUT, PUT_B, FAULT, DISK_FAULT),
+            (GET, GET_APP, OK, FIRST_VALUE),
+            (PUT, PUT_B, OK, PUT_B_DONE),
+            (GET, GET_APP, OK, SECOND_VALUE),
+        ],
+        recovered: [Some(2), Some(2), Some(2)],
+    },
+];
+
+/// Asserts that messages over a disk get these replies, and gives the disk again.
+fn converse(
+    rt: &(impl Abort + AllocGlobal),
+    disk: MemoryDisk,
+    exchanges: &[Exchange],
+) -> Result<MemoryDisk, Fail> {
+    let (input, output) = spoken(rt.alloc(), exchanges)?;
+    expect_over(
+        rt,
+        input.as_slice(),
+        &WELL,
+        disk,
+        Status::Done,
+        output.as_slice(),
+    )
+}
+
+/// How many entries a disk recovers.
+pub fn entries(alloc: Global, disk: MemoryDisk) -> Option<u64> {
+    let opened: Result<Account<MemoryDisk, NoRotator>, _> = Account::open(
+        alloc,
+        disk,
+        1,
+        JOURNAL_LIMIT,
+    );
+    match opened {
+        Ok(account) => Some(account.entries()),
+        Err(_) => None,
+    }
+}
+
+/// How many entries crashes of a disk recover.
+fn recovered(alloc: Global, disk: &MemoryDisk) -> Result<[Option<u64>; 3], Fail> {
+    Ok([
+        entries(alloc, disk.crash(0)?),
+        entries(alloc, disk.crash(1)?),
+        entries(alloc, disk.crash(7)?),
+    ])
+}
+
+/// A call that fails, and no other.
+fn one_call(alloc: Global, call: u64) -> Result<Fails, Fail> {
+    let calls = List::new(Vec::from_slice(alloc, &[call])?);
+    Ok(Fails { calls, from: None })
+}
+
+#[test]
+fn faults_of_the_disk_are_survived(rt: HostRuntime) -> Result<(), Fail> {
+    for case in &CASES {
+        let empty = disk_of(rt.alloc(), b"", one_call(rt.alloc(), case.fails)?)?;
+        let disk = converse(&rt, empty, case.exchanges)?;
+        assert_eq!(rt;
+            recovered(rt.alloc(), &disk)?,
+            case.recovered,
+            "{}",
+            case.name
+        );
+    }
+    Ok(())
+}
+
+/// A message that was sent in an earlier run gets its reply again, and its entry is there once.
+#[test]
+fn a_message_is_answered_again_in_a_later_run(rt: HostRuntime) -> Result<(), Fail> {
+    let mut disk = disk_of(rt.alloc(), b"", Fails::never(rt.alloc()))?;
+    for _ in 0..2 {
+        disk = converse(&rt, disk, &[(CREATE, APP, OK, APP_CREATED)])?;
+    }
+    assert_eq!(rt; entries(rt.alloc(), disk), Some(1));
+    Ok(())
+}
+
+/// A journal whose first entry is not legal there is damaged at that entry's gate.
+#[test]
+fn an_entry_that_is_not_legal_is_refused(rt: HostRuntime) -> Result<(), Fail> {
+    let disk = disk_of(rt.alloc(), CANCELLED, Fails::never(rt.alloc()))?;
+    let status = Status::Damaged(8, 0);
+    assert_eq!(rt; status.code(), 3);
+    expect_over(&rt, b"", &WELL, disk, status, b"")?;
+    Ok(())
+}

@@ -1,0 +1,56 @@
+//! Messages and the replies that they must get.
+use crate::support::{add_message, add_reply};
+use std::alloc::Global;
+use std::test::Fail;
+
+/// A message's operation and body, and its reply's status line and body.
+pub type Exchange = (&'static str, &'static str, &'static str, &'static str);
+
+pub const CREATE: &str = "CreateSecret";
+
+pub const PUT: &str = "PutSecretValue";
+
+pub const GET: &str = "GetSecretValue";
+
+pub const OK: &str = "200 OK";
+
+pub const BAD: &str = "400 Bad Request";
+
+pub const FAULT: &str = "500 Internal Server Error";
+
+pub const APP: &str =
+    r#"{"Name":"db/app","SecretString":"s3cret","ClientRequestToken":"11111111-1111-4111-8111-111111111111"}"#;
+
+pub const APP_CREATED: &str =
+    "{\"ARN\":\"arn:aws:secretsmanager:us-east-1:000000000000:secret:db/app-ABCDEF\",\"Name\":\"db/app\",\
+        \"VersionId\":\"11111111-1111-4111-8111-111111111111\"}";
+
+pub const PUT_B: &str =
+    r#"{"SecretId":"db/app","SecretString":"b","ClientRequestToken":"22222222-2222-4222-8222-222222222222"}"#;
+
+pub const PUT_B_DONE: &str =
+    "{\"ARN\":\"arn:aws:secretsmanager:us-east-1:000000000000:secret:db/app-ABCDEF\",\"Name\":\"db/app\",\
+        \"VersionId\":\"22222222-2222-4222-8222-222222222222\",\"VersionStages\":[\"AWSCURRENT\"]}";
+
+pub const GET_APP: &str = r#"{"SecretId":"db/app"}"#;
+
+pub const FIRST_VALUE: &str =
+    "{\"ARN\":\"arn:aws:secretsmanager:us-east-1:000000000000:secret:db/app-ABCDEF\",\"CreatedDate\":1700000000,\
+        \"Name\":\"db/app\",\"SecretString\":\"s3cret\",\"VersionId\":\"11111111-1111-4111-8111-111111111111\",\
+        \"VersionStages\":[\"AWSCURRENT\"]}";
+
+pub const NOT_FOUND: &str =
+    r#"{"Message":"secret not found","__type":"ResourceNotFoundException"}"#;
+
+pub const DISK_FAULT: &str = r#"{"Message":"disk fault","__type":"InternalServiceError"}"#;
+
+/// The bytes of the messages, and of the replies.
+pub fn spoken(alloc: Global, exchanges: &[Exchange]) -> Result<(Vec<u8>, Vec<u8>), Fail> {
+    let mut input = Vec::new(alloc);
+    let mut output = Vec::new(alloc);
+    for (operation, body, status, reply) in exchanges {
+        add_message(alloc, &mut input, operation, body.as_bytes())?;
+        add_reply(alloc, &mut output, status, reply)?;
+    }
+    Ok((input, output))
+}

@@ -1,0 +1,40 @@
+//! The command of `secretsd`, made of its arguments.
+ghost use Rattle.std.specs.Prelude.{◌≡◌, IfOk};
+ghost use Rattle.clap.specs.Words.{app_of};
+ghost use Rattle.sm_words.specs.Command.{IsApp, bare_app};
+
+use crate::arguments::{connections, data, listen, mode, number, people, rotator, workers};
+use clap::Command;
+use std::alloc::{AllocError, Global};
+
+/// The command without its arguments.
+fn bare<'a>(alloc: Global) -> Command<'a>
+    ensures { app_of result ≡ bare_app }
+{
+    Command::new(alloc, "secretsd")
+        .version("0.1.0")
+        .about("A server with the behaviour of AWS Secrets Manager, on one's own machine")
+        .after_long_help(
+            "Examples:\n  \
+             secretsd --data secrets < messages\n      \
+             answers the HTTP messages of a file on standard output, and keeps the secrets in a folder\n  \
+             secretsd --mode serve --data secrets --listen 127.0.0.1:7777\n      \
+             answers whoever connects to the address",
+        )
+        .no_binary_name(true)
+}
+
+/// The command with its arguments.
+pub fn command<'a>(alloc: Global) -> Result<Command<'a>, AllocError>
+    ensures { IfOk result (λ c. IsApp (app_of c)) }
+{
+    bare(alloc)
+        .arg(mode(alloc))?
+        .arg(data(alloc))?
+        .arg(people(alloc))?
+        .arg(listen(alloc))?
+        .arg(rotator(alloc))?
+        .arg(connections(alloc))?
+        .arg(workers(alloc))?
+        .arg(number(alloc))
+}
