@@ -289,3 +289,16 @@ create_change rows moment drawn create sound date forms room =
     on_change (row_named (swept rows.secrets moment) create.name) rows moment (create_call drawn create) _
     (λ none few full. add_is_change rows moment drawn create sound date forms
     (needs_six create (length drawn) room) few full none)
+
+some_few : (tags : Option (List Tag)) → length (unwrap_or tags []) ≤ TAGS_LIMIT
+    → IfSome tags (λ ts. length ts ≤ TAGS_LIMIT)
+some_few None h = tt
+some_few (Some tags) h = h
+
+-- a secret that is made has few enough tags
+pub create_few : (rows : Rows) (moment : Moment) (drawn : List ℕ) (create : CreateSecret)
+    → IfChange (create_judgement rows moment drawn create) (λ _. IfSome create.tags (λ ts. length ts ≤ TAGS_LIMIT))
+create_few rows moment drawn create =
+    on_change (row_named (swept rows.secrets moment) create.name) rows moment (create_call drawn create)
+    (λ _. IfSome create.tags (λ ts. length ts ≤ TAGS_LIMIT))
+    (λ none few full. some_few create.tags (grind (arith, nat_tests, few)))
