@@ -5,6 +5,8 @@ specifications: a dictionary of versions and a list of labels for each secret, e
 clock that always reads 1700000000, and random bytes that count up from 0.
 """
 
+import base64
+import binascii
 import collections
 import json
 import re
@@ -23,27 +25,33 @@ AWS_LABELS = {"AWSCURRENT", "AWSPREVIOUS", "AWSPENDING"}
 SUFFIX_CHARACTERS = "ABCDEFGHIJKLMNOPQRSTUVWXYZabcdefghijklmnopqrstuvwxyz0123456789"
 ARN_BEGINNING = "arn:aws:secretsmanager:us-east-1:000000000000:secret:"
 
-OPERATIONS = set(
-    """BatchGetSecretValue CancelRotateSecret CreateSecret DeleteResourcePolicy DeleteSecret DescribeSecret GetRandomPassword
-    GetResourcePolicy GetSecretValue ListSecretVersionIds ListSecrets PutResourcePolicy PutSecretValue RestoreSecret RotateSecret
-    TagResource UntagResource UpdateSecret UpdateSecretVersionStage ValidateResourcePolicy""".split()
-)
-
-# For each operation that is built: its members in ascending order, and those among them that have to be there.
+# The members of each operation: a name, with a star where it has to be there, and its type.
 MEMBERS = {
-    "CreateSecret": (["ClientRequestToken", "Name", "SecretString"], {"Name"}),
-    "GetSecretValue": (["SecretId", "VersionId", "VersionStage"], {"SecretId"}),
-    "PutSecretValue": (["ClientRequestToken", "SecretId", "SecretString", "VersionStages"], {"SecretId"}),
-    "UpdateSecretVersionStage": (
-        ["MoveToVersionId", "RemoveFromVersionId", "SecretId", "VersionStage"],
-        {"SecretId", "VersionStage"},
-    ),
+    "BatchGetSecretValue": "Filters filters, MaxResults integer, NextToken text, SecretIdList texts",
+    "CancelRotateSecret": "SecretId* text",
+    "CreateSecret": "AddReplicaRegions regions, ClientRequestToken text, Description text, KmsKeyId text, Name* text, SecretBinary bytes,"
+    " SecretString text, Tags tags",
+    "DeleteResourcePolicy": "SecretId* text",
+    "DeleteSecret": "ForceDeleteWithoutRecovery truth, RecoveryWindowInDays integer, SecretId* text",
+    "DescribeSecret": "SecretId* text",
+    "GetRandomPassword": "ExcludeCharacters text, ExcludeLowercase truth, ExcludeNumbers truth, ExcludePunctuation truth,"
+    " ExcludeUppercase truth, IncludeSpace truth, PasswordLength integer, RequireEachIncludedType truth",
+    "GetResourcePolicy": "SecretId* text",
+    "GetSecretValue": "SecretId* text, VersionId text, VersionStage text",
+    "ListSecretVersionIds": "IncludeDeprecated truth, MaxResults integer, NextToken text, SecretId* text",
+    "ListSecrets": "Filters filters, IncludePlannedDeletion truth, MaxResults integer, NextToken text, SortOrder text",
+    "PutResourcePolicy": "BlockPublicPolicy truth, ResourcePolicy* text, SecretId* text",
+    "PutSecretValue": "ClientRequestToken text, SecretBinary bytes, SecretId* text, SecretString text, VersionStages texts",
+    "RestoreSecret": "SecretId* text",
+    "RotateSecret": "ClientRequestToken text, RotateImmediately truth, RotationLambdaARN text, RotationRules rules, SecretId* text",
+    "TagResource": "SecretId* text, Tags* tags",
+    "UntagResource": "SecretId* text, TagKeys* texts",
+    "UpdateSecret": "ClientRequestToken text, Description text, KmsKeyId text, SecretBinary bytes, SecretId* text, SecretString text",
+    "UpdateSecretVersionStage": "MoveToVersionId text, RemoveFromVersionId text, SecretId* text, VersionStage* text",
+    "ValidateResourcePolicy": "ResourcePolicy* text, SecretId text",
 }
 
-NOT_BUILT = {
-    "CreateSecret": {"AddReplicaRegions", "Description", "KmsKeyId", "SecretBinary", "Tags"},
-    "PutSecretValue": {"SecretBinary"},
-}
+BUILT = {"CreateSecret", "DescribeSecret", "GetSecretValue", "PutSecretValue", "UpdateSecret", "UpdateSecretVersionStage"}
 
 NAME = re.compile(r"[A-Za-z0-9/_+=.@-]{1,512}")
 ARN = re.compile(r"arn:aws:secretsmanager:[a-z0-9-]{1,32}:[0-9]{12}:secret:[A-Za-z0-9/_+=.@-]{1,519}")
@@ -92,6 +100,7 @@ KINDS = set(ERRORS) | {
     "label is held by _",
     "label is held by no version",
     "limit of 20 labels",
+    "limit of 50 tags",
     "limit of 1000 versions",
 }
 
@@ -107,8 +116,17 @@ def is_label(text):
     return 1 <= len(text) <= 256
 
 
-def is_value(text):
-    return len(text.encode()) <= 65536
+def is_value(value):
+    return len(value.encode() if isinstance(value, str) else value) <= 65536
+
+
+def is_description(text):
+    return len(text) <= 2048
+
+
+def are_tags(tags):
+    fits = all(1 <= len(key) <= 128 and not key.startswith("aws:") and len(value) <= 256 for key, value in tags)
+    return fits and len({key for key, _ in tags}) == len(tags)
 
 
 def is_secret_id(text):
@@ -121,11 +139,15 @@ def is_token(text):
 
 FORMS = {
     "ClientRequestToken": is_token,
+    "Description": is_description,
+    "KmsKeyId": is_description,
     "MoveToVersionId": is_token,
     "Name": lambda text: bool(NAME.fullmatch(text)),
     "RemoveFromVersionId": is_token,
+    "SecretBinary": is_value,
     "SecretId": is_secret_id,
     "SecretString": is_value,
+    "Tags": are_tags,
     "VersionId": is_token,
     "VersionStage": is_label,
     "VersionStages": lambda labels: 1 <= len(labels) <= 20 and all(map(is_label, labels)),
@@ -143,6 +165,11 @@ def number(text):
     return value
 
 
+def integer(text):
+    # `-0` is no integer.
+    return int(text) if text != "-0" else -0.0
+
+
 def depth(value):
     if isinstance(value, (dict, list)):
         items = value.values() if isinstance(value, dict) else value
@@ -151,7 +178,7 @@ def depth(value):
 
 
 def read_json(body):
-    read = json.loads(body.decode("utf-8"), parse_constant=no_constant, parse_float=number)
+    read = json.loads(body.decode("utf-8"), parse_constant=no_constant, parse_float=number, parse_int=integer)
     # Half of a surrogate pair can't be written again.
     json.dumps(read, ensure_ascii=False).encode()
     if depth(read) > 127:
@@ -171,37 +198,130 @@ def object_of(body):
     return {name: value for name, value in read.items() if value is not None}
 
 
-def is_of_its_type(name, value):
-    if name == "VersionStages":
-        return isinstance(value, list) and all(isinstance(item, str) for item in value)
-    return isinstance(value, str)
+class Wrong(Exception):
+    """A value is of another type."""
+
+
+class LeftOut(Exception):
+    """A value is of its type, and asks for what is left out."""
+
+
+def of_type(kind):
+    def read(value):
+        if type(value) is not kind:
+            raise Wrong
+        return value
+
+    return read
+
+
+def read_integer(value):
+    if not -(2**63) <= of_type(int)(value) < 2**63:
+        raise Wrong
+    return value
+
+
+def read_bytes(value):
+    try:
+        decoded = base64.b64decode(of_type(str)(value), validate=True)
+    except (binascii.Error, ValueError):
+        raise Wrong
+    if base64.b64encode(decoded).decode() != value:
+        raise Wrong
+    return decoded
+
+
+def read_list(read_item):
+    return lambda value: [read_item(item) for item in of_type(list)(value)]
+
+
+def inner(value, name, read, absent=None):
+    """A member of an object in a member. Without a value for absent ones it has to be there."""
+    found = of_type(dict)(value).get(name)
+    if found is None and absent is None:
+        raise Wrong
+    return absent if found is None else read(found)
+
+
+def read_tag(value):
+    return inner(value, "Key", of_type(str)), inner(value, "Value", of_type(str), "")
+
+
+def read_filter(value):
+    return inner(value, "Key", of_type(str)), inner(value, "Values", read_list(of_type(str)))
+
+
+def read_rules(value):
+    inner(value, "AutomaticallyAfterDays", read_integer, 0)
+    if value.get("Duration") is not None or value.get("ScheduleExpression") is not None:
+        raise LeftOut
+    return value
+
+
+def read_regions(value):
+    if of_type(list)(value):
+        raise LeftOut
+    return value
+
+
+READERS = {
+    "bytes": read_bytes,
+    "filters": read_list(read_filter),
+    "integer": read_integer,
+    "regions": read_regions,
+    "rules": read_rules,
+    "tags": read_list(read_tag),
+    "text": of_type(str),
+    "texts": read_list(of_type(str)),
+    "truth": of_type(bool),
+}
+
+
+def read_member(given, name, kind):
+    """The member as a list of one pair, or of none where it is not there."""
+    wanted = name.endswith("*")
+    name = name.rstrip("*")
+    if name not in given:
+        if wanted:
+            raise bad_member(name)
+        return []
+    try:
+        return [(name, READERS[kind](given[name]))]
+    except Wrong:
+        raise bad_member(name)
+    except LeftOut:
+        raise bad_form(name)
 
 
 def members_of(operation, body):
-    if operation not in OPERATIONS:
+    if operation not in MEMBERS:
         raise refusal("unknown operation")
     given = object_of(body)
-    if operation not in MEMBERS or NOT_BUILT.get(operation, set()) & given.keys():
+    members = [pair for member in MEMBERS[operation].split(", ") for pair in read_member(given, *member.split(" "))]
+    if operation not in BUILT:
         raise refusal("not built")
-    names, required = MEMBERS[operation]
-    for name in names:
-        if name in given and not is_of_its_type(name, given[name]) or name in required - given.keys():
-            raise bad_member(name)
-    return {name: given[name] for name in names if name in given}
+    return {name: value for name, value in members if name != "AddReplicaRegions"}
+
+
+def value_in(members):
+    """The text or the bytes that are given as the value, or None."""
+    return members.get("SecretString", members.get("SecretBinary"))
 
 
 def needed(operation, members):
-    value_without_token = "SecretString" in members and "ClientRequestToken" not in members
+    without_token = "ClientRequestToken" not in members
     if operation == "CreateSecret":
-        return 22 if value_without_token else 6
-    return 16 if operation == "PutSecretValue" and "ClientRequestToken" not in members else 0
+        return 22 if value_in(members) is not None and without_token else 6
+    if operation == "UpdateSecret":
+        return 16 if value_in(members) is not None and without_token else 0
+    return 16 if operation == "PutSecretValue" and without_token else 0
 
 
 def test_forms(operation, members):
     for name, value in members.items():
         if not FORMS[name](value):
             raise bad_form(name)
-    if operation == "PutSecretValue" and "SecretString" not in members:
+    if {"SecretBinary", "SecretString"} <= members.keys() or operation == "PutSecretValue" and value_in(members) is None:
         raise bad_form("SecretString")
     if operation == "UpdateSecretVersionStage" and not {"MoveToVersionId", "RemoveFromVersionId"} & members.keys():
         raise bad_form("MoveToVersionId")
@@ -215,9 +335,11 @@ def drawn_token(drawn):
 
 
 class Secret:
-    def __init__(self, name, arn):
+    def __init__(self, name, arn, tags):
         self.name = name
         self.arn = arn
+        self.tags = tags
+        self.said = {}
         self.versions = {}
         self.labels = []
 
@@ -244,6 +366,10 @@ class Secret:
         if len([label for label, _ in self.labels if label not in AWS_LABELS]) > 20:
             self.labels = before
             raise limit_of(20, "labels")
+
+    def say(self, members):
+        """Keeps what is given of a description and a KMS key id."""
+        self.said |= {name: members[name] for name in ("Description", "KmsKeyId") if name in members}
 
     def named(self):
         return {"ARN": self.arn, "Name": self.name}
@@ -286,25 +412,31 @@ class Account:
             raise refusal("secret not found")
         if operation == "GetSecretValue":
             return get(secret, members.get("VersionId"), members.get("VersionStage"))
+        if operation == "DescribeSecret":
+            return describe(secret)
         if operation == "PutSecretValue":
-            is_new = (members.get("ClientRequestToken") or drawn_token(drawn)) not in secret.versions
-            reply = put(secret, members, drawn)
-            if is_new:
-                self.entries.append(put_entry(members, drawn))
-            return reply
-        reply = move(secret, members["VersionStage"], members.get("MoveToVersionId"), members.get("RemoveFromVersionId"))
-        self.entries.append(move_entry(members))
+            reply, is_new = put(secret, members, drawn)
+        elif operation == "UpdateSecret":
+            reply, is_new = update(secret, members, drawn)
+        else:
+            reply, is_new = move(secret, members["VersionStage"], members.get("MoveToVersionId"), members.get("RemoveFromVersionId")), True
+        if is_new:
+            self.entries.append(entry_of(operation, members, drawn))
         return reply
 
     def create(self, members, drawn):
-        value = members.get("SecretString")
+        value = value_in(members)
         token = members.get("ClientRequestToken") or (drawn_token(drawn[6:]) if value is not None else None)
         secret = next((secret for secret in self.secrets if secret.name == members["Name"]), None)
         if secret is None:
+            tags = members.get("Tags", [])
+            if len(tags) > 50:
+                raise limit_of(50, "tags")
             suffix = "".join(SUFFIX_CHARACTERS[byte % 62] for byte in drawn[:6])
-            secret = Secret(members["Name"], f"{ARN_BEGINNING}{members['Name']}-{suffix}")
+            secret = Secret(members["Name"], f"{ARN_BEGINNING}{members['Name']}-{suffix}", tags)
+            secret.say(members)
             self.secrets.append(secret)
-            self.entries.append(create_entry(members, drawn))
+            self.entries.append(entry_of("CreateSecret", members, drawn))
             if value is not None:
                 secret.versions[token] = value
                 secret.place("AWSCURRENT", token)
@@ -313,22 +445,30 @@ class Account:
         return secret.named() | ({} if value is None else {"VersionId": token})
 
 
-def create_entry(members, drawn):
-    token, value = entries.text_option(members.get("ClientRequestToken")), entries.text_option(members.get("SecretString"))
-    none, name = entries.option(), entries.text(members["Name"])
-    return entries.entry(1, token, none, none, name, none, value, none, drawn=bytes(drawn))
+# How a member's value is spelled in an entry, by the member's type.
+SPELLED = {
+    "bytes": entries.octets,
+    "integer": entries.number,
+    "tags": lambda tags: entries.items(*(entries.tag(key, value) for key, value in tags)),
+    "text": entries.text,
+    "texts": lambda texts: entries.items(*map(entries.text, texts)),
+}
+# The acts of the operations that are built, by their number in a journal.
+ACTS = {"CreateSecret": 1, "PutSecretValue": 2, "UpdateSecret": 3, "UpdateSecretVersionStage": 6}
 
 
-def put_entry(members, drawn):
-    token, value = entries.text_option(members.get("ClientRequestToken")), entries.text_option(members["SecretString"])
-    labels = members.get("VersionStages")
-    stages = entries.option(None if labels is None else entries.items(*map(entries.text, labels)))
-    return entries.entry(2, token, entries.option(), entries.text(members["SecretId"]), value, stages, drawn=bytes(drawn))
-
-
-def move_entry(members):
-    target, source = (entries.text_option(members.get(name)) for name in ("MoveToVersionId", "RemoveFromVersionId"))
-    return entries.entry(6, target, source, entries.text(members["SecretId"]), entries.text(members["VersionStage"]))
+def entry_of(operation, members, drawn):
+    """The entry of an accepted request: its members in the order of their names, those that may be absent as options."""
+    fields = []
+    for member in MEMBERS[operation].split(", "):
+        name, kind = member.split(" ")
+        if kind == "regions":
+            continue
+        if name.endswith("*"):
+            fields.append(SPELLED[kind](members[name.rstrip("*")]))
+        else:
+            fields.append(entries.option(SPELLED[kind](members[name]) if name in members else None))
+    return entries.entry(ACTS[operation], *fields, drawn=bytes(drawn))
 
 
 def get(secret, version, label):
@@ -339,25 +479,52 @@ def get(secret, version, label):
     if version is not None and label is not None and secret.holder(label) != version:
         raise refusal("version and label differ")
     version = version or secret.holder(label)
-    shown = {"CreatedDate": NOW, "SecretString": secret.versions[version], "VersionId": version}
+    value = secret.versions[version]
+    shown = {"SecretString": value} if isinstance(value, str) else {"SecretBinary": base64.b64encode(value).decode()}
+    shown |= {"CreatedDate": NOW, "VersionId": version}
     return secret.named() | shown | {"VersionStages": secret.labels_of(version)}
 
 
-def put(secret, members, drawn):
-    token = members.get("ClientRequestToken") or drawn_token(drawn)
-    value = members["SecretString"]
+def describe(secret):
+    staged = {version: secret.labels_of(version) for version in secret.versions if secret.labels_of(version)}
+    shown = {"CreatedDate": NOW, "LastChangedDate": NOW, "RotationEnabled": False, "VersionIdsToStages": staged}
+    return secret.named() | secret.said | shown | {"Tags": [{"Key": key, "Value": value} for key, value in secret.tags]}
+
+
+def add_value(secret, token, value, labels):
+    """Puts a value under a token, and says whether it was not there before."""
     if token in secret.versions:
         if secret.versions[token] != value:
             raise Refusal("ResourceExistsException", f"version {token} has another value", "version _ has another value")
-    else:
-        if len(secret.versions) >= 1000:
-            raise limit_of(1000, "versions")
-        labels = list(members.get("VersionStages", ["AWSCURRENT"]))
-        if secret.holder("AWSCURRENT") is None:
-            labels.append("AWSCURRENT")
-        secret.place_all(labels, token)
-        secret.versions[token] = value
-    return secret.named() | {"VersionId": token, "VersionStages": secret.labels_of(token)}
+        return False
+    if len(secret.versions) >= 1000:
+        raise limit_of(1000, "versions")
+    secret.place_all(labels, token)
+    secret.versions[token] = value
+    return True
+
+
+def put(secret, members, drawn):
+    """The reply, and whether anything changed."""
+    token = members.get("ClientRequestToken") or drawn_token(drawn)
+    labels = list(members.get("VersionStages", ["AWSCURRENT"]))
+    if secret.holder("AWSCURRENT") is None:
+        labels.append("AWSCURRENT")
+    is_new = add_value(secret, token, value_in(members), labels)
+    return secret.named() | {"VersionId": token, "VersionStages": secret.labels_of(token)}, is_new
+
+
+def update(secret, members, drawn):
+    """The reply, and whether anything changed."""
+    value = value_in(members)
+    if value is None:
+        secret.say(members)
+        return secret.named(), True
+    token = members.get("ClientRequestToken") or drawn_token(drawn)
+    is_new = add_value(secret, token, value, ["AWSCURRENT"])
+    if is_new:
+        secret.say(members)
+    return secret.named() | {"VersionId": token}, is_new
 
 
 def move(secret, label, target, source):

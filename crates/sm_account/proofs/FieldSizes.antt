@@ -1,17 +1,23 @@
 -- How long the fields of entries are, and when they fit.
-use Rattle.std.proofs.Common.{◌≡◌, ℕ, ◌+◌, ◌*◌, ◌^◌, ◌<◌, ◌≤◌, Bool, true, false, ◌&&◌, List, [], ◌∷◌, ◌++◌, length, Option, Some, None, IfSome, refl, ap, arith, length-append}
-use Rattle.std.specs.Prelude.{IsTrue, IsUtf8, nat_lt, nat_le, if◌then◌else◌, codes}
+use Rattle.std.proofs.Common.{◌≡◌, ℕ, ◌+◌, ◌*◌, ◌^◌, ◌<◌, ◌≤◌, Bool, true, false, not, ◌&&◌, List, [], ◌∷◌, ◌++◌, length, Option, Some, None, IfSome, refl, ap, arith, length-append}
+use Rattle.std.specs.Prelude.{IsTrue, IsUtf8, nat_eq, nat_lt, nat_le, if◌then◌else◌, codes}
 use Rattle.std.specs.Str.{is_utf8, chars, encode_utf8_all as encodes}
 use Rattle.std.specs.Char.{is_ascii_digit, encode_utf8 as encode}
-use Rattle.std.specs.List.{flat_map, list_all}
+use Rattle.std.specs.List.{flat_map, list_all, starts_with}
 use Rattle.std.proofs.lemmas.Bool.Decides.{nat_tests}
 use Rattle.std.proofs.lemmas.Bool.{and_from, and_parts}
 use Rattle.std.proofs.lemmas.Str.{is_utf8-from_IsUtf8, IsUtf8-from_is_utf8, encodes-chars, length-encode, len_utf8_bounds}
 use Rattle.sm_base.specs.Spelling.{is_run, is_name_byte, is_token, is_token_byte, is_name, is_label, is_arn, is_arn_like, is_secret_id, is_region_byte, IsArnOf}
 use Rattle.sm_base.proofs.ArnShapeLemmas.{arn_has_shape}
 use Rattle.sm_base.proofs.LabelLemmas.{label_is_utf8}
-use Rattle.sm_record.specs.Codec.{Codec, optional}
-use Rattle.sm_record.specs.Fields.{count, octets, text, listed}
+use Rattle.sm_model.specs.Bounds.{has_at_most, is_description, is_tag_key, is_tag, reserved_beginning}
+use Rattle.sm_model.specs.declared.limits.TheConstants.{DESCRIPTION_LIMIT, TAGS_LIMIT, TAG_KEY_LIMIT, TAG_VALUE_LIMIT}
+use Rattle.sm_model.specs.declared.value.Tag.{Tag}
+use Rattle.sm_versions.specs.Texts.{once}
+use Rattle.sm_versions.specs.Sound.{tag_keys, each_tag}
+use Rattle.sm_record.specs.Codec.{optional}
+use Rattle.sm_record.specs.Fields.{count, octets, text, listed, tag}
+use Rattle.sm_account.specs.Texts.{TagTexts}
 
 count_size : (n : ℕ) → length (count.spell n) ≡ 4
 unfolding count
@@ -33,17 +39,6 @@ pub text_fits : (t : List ℕ) → IsUtf8 t → length t < 2 ^ 32 → text.fits 
 unfolding text
 text_fits t utf8 short = and_from (is_utf8 t) (octets.fits t) (is_utf8-from_IsUtf8 t utf8) (octets_fits t short)
 
--- a member that is not there
-pub absent_size : {A : Type 0} (c : Codec A) (t : Option A) → t ≡ None → length ((optional c).spell t) ≡ 1
-unfolding optional
-absent_size c None is = refl
-absent_size c (Some t) is = absurd (let f : Some t ≡ None = is in cc)
-
-pub absent_fits : {A : Type 0} (c : Codec A) (t : Option A) → t ≡ None → (optional c).fits t ≡ true
-unfolding optional
-absent_fits c None is = refl
-absent_fits c (Some t) is = absurd (let f : Some t ≡ None = is in cc)
-
 -- a text that need not be there
 pub optional_size : (t : Option (List ℕ)) (n : ℕ) → IfSome t (λ x. length x ≤ n)
     → length ((optional text).spell t) ≤ n + 5
@@ -56,6 +51,19 @@ pub optional_fits : (t : Option (List ℕ)) (n : ℕ) → n < 2 ^ 32 → IfSome 
 unfolding optional
 optional_fits None n room utf8 h = refl
 optional_fits (Some t) n room utf8 h = text_fits t utf8 (omega (arith, room, h))
+
+-- bytes that need not be there
+pub bytes_size : (t : Option (List ℕ)) (n : ℕ) → IfSome t (λ x. length x ≤ n)
+    → length ((optional octets).spell t) ≤ n + 5
+unfolding optional
+bytes_size None n h = omega arith
+bytes_size (Some t) n h = omega (arith, octets_size t, h)
+
+pub bytes_fit : (t : Option (List ℕ)) (n : ℕ) → n < 2 ^ 32 → IfSome t (λ x. length x ≤ n)
+    → (optional octets).fits t ≡ true
+unfolding optional
+bytes_fit None n room h = refl
+bytes_fit (Some t) n room h = octets_fits t (omega (arith, room, h))
 
 -- a run of at most so many bytes
 run_size : (test : ℕ → Bool) (low high : ℕ) (t : List ℕ) → is_run test low high t ≡ true → length t ≤ high
@@ -77,14 +85,24 @@ encodes_size (c ∷ cs) =
     let bound = len_utf8_bounds c in
     omega (arith, encodes_size cs, length-append (encode c) (encodes cs), length-encode c, bound.1)
 
+-- a text has at most four bytes for each of its characters
+text_bytes : (t : List ℕ) → IsUtf8 t → length t ≤ 4 * length (chars t)
+text_bytes t utf8 =
+    let same : length (encodes (chars t)) ≡ length t = ap length (encodes-chars t utf8) in
+    omega (arith, same, encodes_size (chars t))
+
+few_bytes : (limit : ℕ) (t : List ℕ) → IsUtf8 t → IsTrue (has_at_most limit t) → length t ≤ 4 * limit
+few_bytes limit t utf8 is =
+    let few : length (chars t) ≤ limit = grind (arith, nat_tests, is) in omega (arith, few, text_bytes t utf8)
+
+pub description_size : (t : List ℕ) → IsUtf8 t → IsTrue (is_description t) → length t ≤ 8192
+description_size t utf8 is = few_bytes DESCRIPTION_LIMIT t utf8 is
+
 pub label_size : (t : List ℕ) → is_label t ≡ true → length t ≤ 1024
 unfolding is_label
 label_size t is =
     let both = and_parts (is_utf8 t && nat_le 1 (length (chars t))) (nat_le (length (chars t)) 256) is in
-    let few : length (chars t) ≤ 256 = grind (arith, nat_tests, both.1) in
-    let utf8 = IsUtf8-from_is_utf8 t (label_is_utf8 t is) in
-    let same : length (encodes (chars t)) ≡ length t = ap length (encodes-chars t utf8) in
-    omega (arith, few, same, encodes_size (chars t))
+    few_bytes 256 t (IsUtf8-from_is_utf8 t (label_is_utf8 t is)) both.1
 
 arn_size : (t : List ℕ) → is_arn t ≡ true → length t ≤ 600
 arn_size t is =
@@ -160,3 +178,71 @@ labels_fits None all few = refl
 labels_fits (Some items) all few =
     and_from (nat_lt (length items) (2 ^ 32)) (list_all text.fits items) (grind (arith, nat_tests, few))
     (labels_fit items all)
+
+-- tags
+tag_size : (t : Tag) → IsUtf8 t.key → IsUtf8 t.value → IsTrue (is_tag t) → length (tag.spell t) ≤ 1544
+unfolding tag
+tag_size t key value is =
+    let both = and_parts (is_tag_key t.key) (has_at_most TAG_VALUE_LIMIT t.value) is in
+    let reserved = not (starts_with nat_eq t.key reserved_beginning) in
+    let sized = and_parts (nat_le 1 (length (chars t.key)) && has_at_most TAG_KEY_LIMIT t.key) reserved both.0 in
+    let few = (and_parts (nat_le 1 (length (chars t.key))) (has_at_most TAG_KEY_LIMIT t.key) sized.0).1 in
+    omega (
+      arith,
+      length-append (text.spell t.key) (text.spell t.value),
+      text_size t.key,
+      text_size t.value,
+      few_bytes TAG_KEY_LIMIT t.key key few,
+      few_bytes TAG_VALUE_LIMIT t.value value both.1,
+    )
+
+tag_fits : (t : Tag) → IsUtf8 t.key → IsUtf8 t.value → length (tag.spell t) ≤ 1544 → tag.fits t ≡ true
+unfolding tag
+tag_fits t key value short =
+    let parts = length-append (text.spell t.key) (text.spell t.value) in
+    and_from (text.fits t.key) (text.fits t.value)
+    (text_fits t.key key (omega (arith, parts, text_size t.key, short)))
+    (text_fits t.value value (omega (arith, parts, text_size t.value, short)))
+
+each_tag_size : (tags : List Tag) → TagTexts tags → IsTrue (each_tag tags)
+    → length (flat_map tag.spell tags) ≤ 1544 * length tags
+each_tag_size [] texts all = omega arith
+each_tag_size (t ∷ tags) texts all =
+    let both = and_parts (is_tag t) (each_tag tags) all in
+    omega (
+      arith,
+      length-append (tag.spell t) (flat_map tag.spell tags),
+      tag_size t texts.0 texts.1 both.0,
+      each_tag_size tags texts.2 both.1,
+    )
+
+each_tag_fits : (tags : List Tag) → TagTexts tags → IsTrue (each_tag tags) → list_all tag.fits tags ≡ true
+each_tag_fits [] texts all = refl
+each_tag_fits (t ∷ tags) texts all =
+    let both = and_parts (is_tag t) (each_tag tags) all in
+    and_from (tag.fits t) (list_all tag.fits tags)
+    (tag_fits t texts.0 texts.1 (tag_size t texts.0 texts.1 both.0)) (each_tag_fits tags texts.2 both.1)
+
+-- tags that need not be there
+pub tags_size : (t : Option (List Tag)) → IfSome t TagTexts
+    → IfSome t (λ tags. IsTrue (each_tag tags) × IsTrue (once (tag_keys tags)))
+    → IfSome t (λ tags. length tags ≤ TAGS_LIMIT) → length ((optional (listed tag)).spell t) ≤ 77205
+unfolding optional listed
+tags_size None texts are few = omega arith
+tags_size (Some tags) texts are few =
+    omega (
+      arith,
+      length-append (count.spell (length tags)) (flat_map tag.spell tags),
+      count_size (length tags),
+      each_tag_size tags texts are.0,
+      few,
+    )
+
+pub tags_fit : (t : Option (List Tag)) → IfSome t TagTexts
+    → IfSome t (λ tags. IsTrue (each_tag tags) × IsTrue (once (tag_keys tags)))
+    → IfSome t (λ tags. length tags ≤ TAGS_LIMIT) → (optional (listed tag)).fits t ≡ true
+unfolding optional listed count
+tags_fit None texts are few = refl
+tags_fit (Some tags) texts are few =
+    and_from (nat_lt (length tags) (2 ^ 32)) (list_all tag.fits tags) (grind (arith, nat_tests, few))
+    (each_tag_fits tags texts are.0)

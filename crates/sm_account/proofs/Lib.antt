@@ -4,6 +4,7 @@ pub mod MakeLemmas
 pub mod WriteLemmas
 pub mod HandleLemmas
 pub mod FieldSizes
+pub mod RequestSizes
 pub mod SpelledLaws
 pub mod ReplayLemmas
 pub mod OpenLemmas

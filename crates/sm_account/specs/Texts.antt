@@ -1,15 +1,53 @@
--- The texts of the requests that make entries.
-use Rattle.std.specs.Prelude.{⊤, IfSome, IsUtf8}
+-- The texts and tags of the requests that make entries.
+use Rattle.std.specs.Prelude.{◌≤◌, List, [], ◌∷◌, length, ⊤, IfSome, IsUtf8}
+use Rattle.sm_model.specs.declared.limits.TheConstants.{TAGS_LIMIT}
+use Rattle.sm_model.specs.declared.request.CreateSecret.{CreateSecret}
+use Rattle.sm_model.specs.declared.request.PutSecretValue.{PutSecretValue}
 use Rattle.sm_model.specs.declared.request.Request.{Request}
 use Rattle.sm_model.specs.declared.request.Request.TheVariants as requests
+use Rattle.sm_model.specs.declared.request.UpdateSecret.{UpdateSecret}
+use Rattle.sm_model.specs.declared.request.UpdateSecretVersionStage.{UpdateSecretVersionStage}
+use Rattle.sm_model.specs.declared.value.Tag.{Tag}
+
+abbrev pub TagTexts : List Tag → Type 0
+TagTexts [] = ⊤
+TagTexts (tag ∷ tags) = IsUtf8 tag.key × IsUtf8 tag.value × TagTexts tags
+
+pub record CreateTexts (r : CreateSecret) : Type 0 where
+  pub token : IfSome r.client_request_token IsUtf8
+  pub description : IfSome r.description IsUtf8
+  pub kms : IfSome r.kms_key_id IsUtf8
+  pub name : IsUtf8 r.name
+  pub string : IfSome r.secret_string IsUtf8
+  pub tags : IfSome r.tags TagTexts
+
+pub record PutTexts (r : PutSecretValue) : Type 0 where
+  pub token : IfSome r.client_request_token IsUtf8
+  pub id : IsUtf8 r.secret_id
+  pub string : IfSome r.secret_string IsUtf8
+
+pub record UpdateTexts (r : UpdateSecret) : Type 0 where
+  pub token : IfSome r.client_request_token IsUtf8
+  pub description : IfSome r.description IsUtf8
+  pub kms : IfSome r.kms_key_id IsUtf8
+  pub id : IsUtf8 r.secret_id
+  pub string : IfSome r.secret_string IsUtf8
+
+pub record MoveTexts (r : UpdateSecretVersionStage) : Type 0 where
+  pub to : IfSome r.move_to_version_id IsUtf8
+  pub from : IfSome r.remove_from_version_id IsUtf8
+  pub id : IsUtf8 r.secret_id
+  pub label : IsUtf8 r.version_stage
 
 -- each text of the request is UTF-8
 abbrev pub TextsOf : Request → Type 0
-TextsOf (requests.CreateSecret r) =
-    IfSome r.client_request_token IsUtf8 × IsUtf8 r.name × IfSome r.secret_string IsUtf8
-TextsOf (requests.PutSecretValue r) =
-    IfSome r.client_request_token IsUtf8 × IsUtf8 r.secret_id × IfSome r.secret_string IsUtf8
-TextsOf (requests.UpdateSecretVersionStage r) =
-    IfSome r.move_to_version_id IsUtf8 × IfSome r.remove_from_version_id IsUtf8 × IsUtf8 r.secret_id
-    × IsUtf8 r.version_stage
+TextsOf (requests.CreateSecret r) = CreateTexts r
+TextsOf (requests.PutSecretValue r) = PutTexts r
+TextsOf (requests.UpdateSecret r) = UpdateTexts r
+TextsOf (requests.UpdateSecretVersionStage r) = MoveTexts r
 TextsOf r = ⊤
+
+-- a new secret has at most 50 tags
+abbrev pub HasFewTags : Request → Type 0
+HasFewTags (requests.CreateSecret r) = IfSome r.tags (λ tags. length tags ≤ TAGS_LIMIT)
+HasFewTags r = ⊤

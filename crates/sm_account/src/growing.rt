@@ -7,6 +7,7 @@ ghost use Rattle.sm_forms.specs.Forms.{forms_of};
 ghost use Rattle.sm_model.specs.Needed.{needed};
 ghost use Rattle.sm_table.specs.Changes.{CanMake};
 ghost use Rattle.sm_account.specs.Growing.{IsGrown, SameButRoom};
+ghost use Rattle.sm_account.specs.Texts.{HasFewTags};
 
 use crate::books::Books;
 use crate::due::Due;
@@ -31,6 +32,7 @@ pub fn grow<D: Disk>(
     requires drawn { length drawn.now ≡ needed request.now }
     requires forms { forms_of request.now ≡ None }
     requires changes { is_reading request.now ≡ false }
+    requires few { HasFewTags request.now }
     ensures grown { IfOk result (λ due. IsGrown books.old
         (entry_of moment person.now.key drawn.now request.now) change due) }
     ensures room { OnOk result (vec_len books.new.marks < vec_capacity books.new.marks) }

@@ -7,9 +7,9 @@ ghost use Rattle.sm_forms.specs.Forms.{forms_of};
 ghost use Rattle.sm_journal.specs.Records.{body_limit};
 ghost use Rattle.sm_model.specs.Needed.{needed};
 ghost use Rattle.sm_store.specs.Entries.{Spells};
-ghost use Rattle.sm_account.specs.Texts.{TextsOf};
+ghost use Rattle.sm_account.specs.Texts.{HasFewTags, TagTexts, TextsOf};
 
-use sm_model::{Bytes, Entry, NoMemory, Person, Request, Text};
+use sm_model::{Bytes, Entry, List, NoMemory, Person, Request, Tag, Text};
 use sm_record::encode;
 use std::alloc::Global;
 
@@ -26,6 +26,7 @@ pub fn spell(
     requires drawn { length entry.now.drawn ≡ needed request.now }
     requires forms { forms_of request.now ≡ None }
     requires changes { is_reading request.now ≡ false }
+    requires few { HasFewTags request.now }
     ensures { IfOk result (λ ready. Spells entry.now ready × (length ready ≤ body_limit)) }
 {
     note_text(&person.key);
@@ -41,13 +42,23 @@ fn note_texts(request: &Request)
     match request {
         Request::CreateSecret(create) => {
             note_optional(&create.client_request_token);
+            note_optional(&create.description);
+            note_optional(&create.kms_key_id);
             note_text(&create.name);
             note_optional(&create.secret_string);
+            note_optional_tags(&create.tags);
         }
         Request::PutSecretValue(put) => {
             note_optional(&put.client_request_token);
             note_text(&put.secret_id);
             note_optional(&put.secret_string);
+        }
+        Request::UpdateSecret(update) => {
+            note_optional(&update.client_request_token);
+            note_optional(&update.description);
+            note_optional(&update.kms_key_id);
+            note_text(&update.secret_id);
+            note_optional(&update.secret_string);
         }
         Request::UpdateSecretVersionStage(update) => {
             note_optional(&update.move_to_version_id);
@@ -56,6 +67,30 @@ fn note_texts(request: &Request)
             note_text(&update.version_stage);
         }
         _ => {}
+    }
+}
+
+/// The law that the texts of tags that are there are UTF-8.
+fn note_optional_tags(tags: &Option<List<Tag>>)
+    ensures { IfSome tags.now TagTexts }
+{
+    match tags {
+        Some(tags) => note_tags(tags.as_slice()),
+        None => {}
+    }
+}
+
+/// The law that the texts of tags are UTF-8.
+fn note_tags(tags: &[Tag])
+    ensures { TagTexts tags.now }
+{
+    match tags {
+        [] => {}
+        [tag, rest @ ..] => {
+            note_text(&tag.key);
+            note_text(&tag.value);
+            note_tags(rest)
+        }
     }
 }
 

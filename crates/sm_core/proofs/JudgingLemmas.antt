@@ -19,8 +19,10 @@ use Rattle.sm_judging.specs.Changes.{IsChange}
 use Rattle.sm_judging.specs.Judged.{judged_told, refusal_told, IfAccepted, IfChange}
 use Rattle.sm_judging.proofs.JudgedLemmas.{told_same, told_refusal}
 use Rattle.sm_values.proofs.CreateSecretLemmas.{create_refuses, create_repeats, create_change}
+use Rattle.sm_values.proofs.DescribeSecretLemmas.{describe_refuses, describe_reads, describe_change}
 use Rattle.sm_values.proofs.GetSecretValueLemmas.{get_refuses, get_reads, get_change}
 use Rattle.sm_values.proofs.PutSecretValueLemmas.{put_refuses, put_repeats, put_change}
+use Rattle.sm_values.proofs.UpdateSecretLemmas.{update_refuses, update_repeats, update_change}
 use Rattle.sm_labels.proofs.UpdateSecretVersionStageLemmas.{move_refuses, move_changes, move_change}
 use Rattle.sm_core.specs.Effects.{effect, entry_of}
 use Rattle.sm_core.specs.Judging.{judgement, refusal, IsUnchanged}
@@ -29,14 +31,15 @@ use Rattle.sm_core.specs.Judging.{judgement, refusal, IsUnchanged}
 pub is_refused : (rows : Rows) (moment : Moment) (drawn : List ℕ) (request : Request)
     → refusal_told (judgement rows moment drawn request) ≡ Some (refusal rows moment drawn request)
 is_refused rows moment drawn (requests.CreateSecret create) = create_refuses rows moment drawn create
+is_refused rows moment drawn (requests.DescribeSecret describe) = describe_refuses rows moment describe
 is_refused rows moment drawn (requests.GetSecretValue get) = get_refuses rows moment get
 is_refused rows moment drawn (requests.PutSecretValue put) = put_refuses rows moment drawn put
+is_refused rows moment drawn (requests.UpdateSecret update) = update_refuses rows moment drawn update
 is_refused rows moment drawn (requests.UpdateSecretVersionStage update) = move_refuses rows moment update
 is_refused rows moment drawn (requests.BatchGetSecretValue r) = refl
 is_refused rows moment drawn (requests.CancelRotateSecret r) = refl
 is_refused rows moment drawn (requests.DeleteResourcePolicy r) = refl
 is_refused rows moment drawn (requests.DeleteSecret r) = refl
-is_refused rows moment drawn (requests.DescribeSecret r) = refl
 is_refused rows moment drawn (requests.GetRandomPassword r) = refl
 is_refused rows moment drawn (requests.GetResourcePolicy r) = refl
 is_refused rows moment drawn (requests.ListSecretVersionIds r) = refl
@@ -46,21 +49,21 @@ is_refused rows moment drawn (requests.RestoreSecret r) = refl
 is_refused rows moment drawn (requests.RotateSecret r) = refl
 is_refused rows moment drawn (requests.TagResource r) = refl
 is_refused rows moment drawn (requests.UntagResource r) = refl
-is_refused rows moment drawn (requests.UpdateSecret r) = refl
 is_refused rows moment drawn (requests.ValidateResourcePolicy r) = refl
 
 -- nothing is changed exactly by what only reads and by a repeat
 pub is_unchanged : (rows : Rows) (moment : Moment) (drawn : List ℕ) (request : Request)
     → IfAccepted (judgement rows moment drawn request) (IsUnchanged rows moment drawn request)
 is_unchanged rows moment drawn (requests.CreateSecret create) = create_repeats rows moment drawn create
+is_unchanged rows moment drawn (requests.DescribeSecret describe) = describe_reads rows moment describe
 is_unchanged rows moment drawn (requests.GetSecretValue get) = get_reads rows moment get
 is_unchanged rows moment drawn (requests.PutSecretValue put) = put_repeats rows moment drawn put
+is_unchanged rows moment drawn (requests.UpdateSecret update) = update_repeats rows moment drawn update
 is_unchanged rows moment drawn (requests.UpdateSecretVersionStage update) = move_changes rows moment update
 is_unchanged rows moment drawn (requests.BatchGetSecretValue r) = tt
 is_unchanged rows moment drawn (requests.CancelRotateSecret r) = tt
 is_unchanged rows moment drawn (requests.DeleteResourcePolicy r) = tt
 is_unchanged rows moment drawn (requests.DeleteSecret r) = tt
-is_unchanged rows moment drawn (requests.DescribeSecret r) = tt
 is_unchanged rows moment drawn (requests.GetRandomPassword r) = tt
 is_unchanged rows moment drawn (requests.GetResourcePolicy r) = tt
 is_unchanged rows moment drawn (requests.ListSecretVersionIds r) = tt
@@ -70,7 +73,6 @@ is_unchanged rows moment drawn (requests.RestoreSecret r) = tt
 is_unchanged rows moment drawn (requests.RotateSecret r) = tt
 is_unchanged rows moment drawn (requests.TagResource r) = tt
 is_unchanged rows moment drawn (requests.UntagResource r) = tt
-is_unchanged rows moment drawn (requests.UpdateSecret r) = tt
 is_unchanged rows moment drawn (requests.ValidateResourcePolicy r) = tt
 
 -- a moment that a clock can give is a date that a secret may keep
@@ -89,17 +91,20 @@ pub change_is_entry : (rows : Rows) (moment : Moment) (key drawn : List ℕ) (re
     (effect rows (entry_of moment key drawn request)))
 change_is_entry rows moment key drawn (requests.CreateSecret create) sound early forms room =
     create_change rows moment drawn create sound (is_kept_date moment early) forms (least create (length drawn) room)
+change_is_entry rows moment key drawn (requests.DescribeSecret describe) sound early forms room =
+    describe_change rows moment describe _
 change_is_entry rows moment key drawn (requests.GetSecretValue get) sound early forms room = get_change rows moment get
     _
 change_is_entry rows moment key drawn (requests.PutSecretValue put) sound early forms room =
     put_change rows moment drawn put sound (is_kept_date moment early) forms
+change_is_entry rows moment key drawn (requests.UpdateSecret update) sound early forms room =
+    update_change rows moment drawn update sound (is_kept_date moment early) forms
 change_is_entry rows moment key drawn (requests.UpdateSecretVersionStage update) sound early forms room =
     move_change rows moment update sound (is_kept_date moment early)
 change_is_entry rows moment key drawn (requests.BatchGetSecretValue r) sound early forms room = tt
 change_is_entry rows moment key drawn (requests.CancelRotateSecret r) sound early forms room = tt
 change_is_entry rows moment key drawn (requests.DeleteResourcePolicy r) sound early forms room = tt
 change_is_entry rows moment key drawn (requests.DeleteSecret r) sound early forms room = tt
-change_is_entry rows moment key drawn (requests.DescribeSecret r) sound early forms room = tt
 change_is_entry rows moment key drawn (requests.GetRandomPassword r) sound early forms room = tt
 change_is_entry rows moment key drawn (requests.GetResourcePolicy r) sound early forms room = tt
 change_is_entry rows moment key drawn (requests.ListSecretVersionIds r) sound early forms room = tt
@@ -109,7 +114,6 @@ change_is_entry rows moment key drawn (requests.RestoreSecret r) sound early for
 change_is_entry rows moment key drawn (requests.RotateSecret r) sound early forms room = tt
 change_is_entry rows moment key drawn (requests.TagResource r) sound early forms room = tt
 change_is_entry rows moment key drawn (requests.UntagResource r) sound early forms room = tt
-change_is_entry rows moment key drawn (requests.UpdateSecret r) sound early forms room = tt
 change_is_entry rows moment key drawn (requests.ValidateResourcePolicy r) sound early forms room = tt
 
 -- no request is judged as want of memory

@@ -13,12 +13,14 @@ use Rattle.sm_table.specs.Sweep.{sweep}
 use Rattle.sm_judging.specs.Changes.{settled}
 use Rattle.sm_values.specs.CreateSecret.{create_effect}
 use Rattle.sm_values.specs.PutSecretValue.{put_effect}
+use Rattle.sm_values.specs.UpdateSecret.{update_effect}
 use Rattle.sm_labels.specs.UpdateSecretVersionStage.{move_effect}
 
 -- the rows after an accepted request, of those that are still there at its moment
 abbrev pub request_effect : Rows → Moment → List ℕ → Request → Rows
 request_effect rows moment drawn (requests.CreateSecret create) = create_effect rows moment drawn create
 request_effect rows moment drawn (requests.PutSecretValue put) = put_effect rows moment drawn put
+request_effect rows moment drawn (requests.UpdateSecret update) = update_effect rows moment drawn update
 request_effect rows moment drawn (requests.UpdateSecretVersionStage update) = move_effect rows moment update
 request_effect rows moment drawn (requests.BatchGetSecretValue r) = rows
 request_effect rows moment drawn (requests.CancelRotateSecret r) = rows
@@ -35,7 +37,6 @@ request_effect rows moment drawn (requests.RestoreSecret r) = rows
 request_effect rows moment drawn (requests.RotateSecret r) = rows
 request_effect rows moment drawn (requests.TagResource r) = rows
 request_effect rows moment drawn (requests.UntagResource r) = rows
-request_effect rows moment drawn (requests.UpdateSecret r) = rows
 request_effect rows moment drawn (requests.ValidateResourcePolicy r) = rows
 
 abbrev pub act_effect : Rows → Moment → List ℕ → Act → Rows

@@ -10,21 +10,24 @@ use Rattle.sm_model.specs.declared.why.Why.TheVariants.{NotBuilt}
 use Rattle.sm_judging.specs.declared.judged.Judged.{Judged}
 use Rattle.sm_judging.specs.declared.judged.Judged.TheVariants.{Refuse}
 use Rattle.sm_values.specs.CreateSecret.{create_judgement, create_refusal, create_repeat}
+use Rattle.sm_values.specs.DescribeSecret.{describe_judgement, describe_refusal}
 use Rattle.sm_values.specs.GetSecretValue.{get_judgement, get_refusal}
 use Rattle.sm_values.specs.PutSecretValue.{put_judgement, put_refusal, put_repeat}
+use Rattle.sm_values.specs.UpdateSecret.{update_judgement, update_refusal, update_repeat}
 use Rattle.sm_labels.specs.UpdateSecretVersionStage.{move_judgement, move_refusal}
 
 -- the first test after the forms that fails, or the reply and, where an entry is due, the change
 abbrev pub judgement : Rows → Moment → List ℕ → Request → Judged
 judgement rows moment drawn (requests.CreateSecret create) = create_judgement rows moment drawn create
+judgement rows moment drawn (requests.DescribeSecret describe) = describe_judgement rows moment describe
 judgement rows moment drawn (requests.GetSecretValue get) = get_judgement rows moment get
 judgement rows moment drawn (requests.PutSecretValue put) = put_judgement rows moment drawn put
+judgement rows moment drawn (requests.UpdateSecret update) = update_judgement rows moment drawn update
 judgement rows moment drawn (requests.UpdateSecretVersionStage update) = move_judgement rows moment update
 judgement rows moment drawn (requests.BatchGetSecretValue r) = Refuse NotBuilt
 judgement rows moment drawn (requests.CancelRotateSecret r) = Refuse NotBuilt
 judgement rows moment drawn (requests.DeleteResourcePolicy r) = Refuse NotBuilt
 judgement rows moment drawn (requests.DeleteSecret r) = Refuse NotBuilt
-judgement rows moment drawn (requests.DescribeSecret r) = Refuse NotBuilt
 judgement rows moment drawn (requests.GetRandomPassword r) = Refuse NotBuilt
 judgement rows moment drawn (requests.GetResourcePolicy r) = Refuse NotBuilt
 judgement rows moment drawn (requests.ListSecretVersionIds r) = Refuse NotBuilt
@@ -34,20 +37,20 @@ judgement rows moment drawn (requests.RestoreSecret r) = Refuse NotBuilt
 judgement rows moment drawn (requests.RotateSecret r) = Refuse NotBuilt
 judgement rows moment drawn (requests.TagResource r) = Refuse NotBuilt
 judgement rows moment drawn (requests.UntagResource r) = Refuse NotBuilt
-judgement rows moment drawn (requests.UpdateSecret r) = Refuse NotBuilt
 judgement rows moment drawn (requests.ValidateResourcePolicy r) = Refuse NotBuilt
 
 -- the first test after the forms that fails, by the rows alone
 abbrev pub refusal : Rows → Moment → List ℕ → Request → Option Why
 refusal rows moment drawn (requests.CreateSecret create) = create_refusal rows moment drawn create
+refusal rows moment drawn (requests.DescribeSecret describe) = describe_refusal rows moment describe
 refusal rows moment drawn (requests.GetSecretValue get) = get_refusal rows moment get
 refusal rows moment drawn (requests.PutSecretValue put) = put_refusal rows moment drawn put
+refusal rows moment drawn (requests.UpdateSecret update) = update_refusal rows moment drawn update
 refusal rows moment drawn (requests.UpdateSecretVersionStage update) = move_refusal rows moment update
 refusal rows moment drawn (requests.BatchGetSecretValue r) = Some NotBuilt
 refusal rows moment drawn (requests.CancelRotateSecret r) = Some NotBuilt
 refusal rows moment drawn (requests.DeleteResourcePolicy r) = Some NotBuilt
 refusal rows moment drawn (requests.DeleteSecret r) = Some NotBuilt
-refusal rows moment drawn (requests.DescribeSecret r) = Some NotBuilt
 refusal rows moment drawn (requests.GetRandomPassword r) = Some NotBuilt
 refusal rows moment drawn (requests.GetResourcePolicy r) = Some NotBuilt
 refusal rows moment drawn (requests.ListSecretVersionIds r) = Some NotBuilt
@@ -57,13 +60,13 @@ refusal rows moment drawn (requests.RestoreSecret r) = Some NotBuilt
 refusal rows moment drawn (requests.RotateSecret r) = Some NotBuilt
 refusal rows moment drawn (requests.TagResource r) = Some NotBuilt
 refusal rows moment drawn (requests.UntagResource r) = Some NotBuilt
-refusal rows moment drawn (requests.UpdateSecret r) = Some NotBuilt
 refusal rows moment drawn (requests.ValidateResourcePolicy r) = Some NotBuilt
 
 -- what was carried out before, with the same token
 abbrev pub repeat : Rows → Moment → List ℕ → Request → Bool
 repeat rows moment drawn (requests.CreateSecret create) = create_repeat rows moment drawn create
 repeat rows moment drawn (requests.PutSecretValue put) = put_repeat rows moment drawn put
+repeat rows moment drawn (requests.UpdateSecret update) = update_repeat rows moment drawn update
 repeat rows moment drawn (requests.BatchGetSecretValue r) = false
 repeat rows moment drawn (requests.CancelRotateSecret r) = false
 repeat rows moment drawn (requests.DeleteResourcePolicy r) = false
@@ -79,7 +82,6 @@ repeat rows moment drawn (requests.RestoreSecret r) = false
 repeat rows moment drawn (requests.RotateSecret r) = false
 repeat rows moment drawn (requests.TagResource r) = false
 repeat rows moment drawn (requests.UntagResource r) = false
-repeat rows moment drawn (requests.UpdateSecret r) = false
 repeat rows moment drawn (requests.UpdateSecretVersionStage r) = false
 repeat rows moment drawn (requests.ValidateResourcePolicy r) = false
 

@@ -16,8 +16,10 @@ use sm_labels::update_secret_version_stage::judge_move;
 use sm_model::{Moment, NoMemory, Person, Request, Why};
 use sm_table::Table;
 use sm_values::create_secret::judge_create;
+use sm_values::describe_secret::judge_describe;
 use sm_values::get_secret_value::judge_get;
 use sm_values::put_secret_value::judge_put;
+use sm_values::update_secret::judge_update;
 use std::alloc::Global;
 
 /// Judges a request of a person at a moment, with the random bytes that were drawn for it.
@@ -70,14 +72,15 @@ pub fn judge_exactly(
 {
     match request {
         Request::CreateSecret(create) => judge_create(alloc, table, moment, drawn, create),
+        Request::DescribeSecret(describe) => judge_describe(alloc, table, moment, describe),
         Request::GetSecretValue(get) => judge_get(alloc, table, moment, get),
         Request::PutSecretValue(put) => judge_put(alloc, table, moment, drawn, put),
+        Request::UpdateSecret(update) => judge_update(alloc, table, moment, drawn, update),
         Request::UpdateSecretVersionStage(update) => judge_move(alloc, table, moment, update),
         Request::BatchGetSecretValue(_)
         | Request::CancelRotateSecret(_)
         | Request::DeleteResourcePolicy(_)
         | Request::DeleteSecret(_)
-        | Request::DescribeSecret(_)
         | Request::GetRandomPassword(_)
         | Request::GetResourcePolicy(_)
         | Request::ListSecretVersionIds(_)
@@ -87,7 +90,6 @@ pub fn judge_exactly(
         | Request::RotateSecret(_)
         | Request::TagResource(_)
         | Request::UntagResource(_)
-        | Request::UpdateSecret(_)
         | Request::ValidateResourcePolicy(_) => Ok(Judged::Refuse(Why::NotBuilt)),
     }
 }

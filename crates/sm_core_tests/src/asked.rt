@@ -1,6 +1,7 @@
 //! A request as a row says it: the operation's word, and its members, of which `.` stands for one that is absent.
 use sm_model::{
-    CreateSecret, GetSecretValue, List, PutSecretValue, Request, Text, UpdateSecretVersionStage,
+    Bytes, CreateSecret, GetSecretValue, List, OfSecret, PutSecretValue, Request, Tag, Text,
+    UpdateSecret, UpdateSecretVersionStage,
 };
 use std::alloc::Global;
 use std::test::Fail;
@@ -69,29 +70,102 @@ fn label(alloc: Global, text: &str) -> Result<Text, Fail> {
     Ok(Text::from_str(alloc, text)?)
 }
 
-/// A value of so many bytes, `v` each, where the text says so.
-fn value(alloc: Global, text: &str) -> Result<Option<Text>, Fail> {
-    let Some(length) = text.strip_prefix("v*") else {
-        return given(alloc, text);
-    };
+/// So many times the same character.
+fn repeated(alloc: Global, character: &str, count: &str) -> Result<String, Fail> {
     let mut value = String::new(alloc);
-    for _ in 0..length.parse::<u32>().unwrap_or(0) {
-        value.push_str("v")?;
+    for _ in 0..count.parse::<u32>().unwrap_or(0) {
+        value.push_str(character)?;
     }
-    Ok(Some(Text::new(value)))
+    Ok(value)
 }
 
-/// `create NAME VALUE TOKEN`
+/// A text, of one character so many times where a star stands between them. `b:` begins a value of bytes.
+fn value(alloc: Global, text: &str) -> Result<Option<Text>, Fail> {
+    if text.starts_with("b:") {
+        return Ok(None);
+    }
+    match text.split_once("*") {
+        Some((character, count)) => Ok(Some(Text::new(repeated(alloc, character, count)?))),
+        None => given(alloc, text),
+    }
+}
+
+/// The bytes of a value that `b:` begins, or of one that is called both.
+fn binary(alloc: Global, text: &str) -> Result<Option<Bytes>, Fail> {
+    if text == "both" {
+        return Ok(Some(Bytes::from_slice(alloc, text.as_bytes())?));
+    }
+    let Some(text) = text.strip_prefix("b:") else {
+        return Ok(None);
+    };
+    match value(alloc, text)? {
+        Some(text) => Ok(Some(Bytes::from_slice(alloc, text.as_bytes())?)),
+        None => Ok(None),
+    }
+}
+
+fn tag(alloc: Global, text: &str) -> Result<Tag, Fail> {
+    let (key, value) = text.split_once("=").unwrap_or((text, ""));
+    Ok(Tag {
+        key: Text::from_str(alloc, key)?,
+        value: Text::from_str(alloc, value)?,
+    })
+}
+
+/// Tags with commas between them, each a key, an equals sign and a value; or so many.
+fn tags(alloc: Global, text: &str) -> Result<Option<List<Tag>>, Fail> {
+    if text == "." {
+        return Ok(None);
+    }
+    let mut tags = Vec::new(alloc);
+    if let Some(count) = text.strip_prefix("k*") {
+        for number in 0..count.parse::<u32>().unwrap_or(0) {
+            tags.push(tag(alloc, format!(in alloc; "k{number}")?.as_str())?)?;
+        }
+        return Ok(Some(List::new(tags)));
+    }
+    for one in text.split(",") {
+        tags.push(tag(alloc, one)?)?;
+    }
+    Ok(Some(List::new(tags)))
+}
+
+/// `create NAME VALUE TOKEN DESCRIPTION KEY TAGS`
 fn create(alloc: Global, text: &str) -> Result<Request, Fail> {
-    let value = value(alloc, word(text, 2))?;
+    let secret_string = value(alloc, word(text, 2))?;
+    let secret_binary = binary(alloc, word(text, 2))?;
+    let description = value(alloc, word(text, 4))?;
+    let tags = tags(alloc, word(text, 6))?;
     Ok(Request::CreateSecret(CreateSecret {
         client_request_token: token(alloc, word(text, 3))?,
-        description: None,
-        kms_key_id: None,
+        description,
+        kms_key_id: value(alloc, word(text, 5))?,
         name: Text::from_str(alloc, word(text, 1))?,
-        secret_binary: None,
-        secret_string: value,
-        tags: None,
+        secret_binary,
+        secret_string,
+        tags,
+    }))
+}
+
+/// `update SECRET VALUE TOKEN DESCRIPTION KEY`
+fn update(alloc: Global, text: &str) -> Result<Request, Fail> {
+    let secret_string = value(alloc, word(text, 2))?;
+    let secret_binary = binary(alloc, word(text, 2))?;
+    let description = value(alloc, word(text, 4))?;
+    Ok(Request::UpdateSecret(UpdateSecret {
+        client_request_token: token(alloc, word(text, 3))?,
+        description,
+        kms_key_id: value(alloc, word(text, 5))?,
+        secret_binary,
+        secret_id: secret_id(alloc, word(text, 1))?,
+        secret_string,
+    }))
+}
+
+/// `describe SECRET`
+fn describe(alloc: Global, text: &str) -> Result<Request, Fail> {
+    Ok(Request::DescribeSecret(OfSecret {
+        secret_id: secret_id(alloc, word(text, 1))?,
     }))
 }
 
@@ -99,11 +173,12 @@ fn create(alloc: Global, text: &str) -> Result<Request, Fail> {
 fn put(alloc: Global, text: &str) -> Result<Request, Fail> {
     let version_stages = labels(alloc, word(text, 4))?;
     let secret_id = secret_id(alloc, word(text, 1))?;
+    let secret_binary = binary(alloc, word(text, 3))?;
     Ok(Request::PutSecretValue(PutSecretValue {
         client_request_token: token(alloc, word(text, 2))?,
-        secret_binary: None,
+        secret_binary,
         secret_id,
-        secret_string: given(alloc, word(text, 3))?,
+        secret_string: value(alloc, word(text, 3))?,
         version_stages,
     }))
 }
@@ -133,6 +208,8 @@ fn move_label(alloc: Global, text: &str) -> Result<Request, Fail> {
 pub fn request(alloc: Global, text: &str) -> Result<Request, Fail> {
     match word(text, 0) {
         "create" => create(alloc, text),
+        "describe" => describe(alloc, text),
+        "update" => update(alloc, text),
         "put" => put(alloc, text),
         "get" => get(alloc, text),
         _ => move_label(alloc, text),

@@ -1,7 +1,8 @@
 //! What a request is answered, as a line says it.
 use sm_core::Judged;
 use sm_model::{
-    GotSecret, Label, List, NamedSecret, PutValue, Reply, Text, Token, VersionedSecret, Why,
+    Described, GotSecret, Label, List, NamedSecret, PutValue, Reply, Text, Token, VersionedSecret,
+    Why,
 };
 use std::alloc::Global;
 use std::test::Fail;
@@ -108,6 +109,45 @@ fn put_text(alloc: Global, reply: &PutValue) -> Result<String, Fail> {
     Ok(shown)
 }
 
+fn push_given(shown: &mut String, text: &Option<Text>) -> Result<(), Fail> {
+    shown.push_str(" ")?;
+    match text {
+        Some(text) => shown.push_str(text.as_str())?,
+        None => shown.push_str(".")?,
+    }
+    Ok(())
+}
+
+/// The tags, and the versions with their labels.
+fn push_lists(shown: &mut String, reply: &Described) -> Result<(), Fail> {
+    for tag in reply.tags.as_slice() {
+        shown.push_str(" ")?;
+        shown.push_str(tag.key.as_str())?;
+        shown.push_str("=")?;
+        shown.push_str(tag.value.as_str())?;
+    }
+    for staged in reply.version_ids_to_stages.as_slice() {
+        push_number(shown, &staged.id)?;
+        push_labels(shown, &staged.labels)?;
+    }
+    Ok(())
+}
+
+/// The secret, its moments, the description and the key, the date of its deletion where there is one, and the lists.
+fn described_text(alloc: Global, reply: &Described) -> Result<String, Fail> {
+    let mut shown = secret_text(alloc, &reply.arn, &reply.name)?;
+    let (created, changed) = (reply.created_date.0, reply.last_changed_date.0);
+    shown.push_str(format!(in alloc; " {created} {changed}")?.as_str())?;
+    push_given(&mut shown, &reply.description)?;
+    push_given(&mut shown, &reply.kms_key_id)?;
+    if let Some(date) = reply.deleted_date {
+        let date = date.0;
+        shown.push_str(format!(in alloc; " deleted {date}")?.as_str())?;
+    }
+    push_lists(&mut shown, reply)?;
+    Ok(shown)
+}
+
 fn named_text(alloc: Global, reply: &NamedSecret) -> Result<String, Fail> {
     secret_text(alloc, &reply.arn, &reply.name)
 }
@@ -115,8 +155,10 @@ fn named_text(alloc: Global, reply: &NamedSecret) -> Result<String, Fail> {
 fn reply_text(alloc: Global, reply: &Reply) -> Result<String, Fail> {
     match reply {
         Reply::CreateSecret(reply) => created_text(alloc, reply),
+        Reply::DescribeSecret(reply) => described_text(alloc, reply),
         Reply::GetSecretValue(reply) => got_text(alloc, reply),
         Reply::PutSecretValue(reply) => put_text(alloc, reply),
+        Reply::UpdateSecret(reply) => created_text(alloc, reply),
         Reply::UpdateSecretVersionStage(reply) => named_text(alloc, reply),
         _ => plain(alloc, "another reply"),
     }

@@ -84,6 +84,38 @@ the drawn token with another value | put n . x .
   | other value in 10203-0405-4607-8809-0a0b0c0d0e0f
   | AWSCURRENT=1 AWSPREVIOUS=3";
 
+/// What is said of a secret, and values of bytes.
+const DETAILS: &str =
+    "a new secret with all members | create app b:x 1 d k a=v,b= | + app-ABCDEF app 1 | AWSCURRENT=1;
+all that is kept of it | describe app
+  | app-ABCDEF app 1700000000 1700000000 d k a=v b= 1 AWSCURRENT
+  | AWSCURRENT=1;
+its bytes | get app . . | app-ABCDEF app 1 1700000000 bytes AWSCURRENT | AWSCURRENT=1;
+the same request again, with another description | create app b:x 1 e k a=v,b= | app-ABCDEF app 1 | AWSCURRENT=1;
+its bytes as a text | create app x 1 d k a=v,b= | exists app | AWSCURRENT=1;
+a new value and another key | update app w 2 . l | + app-ABCDEF app 2 | AWSCURRENT=2 AWSPREVIOUS=1;
+a repeat with another description | update app w 2 e . | app-ABCDEF app 2 | AWSCURRENT=2 AWSPREVIOUS=1;
+nothing is changed by it | describe app
+  | app-ABCDEF app 1700000000 1700000000 d l a=v b= 1 AWSPREVIOUS 2 AWSCURRENT
+  | AWSCURRENT=2 AWSPREVIOUS=1;
+its token with another value | update app b:w 2 e . | other value in 2 | AWSCURRENT=2 AWSPREVIOUS=1;
+another description, and a token without a value | update app . 2 e . | + app-ABCDEF app | AWSCURRENT=2 AWSPREVIOUS=1;
+the description alone is another one | describe app-ABCDEF
+  | app-ABCDEF app 1700000000 1700000000 e l a=v b= 1 AWSPREVIOUS 2 AWSCURRENT
+  | AWSCURRENT=2 AWSPREVIOUS=1;
+bytes put, with labels that are sorted | put app 3 b:y z,AWSCURRENT,a
+  | + app-ABCDEF app 3 AWSCURRENT a z
+  | z=3 a=3 AWSCURRENT=3 AWSPREVIOUS=2;
+a version without a label is not shown | describe app
+  | app-ABCDEF app 1700000000 1700000000 e l a=v b= 2 AWSPREVIOUS 3 AWSCURRENT a z
+  | z=3 a=3 AWSCURRENT=3 AWSPREVIOUS=2;
+an update of an absent secret | update absent v 1 . . | no secret | z=3 a=3 AWSCURRENT=3 AWSPREVIOUS=2;
+an absent secret | describe absent | no secret | z=3 a=3 AWSCURRENT=3 AWSPREVIOUS=2;
+more tags than may be, of a held name | create app v 4 . . k*51 | exists app | z=3 a=3 AWSCURRENT=3 AWSPREVIOUS=2;
+more tags than may be | create n v 4 . . k*51 | limit of 50 Tags | z=3 a=3 AWSCURRENT=3 AWSPREVIOUS=2;
+as many tags as may be | create n . . . . k*50 | + n-ABCDEF n | z=3 a=3 AWSCURRENT=3 AWSPREVIOUS=2;
+a secret's first value by an update | update n v 4 . . | + n-ABCDEF n 4 | z=3 a=3 AWSCURRENT=3 AWSPREVIOUS=2";
+
 /// Requests of which some members are not in their forms.
 const FORMS: &str = "a name with a colon | create a:b v 1 | form of Name | none;
 the token before the name | create a:b v short | form of ClientRequestToken | none;
@@ -96,6 +128,18 @@ the secret before the labels | put a:b 2 v , | form of SecretId | AWSCURRENT=1;
 no labels | put n 2 . , | form of VersionStages | AWSCURRENT=1;
 more labels than may be | put n 2 v a,b,c,d,e,f,g,h,i,j,k,l,m,n,o,p,q,r,s,t,a | form of VersionStages | AWSCURRENT=1;
 no value | put n 2 . . | form of SecretString | AWSCURRENT=1;
+a text and bytes put | put n 2 both . | form of SecretString | AWSCURRENT=1;
+a text and bytes of a new secret | create m both 2 | form of SecretString | AWSCURRENT=1;
+a text and bytes of an update | update n both 2 | form of SecretString | AWSCURRENT=1;
+bytes of one too many | put n 2 b:v*65537 . | form of SecretBinary | AWSCURRENT=1;
+a description of one character too many | create m . . ä*2049 | form of Description | AWSCURRENT=1;
+the description before the key | update n . . ä*2049 ä*2049 | form of Description | AWSCURRENT=1;
+a key of one character too many | update n . . ä*2048 ä*2049 | form of KmsKeyId | AWSCURRENT=1;
+the bytes before the secret | update a:b b:v*65537 . . . | form of SecretBinary | AWSCURRENT=1;
+a tag of AWS's own | create m v 2 . . aws:k=v | form of Tags | AWSCURRENT=1;
+a tag without a key | create m v 2 . . =v | form of Tags | AWSCURRENT=1;
+a key twice | create m v 2 . . k=v,l=v,k=w | form of Tags | AWSCURRENT=1;
+a secret to be shown with a colon | describe a:b | form of SecretId | AWSCURRENT=1;
 the target before all others | move a:b . short short | form of MoveToVersionId | AWSCURRENT=1;
 the source before the secret | move a:b . . short | form of RemoveFromVersionId | AWSCURRENT=1;
 the secret before the label | move a:b . . . | form of SecretId | AWSCURRENT=1;
@@ -116,6 +160,7 @@ a label more by a move | move app u 1 .
 
 /// A secret with as many versions as it may have, of which the second waits for its value.
 const VERSIONS: &str = "a version more than may be | put app 1001 v . | limit of 1000 Versions | 8;
+an update with a version more than may be | update app v 1001 . . | limit of 1000 Versions | 8;
 a repeat where there is no room | put app 1000 v . | app-ABCDEF app 1000 | 8;
 an empty version is filled where there is no room | put app 2 w .
   | + app-ABCDEF app 2 AWSCURRENT AWSPENDING
@@ -133,8 +178,11 @@ const SCHEDULED: &str = "a new secret of a scheduled name | create app v 1 | sch
 a scheduled secret's value | get app . . | scheduled at 9 | 8;
 a value for a scheduled secret | put app 1 v . | scheduled at 9 | 8;
 a label of a scheduled secret | move app blue 1 . | scheduled at 9 | 8;
+an update of a scheduled secret | update app . . d . | scheduled at 9 | 8;
+a scheduled secret is shown | describe app | app-ABCDEF app 7 7 . . deleted 9 1 AWSCURRENT 2 AWSPENDING | 8;
 a new secret of a name that is free | create app v 1 | + app-ABCDEF app 1 | 9;
-a secret that is gone | get app . . | no secret | 9";
+a secret that is gone | get app . . | no secret | 9;
+a secret that is gone is not shown | describe app | no secret | 9";
 
 /// Secrets that are as they are between any two requests.
 #[derive(Drop)]
@@ -349,7 +397,7 @@ fn differences_there(alloc: Global, table: &Table, rows: &str) -> Result<String,
 
 #[test]
 fn answers_requests(rt: HostRuntime) -> Result<(), Fail> {
-    for table in [REQUESTS, FORMS, LABELS] {
+    for table in [REQUESTS, DETAILS, FORMS, LABELS] {
         assert_eq!(rt; differences(rt.alloc(), table)?.as_str(), "");
     }
     Ok(())

@@ -1,50 +1,84 @@
 -- What it says of a CreateSecret that its forms pass.
-use Rattle.std.proofs.Common.{◌≡◌, true, false, ◌||◌, Option, Some, None, is_some, IfSome, refl}
+use Rattle.std.proofs.Common.{◌≡◌, false, None, IfSome}
 use Rattle.std.specs.Prelude.{IsTrue}
 use Rattle.sm_model.specs.declared.request.CreateSecret.{CreateSecret}
+use Rattle.sm_model.specs.Bounds.{is_description}
 use Rattle.sm_base.specs.Spelling.{is_name, is_token}
-use Rattle.sm_forms.specs.Members.{is_value}
-use Rattle.sm_forms.specs.CreateSecret.{has_unbuilt, create_members, create_forms}
-use Rattle.sm_forms.proofs.MemberLemmas.{none_first, passes, all_pass, nothing_unbuilt}
-
-members_pass : (create : CreateSecret) → create_forms create ≡ None → create_members create ≡ None
-members_pass create h = (nothing_unbuilt (has_unbuilt create) (create_members create) h).1
+use Rattle.sm_versions.specs.Texts.{once}
+use Rattle.sm_versions.specs.Sound.{tag_keys, each_tag}
+use Rattle.sm_forms.specs.Members.{is_value, has_both}
+use Rattle.sm_forms.specs.CreateSecret.{create_value, create_forms}
+use Rattle.sm_forms.proofs.MemberLemmas.{none_first, passes, all_pass, not_both}
+use Rattle.sm_forms.proofs.TagLemmas.{tags_pass}
 
 -- each of the members
-parts : (create : CreateSecret) → create_members create ≡ None
-    → IfSome create.client_request_token (λ t. IsTrue (is_token t)) × IsTrue (is_name create.name)
-    × IfSome create.secret_string (λ t. IsTrue (is_value t))
+record Parts (create : CreateSecret) : Type 0 where
+  token : IfSome create.client_request_token (λ t. IsTrue (is_token t))
+  description : IfSome create.description (λ t. IsTrue (is_description t))
+  kms : IfSome create.kms_key_id (λ t. IsTrue (is_description t))
+  name : IsTrue (is_name create.name)
+  value : create_value create ≡ None
+
+parts : (create : CreateSecret) → create_forms create ≡ None → Parts create
 parts create h =
-    let forms = none_first _ _ h in
-    let name = none_first _ _ forms.1 in (
-      all_pass is_token _ create.client_request_token forms.0,
-      passes (is_name create.name) _ name.0,
-      all_pass is_value _ create.secret_string name.1,
-    )
+    let description = none_first _ _ h in
+    let kms = none_first _ _ description.1 in
+    let name = none_first _ _ kms.1 in
+    let value = none_first _ _ name.1 in
+    record {
+      token = all_pass is_token _ create.client_request_token description.0;
+      description = all_pass is_description _ create.description kms.0;
+      kms = all_pass is_description _ create.kms_key_id name.0;
+      name = passes (is_name create.name) _ value.0;
+      value = value.1;
+    }
+
+record ValueParts (create : CreateSecret) : Type 0 where
+  binary : IfSome create.secret_binary (λ bytes. IsTrue (is_value bytes))
+  text : IfSome create.secret_string (λ t. IsTrue (is_value t))
+  tags : IfSome create.tags (λ ts. IsTrue (each_tag ts) × IsTrue (once (tag_keys ts)))
+  one : has_both create.secret_string create.secret_binary ≡ false
+
+value_parts : (create : CreateSecret) → create_value create ≡ None → ValueParts create
+value_parts create h =
+    let text = none_first _ _ h in
+    let tags = none_first _ _ text.1 in
+    let one = none_first _ _ tags.1 in
+    record {
+      binary = all_pass is_value _ create.secret_binary text.0;
+      text = all_pass is_value _ create.secret_string tags.0;
+      tags = tags_pass create.tags one.0;
+      one = not_both create.secret_string create.secret_binary _ one.1;
+    }
 
 pub create_token : (create : CreateSecret) → create_forms create ≡ None
     → IfSome create.client_request_token (λ t. IsTrue (is_token t))
-create_token create h = (parts create (members_pass create h)).0
+create_token create h = (parts create h).token
+
+pub create_description : (create : CreateSecret) → create_forms create ≡ None
+    → IfSome create.description (λ t. IsTrue (is_description t))
+create_description create h = (parts create h).description
+
+pub create_kms : (create : CreateSecret) → create_forms create ≡ None
+    → IfSome create.kms_key_id (λ t. IsTrue (is_description t))
+create_kms create h = (parts create h).kms
 
 pub create_name : (create : CreateSecret) → create_forms create ≡ None → IsTrue (is_name create.name)
-create_name create h = (parts create (members_pass create h)).1
+create_name create h = (parts create h).name
+
+pub create_binary : (create : CreateSecret) → create_forms create ≡ None
+    → IfSome create.secret_binary (λ bytes. IsTrue (is_value bytes))
+create_binary create h = (value_parts create (parts create h).value).binary
 
 pub create_text : (create : CreateSecret) → create_forms create ≡ None
     → IfSome create.secret_string (λ t. IsTrue (is_value t))
-create_text create h = (parts create (members_pass create h)).2
+create_text create h = (value_parts create (parts create h).value).text
 
--- none of four members is there where no test finds one
-none_of : {A B C D : Type 0} → (a : Option A) (b : Option B) (c : Option C) (d : Option D)
-    → (is_some a || is_some b || is_some c || is_some d) ≡ false → (a ≡ None) × (b ≡ None) × (c ≡ None) × (d ≡ None)
-none_of None None None None h = (refl, refl, refl, refl)
-none_of (Some a) b c d h = absurd (let f : true ≡ false = h in cc)
-none_of None (Some b) c d h = absurd (let f : true ≡ false = h in cc)
-none_of None None (Some c) d h = absurd (let f : true ≡ false = h in cc)
-none_of None None None (Some d) h = absurd (let f : true ≡ false = h in cc)
+pub create_tags : (create : CreateSecret) → create_forms create ≡ None
+    → IfSome create.tags (λ ts. IsTrue (each_tag ts) × IsTrue (once (tag_keys ts)))
+create_tags create h = (value_parts create (parts create h).value).tags
 
--- the members that are not built are not there
-pub create_built : (create : CreateSecret) → create_forms create ≡ None
-    → (create.description ≡ None) × (create.kms_key_id ≡ None) × (create.secret_binary ≡ None) × (create.tags ≡ None)
-create_built create h =
-    none_of create.description create.kms_key_id create.secret_binary create.tags
-    (nothing_unbuilt (has_unbuilt create) (create_members create) h).0
+-- a text and bytes are not both given
+pub create_one : (create : CreateSecret) → create_forms create ≡ None
+    → has_both create.secret_string create.secret_binary ≡ false
+create_one create h = (value_parts create (parts create h).value).one

@@ -1,36 +1,48 @@
 //! The forms of CreateSecret (AWS Secrets Manager API Reference, CreateSecret).
 ghost use Rattle.std.specs.Prelude.{◌≡◌};
-ghost use Rattle.sm_forms.specs.CreateSecret.{has_unbuilt, create_members, create_forms};
+ghost use Rattle.sm_forms.specs.CreateSecret.{create_value, create_forms};
 
-use crate::members::{first, form_unless, token_form, unless_unbuilt, value_form};
+use crate::members::{
+    bytes_form, description_form, first, form_unless, has_both, token_form, value_form,
+};
+use crate::tags::tags_form;
 use sm_base::spelled::is_name;
 use sm_model::{CreateSecret, Why};
 
-/// The first form that fails, where no member is there that is not built.
+/// The first form or joint test that fails.
 pub fn create_forms(create: &CreateSecret) -> Option<Why>
     ensures { result ≡ create_forms create.now }
-{
-    unless_unbuilt(has_unbuilt(create), create_members(create))
-}
-
-/// Whether a member is there that is not built.
-fn has_unbuilt(create: &CreateSecret) -> bool
-    ensures { result ≡ has_unbuilt create.now }
-{
-    create.description.is_some()
-        || create.kms_key_id.is_some()
-        || create.secret_binary.is_some()
-        || create.tags.is_some()
-}
-
-fn create_members(create: &CreateSecret) -> Option<Why>
-    ensures { result ≡ create_members create.now }
 {
     first(
         token_form(&create.client_request_token, "ClientRequestToken"),
         first(
-            form_unless(is_name(create.name.as_bytes()), "Name"),
+            description_form(&create.description, "Description"),
+            first(
+                description_form(&create.kms_key_id, "KmsKeyId"),
+                first(
+                    form_unless(is_name(create.name.as_bytes()), "Name"),
+                    create_value(create),
+                ),
+            ),
+        ),
+    )
+}
+
+/// The forms of the value and of the tags, and then that a text and bytes are not both given.
+fn create_value(create: &CreateSecret) -> Option<Why>
+    ensures { result ≡ create_value create.now }
+{
+    first(
+        bytes_form(&create.secret_binary, "SecretBinary"),
+        first(
             value_form(&create.secret_string, "SecretString"),
+            first(
+                tags_form(&create.tags),
+                form_unless(
+                    !has_both(&create.secret_string, &create.secret_binary),
+                    "SecretString",
+                ),
+            ),
         ),
     )
 }

@@ -1,23 +1,14 @@
 //! The forms of members that several operations have.
-ghost use Rattle.std.specs.Prelude.{◌≡◌, Some, if◌then◌else◌};
+ghost use Rattle.std.specs.Prelude.{◌≡◌, length};
 ghost use Rattle.std.specs.List.{list_all};
-ghost use Rattle.sm_forms.specs.Members.{first_why, form_unless, form_of, is_value, are_labels, labels_form, unless_unbuilt};
+ghost use Rattle.std.specs.Str.{chars};
+ghost use Rattle.sm_forms.specs.Members.{first_why, form_unless, form_of, is_value, has_both, has_one, are_labels, labels_form};
 ghost use Rattle.sm_base.specs.Spelling.{is_token, is_label};
+ghost use Rattle.sm_model.specs.Bounds.{has_at_most, is_description};
 
 use sm_base::spelled::{is_label, is_token};
-use sm_model::limits::{LABELS_LIMIT, VALUE_LIMIT};
-use sm_model::{List, Text, Why};
-
-/// The refusal of a member that is not built, or the one of the forms.
-pub fn unless_unbuilt(is_unbuilt: bool, forms: Option<Why>) -> Option<Why>
-    ensures { result ≡ unless_unbuilt is_unbuilt forms }
-{
-    if is_unbuilt {
-        Some(Why::NotBuilt)
-    } else {
-        forms
-    }
-}
+use sm_model::limits::{DESCRIPTION_LIMIT, LABELS_LIMIT, VALUE_LIMIT};
+use sm_model::{Bytes, List, Text, Why};
 
 /// The first of two refusals.
 pub fn first(one: Option<Why>, next: Option<Why>) -> Option<Why>
@@ -56,6 +47,54 @@ pub fn value_form(text: &Option<Text>, name: &'static str) -> Option<Why>
 {
     match text {
         Some(text) => form_unless(text.len() <= VALUE_LIMIT, name),
+        None => None,
+    }
+}
+
+/// The form of a member that is a value of bytes.
+pub fn bytes_form(bytes: &Option<Bytes>, name: &'static str) -> Option<Why>
+    ensures { result ≡ form_of is_value name.now bytes.now }
+{
+    match bytes {
+        Some(bytes) => form_unless(bytes.len() <= VALUE_LIMIT, name),
+        None => None,
+    }
+}
+
+/// Whether a text and bytes are both given as the value.
+pub fn has_both(text: &Option<Text>, binary: &Option<Bytes>) -> bool
+    ensures { result ≡ has_both text.now binary.now }
+{
+    text.is_some() && binary.is_some()
+}
+
+/// Whether one of a text and bytes is given as the value, and not both.
+pub fn has_one(text: &Option<Text>, binary: &Option<Bytes>) -> bool
+    ensures { result ≡ has_one text.now binary.now }
+{
+    (text.is_some() || binary.is_some()) && !has_both(text, binary)
+}
+
+/// How many characters a text has.
+pub fn characters(text: &Text) -> usize
+    ensures { result ≡ length (chars text.now) }
+{
+    text.as_str().chars().count()
+}
+
+/// Whether a text has at most so many characters.
+pub fn has_at_most(text: &Text, limit: usize) -> bool
+    ensures { result ≡ has_at_most limit text.now }
+{
+    characters(text) <= limit
+}
+
+/// The form of a member that is a description or the id of a KMS key.
+pub fn description_form(text: &Option<Text>, name: &'static str) -> Option<Why>
+    ensures { result ≡ form_of is_description name.now text.now }
+{
+    match text {
+        Some(text) => form_unless(has_at_most(text, DESCRIPTION_LIMIT), name),
         None => None,
     }
 }

@@ -4,7 +4,9 @@ ghost use Rattle.sm_forms.specs.Forms.{forms_of};
 
 use crate::create_secret::create_forms;
 use crate::get_secret_value::get_forms;
+use crate::of_secret::of_secret_forms;
 use crate::put_secret_value::put_forms;
+use crate::update_secret::update_forms;
 use crate::update_secret_version_stage::move_forms;
 use sm_model::{Request, Why};
 use std::alloc::Global;
@@ -15,14 +17,15 @@ pub fn forms(_alloc: Global, request: &Request) -> Option<Why>
 {
     match request {
         Request::CreateSecret(create) => create_forms(create),
+        Request::DescribeSecret(describe) => of_secret_forms(describe),
         Request::GetSecretValue(get) => get_forms(get),
         Request::PutSecretValue(put) => put_forms(put),
+        Request::UpdateSecret(update) => update_forms(update),
         Request::UpdateSecretVersionStage(update) => move_forms(update),
         Request::BatchGetSecretValue(_)
         | Request::CancelRotateSecret(_)
         | Request::DeleteResourcePolicy(_)
         | Request::DeleteSecret(_)
-        | Request::DescribeSecret(_)
         | Request::GetRandomPassword(_)
         | Request::GetResourcePolicy(_)
         | Request::ListSecretVersionIds(_)
@@ -32,7 +35,6 @@ pub fn forms(_alloc: Global, request: &Request) -> Option<Why>
         | Request::RotateSecret(_)
         | Request::TagResource(_)
         | Request::UntagResource(_)
-        | Request::UpdateSecret(_)
         | Request::ValidateResourcePolicy(_) => Some(Why::NotBuilt),
     }
 }

@@ -1,47 +1,38 @@
--- What of the requests is built today: a message that asks for anything else is refused behind a body that is no JSON
--- object and before its members.
-use Rattle.std.specs.Prelude.{ℕ, Bool, true, false, ◌||◌, if◌then◌else◌, List, Option, Some, None, is_some, Result, Ok, Err}
+-- Which operations are built today: a request of another one is refused behind all of its members.
+use Rattle.std.specs.Prelude.{ℕ, Bool, true, false, if◌then◌else◌, List, Option, Some, None, Result, Ok, Err}
 use Rattle.serde_json.specs.Data.{Data}
 use Rattle.sm_model.specs.declared.request.Request.{Request}
 use Rattle.sm_model.specs.declared.why.Why.{Why}
 use Rattle.sm_model.specs.declared.why.Why.TheVariants as whys
-use Rattle.sm_json.specs.declared.name.MemberName.{MemberName}
-use Rattle.sm_json.specs.declared.name.MemberName.TheVariants as names
 use Rattle.sm_json.specs.declared.operation.Operation.{Operation}
 use Rattle.sm_json.specs.declared.operation.Operation.TheVariants as named
 use Rattle.sm_json.specs.declared.requests.ReadRequest.{ReadRequest}
 use Rattle.sm_json.specs.declared.requests.ReadRequest.TheVariants as answers
 use Rattle.sm_json.specs.Asks.{asked, object_of}
-use Rattle.sm_json.specs.Fields.{member_of}
 use Rattle.sm_json.specs.Operations.{operation_of}
 
-abbrev pub is_there : MemberName → Data → Bool
-is_there name json = is_some (member_of name json)
-
--- the operation is not built, or a member of it is there that is not built
-abbrev pub has_unbuilt : Operation → Data → Bool
-has_unbuilt named.BatchGetSecretValue json = true
-has_unbuilt named.CancelRotateSecret json = true
-has_unbuilt named.CreateSecret json =
-    is_there names.AddReplicaRegions json || is_there names.Description json || is_there names.KmsKeyId json
-    || is_there names.SecretBinary json || is_there names.Tags json
-has_unbuilt named.DeleteResourcePolicy json = true
-has_unbuilt named.DeleteSecret json = true
-has_unbuilt named.DescribeSecret json = true
-has_unbuilt named.GetRandomPassword json = true
-has_unbuilt named.GetResourcePolicy json = true
-has_unbuilt named.GetSecretValue json = false
-has_unbuilt named.ListSecretVersionIds json = true
-has_unbuilt named.ListSecrets json = true
-has_unbuilt named.PutResourcePolicy json = true
-has_unbuilt named.PutSecretValue json = is_there names.SecretBinary json
-has_unbuilt named.RestoreSecret json = true
-has_unbuilt named.RotateSecret json = true
-has_unbuilt named.TagResource json = true
-has_unbuilt named.UntagResource json = true
-has_unbuilt named.UpdateSecret json = true
-has_unbuilt named.UpdateSecretVersionStage json = false
-has_unbuilt named.ValidateResourcePolicy json = true
+-- the operation is built
+abbrev pub is_built : Operation → Bool
+is_built named.BatchGetSecretValue = false
+is_built named.CancelRotateSecret = false
+is_built named.CreateSecret = true
+is_built named.DeleteResourcePolicy = false
+is_built named.DeleteSecret = false
+is_built named.DescribeSecret = true
+is_built named.GetRandomPassword = false
+is_built named.GetResourcePolicy = false
+is_built named.GetSecretValue = true
+is_built named.ListSecretVersionIds = false
+is_built named.ListSecrets = false
+is_built named.PutResourcePolicy = false
+is_built named.PutSecretValue = true
+is_built named.RestoreSecret = false
+is_built named.RotateSecret = false
+is_built named.TagResource = false
+is_built named.UntagResource = false
+is_built named.UpdateSecret = true
+is_built named.UpdateSecretVersionStage = true
+is_built named.ValidateResourcePolicy = false
 
 -- what was asked as a request or the cause of a refusal
 abbrev pub as_refusal : ReadRequest → Result Request Why
@@ -52,10 +43,14 @@ as_refusal (answers.BadMember name) = Err (whys.BadMember name)
 as_refusal (answers.Left name) = Err (whys.Left name)
 as_refusal answers.Memory = Err whys.Memory
 
+-- a request whose members are all right, unless its operation is not built
+abbrev pub unless_unbuilt : Bool → Result Request Why → Result Request Why
+unless_unbuilt built (Ok request) = if built then Ok request else Err whys.NotBuilt
+unless_unbuilt built (Err why) = Err why
+
 -- what an object asks for under an operation, unless that is not built
 abbrev pub asked_if_built : Operation → Data → Result Request Why
-asked_if_built operation json = if has_unbuilt operation json then Err whys.NotBuilt
-    else as_refusal (asked operation json)
+asked_if_built operation json = unless_unbuilt (is_built operation) (as_refusal (asked operation json))
 
 abbrev pub built_if : Operation → Option Data → Result Request Why
 built_if operation None = Err whys.NotJson

@@ -1,12 +1,10 @@
-//! What of the requests is built today. It goes away with the last operation.
-ghost use Rattle.std.specs.Prelude.{◌≡◌, ◌||◌, is_some};
+//! Which operations are built today. It goes away with the last operation.
+ghost use Rattle.std.specs.Prelude.{◌≡◌, Ok};
 ghost use Rattle.serde_json.specs.View.{view};
-ghost use Rattle.sm_json.specs.Built.{is_there, has_unbuilt, asked_if_built, asks_of_built, asks_built};
+ghost use Rattle.sm_json.specs.Built.{is_built, unless_unbuilt, asked_if_built, asks_of_built, asks_built};
 ghost use Rattle.sm_json.specs.Gives.{Gives};
 
 use crate::body::{Body, object_of};
-use crate::fields::member_of;
-use crate::name::MemberName;
 use crate::operation::Operation;
 use crate::requests::{ReadRequest, asked};
 use serde_json::Value;
@@ -20,40 +18,38 @@ pub enum AskFault {
     Memory,
 }
 
-/// Whether a member is there.
-fn is_there(object: &Value, name: MemberName) -> bool
-    ensures { result ≡ is_there name (view object.now) }
+/// Whether the operation is built.
+fn is_built(operation: Operation) -> bool
+    ensures { result ≡ is_built operation }
 {
-    member_of(object, name).is_some()
+    matches!(
+        operation,
+        Operation::CreateSecret
+            | Operation::DescribeSecret
+            | Operation::GetSecretValue
+            | Operation::PutSecretValue
+            | Operation::UpdateSecret
+            | Operation::UpdateSecretVersionStage
+    )
 }
 
-/// Whether the operation is not built, or a member of it is there that is not built.
-fn has_unbuilt(operation: Operation, object: &Value) -> bool
-    ensures { result ≡ has_unbuilt operation (view object.now) }
+/// The request, unless its operation is not built.
+fn unless_unbuilt(operation: Operation, request: Request) -> Result<Request, AskFault>
+    ensures { Gives (λ request. request) result (unless_unbuilt (is_built operation) (Ok request)) }
 {
-    match operation {
-        Operation::CreateSecret => {
-            is_there(object, MemberName::AddReplicaRegions)
-                || is_there(object, MemberName::Description)
-                || is_there(object, MemberName::KmsKeyId)
-                || is_there(object, MemberName::SecretBinary)
-                || is_there(object, MemberName::Tags)
-        }
-        Operation::PutSecretValue => is_there(object, MemberName::SecretBinary),
-        Operation::GetSecretValue | Operation::UpdateSecretVersionStage => false,
-        _ => true,
+    if is_built(operation) {
+        Ok(request)
+    } else {
+        Err(AskFault::Refused(Why::NotBuilt))
     }
 }
 
-/// The request of an operation by an object, unless that is not built.
+/// The request of an operation by an object, unless the operation is not built.
 fn asked_if_built(alloc: Global, operation: Operation, object: &Value) -> Result<Request, AskFault>
     ensures { Gives (λ request. request) result (asked_if_built operation (view object.now)) }
 {
-    if has_unbuilt(operation, object) {
-        return Err(AskFault::Refused(Why::NotBuilt));
-    }
     match asked(alloc, operation, object) {
-        ReadRequest::Ok(request) => Ok(request),
+        ReadRequest::Ok(request) => unless_unbuilt(operation, request),
         ReadRequest::Unknown => Err(AskFault::Refused(Why::UnknownOperation)),
         ReadRequest::NotJson => Err(AskFault::Refused(Why::NotJson)),
         ReadRequest::BadMember(name) => Err(AskFault::Refused(Why::BadMember(name))),
@@ -73,8 +69,8 @@ fn request_of_built(alloc: Global, operation: Operation, body: &[u8]) -> Result<
     }
 }
 
-/// The request of a message by its X-Amz-Target and its body, as `request` has it, save that what is not built is
-/// refused behind a body that is no JSON object and before the members.
+/// The request of a message by its X-Amz-Target and its body, as `request` has it, save that one whose operation is not
+/// built is refused, behind all of its members.
 pub fn request_if_built(alloc: Global, target: &[u8], body: &[u8]) -> Result<Request, AskFault>
     ensures { Gives (λ request. request) result (asks_built target.now body.now) }
 {

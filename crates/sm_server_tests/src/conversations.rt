@@ -267,15 +267,15 @@ const MEMBERS: [Exchange; 14] = [
     ),
     (
         CREATE,
-        r#"{"Name":"n","Tags":[]}"#,
+        r#"{"Name":"n","AddReplicaRegions":[{}]}"#,
         BAD,
-        r#"{"Message":"not built","__type":"SerializationException"}"#,
+        r#"{"Message":"AddReplicaRegions is not in its form","__type":"InvalidParameterException"}"#,
     ),
     (
         PUT,
-        r#"{"SecretId":5,"SecretBinary":"AA=="}"#,
+        r#"{"SecretId":5,"SecretBinary":"AAEC/w"}"#,
         BAD,
-        r#"{"Message":"not built","__type":"SerializationException"}"#,
+        r#"{"Message":"SecretBinary is missing or of another type","__type":"SerializationException"}"#,
     ),
     (
         "DeleteSecret",

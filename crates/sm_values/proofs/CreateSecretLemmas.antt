@@ -1,33 +1,28 @@
 -- Judging CreateSecret: what is drawn, when it is refused, when it repeats, and what it changes.
-use Rattle.std.proofs.Common.{◌≡◌, ℕ, ◌+◌, ◌-◌, ◌≤◌, Bool, true, false, not, ◌||◌, cond, List, [], ◌∷◌, ◌++◌, length, take, drop, Option, Some, None, is_some, is_none, unwrap_or, IfNone, IfSome, IsNone, IsTrue, refl, sym, ap, subst, ◌∙◌, arith}
+use Rattle.std.proofs.Common.{◌≡◌, ℕ, ◌+◌, ◌≤◌, Bool, true, false, not, ◌||◌, cond, List, [], ◌∷◌, length, length-drop, take, drop, Option, Some, None, is_some, is_none, unwrap_or, IfSome, IsNone, IsTrue, refl, sym, ap, ◌∙◌, arith}
 use Rattle.std.proofs.lemmas.Bool.{and_from}
 use Rattle.std.proofs.lemmas.Bool.Decides.{nat_tests}
 use Rattle.std.proofs.lemmas.Grind.{common_steps}
 use Rattle.sm_base.specs.declared.moment.Moment.{Moment}
-use Rattle.sm_base.specs.Drawn.{drawn_arn}
 use Rattle.sm_model.specs.declared.entry.Change.{Change}
 use Rattle.sm_model.specs.declared.entry.Change.TheVariants as changes
-use Rattle.sm_model.specs.declared.limits.TheConstants.{SECRETS_LIMIT, NO_SERIAL}
+use Rattle.sm_model.specs.declared.limits.TheConstants.{SECRETS_LIMIT, TAGS_LIMIT}
 use Rattle.sm_model.specs.declared.reply.Reply.{Reply}
 use Rattle.sm_model.specs.declared.request.CreateSecret.{CreateSecret}
 use Rattle.sm_model.specs.declared.rows.Rows.{Rows}
 use Rattle.sm_model.specs.declared.rows.SecretRow.{SecretRow}
-use Rattle.sm_model.specs.declared.value.Value.{Value}
 use Rattle.sm_model.specs.declared.why.Why.{Why}
-use Rattle.sm_model.specs.declared.why.What.TheVariants.{Secrets}
+use Rattle.sm_model.specs.declared.why.What.TheVariants.{Secrets, Tags}
 use Rattle.sm_model.specs.declared.why.Why.TheVariants.{SecretExists, Limit}
 use Rattle.sm_model.specs.declared.value.Tag.{Tag}
-use Rattle.sm_model.specs.Bounds.{is_small, is_date}
-use Rattle.sm_model.specs.Needed.{token_bytes}
-use Rattle.sm_forms.specs.Members.{is_value}
+use Rattle.sm_model.specs.Bounds.{fits, is_description, is_small, is_date}
+use Rattle.sm_model.specs.Needed.{token_bytes_if}
 use Rattle.sm_forms.specs.CreateSecret.{create_forms}
-use Rattle.sm_forms.proofs.CreateSecretLemmas.{create_text, create_built}
-use Rattle.sm_versions.specs.Texts.{aws_current, is_aws}
+use Rattle.sm_forms.proofs.CreateSecretLemmas.{create_text, create_binary, create_description, create_kms, create_tags}
+use Rattle.sm_versions.specs.Texts.{aws_current, is_aws, once}
 use Rattle.sm_versions.specs.Labels.{own_count}
-use Rattle.sm_versions.specs.Sound.{IsArnOf, RowFits, RowSound}
+use Rattle.sm_versions.specs.Sound.{IsArnOf, tag_keys, each_tag, RowFits}
 use Rattle.sm_versions.proofs.ArnLemmas.{drawn_is_arn_of}
-use Rattle.sm_versions.specs.Versions.{same}
-use Rattle.sm_versions.specs.Settle.{settle}
 use Rattle.sm_versions.specs.Kept.{CurrentKept}
 use Rattle.sm_versions.proofs.TextLemmas.{same_text_itself}
 use Rattle.sm_versions.proofs.KeptLaws.{settle_stays}
@@ -44,34 +39,23 @@ use Rattle.sm_judging.specs.Refusals.{refuse_if, first_refusal, scheduled_refusa
 use Rattle.sm_judging.specs.Secrets.{unless_scheduled}
 use Rattle.sm_judging.proofs.JudgedLemmas.{unless_scheduled_accepts}
 use Rattle.sm_judging.proofs.ChangeLemmas.{map_settle_push, unless_scheduled_change}
-use Rattle.sm_values.specs.declared.create_secret.FirstVersion.{FirstVersion}
+use Rattle.sm_values.specs.declared.new_value.NewValue.{NewValue}
 use Rattle.sm_values.specs.declared.create_secret.CreateCall.{CreateCall}
-use Rattle.sm_values.specs.declared.create_secret.Details.{Details}
-use Rattle.sm_values.specs.CreateSecret.{create_needs, first_with, first_of, create_call, empty_row, with_first, created_row, created_reply, is_full, is_repeat, create_new, create_held, create_on, create_judged, create_judgement, holds_same, create_repeat, create_refusal_on, create_refusal, create_effect}
+use Rattle.sm_values.specs.NewValue.{is_repeat}
+use Rattle.sm_values.specs.CreateSecret.{create_needs, create_call, empty_row, with_first, created_row, has_too_many_tags, is_full, create_held, create_on, create_judgement, holds_same, create_repeat, create_refusal_on, create_refusal, create_effect}
+use Rattle.sm_values.proofs.NewValueLemmas.{value_small, new_small}
 
 -- ---- what is drawn
 
--- a value is the text or the bytes
-given : (text binary : Option (List ℕ)) (value : Value) → Some value ≡ value_of text binary
-    → (is_some text || is_some binary) ≡ true
-given (Some text) binary value h = refl
-given None (Some bytes) value h = refl
-given None None value h = absurd (cc)
-
--- where a value has no token, there are 16 bytes for it behind the six of the ARN
-pub room_for_token : (create : CreateSecret) (value : Value) (n : ℕ) → Some value
-    ≡ value_of create.secret_string create.secret_binary
-    → create_needs create ≤ n → create.client_request_token ≡ None → 22 ≤ n
-room_for_token create value n valued room none =
-    let full : 6 + cond true (token_bytes None) 0 ≤ n =
-    subst (λ (t : Option (List ℕ)). 6 + cond true (token_bytes t) 0 ≤ n) none
-    (subst (λ b. 6 + cond b (token_bytes create.client_request_token) 0 ≤ n)
-    (given create.secret_string create.secret_binary value valued) room) in
-    full
+-- behind the six bytes of the ARN there are those of a token
+pub room_behind_six : (create : CreateSecret) (drawn : List ℕ) → create_needs create ≤ length drawn
+    → token_bytes_if (is_some create.secret_string || is_some create.secret_binary) create.client_request_token
+    ≤ length (drop 6 drawn)
+room_behind_six create drawn room = omega (arith, length-drop 6 drawn, room)
 
 -- ---- refusals
 
-same_test : (row : SecretRow) (first : Option FirstVersion) → is_repeat row first ≡ holds_same (Some row) first
+same_test : (row : SecretRow) (first : Option NewValue) → is_repeat row first ≡ holds_same (Some row) first
 same_test row None = refl
 same_test row (Some first) = refl
 
@@ -83,15 +67,18 @@ held_refuses false None reply name = refl
 held_refuses true (Some date) reply name = refl
 held_refuses false (Some date) reply name = refl
 
-new_refuses : (full : Bool) (reply : Reply) (change : Change)
-    → refusal_told (cond full (Refuse (Limit SECRETS_LIMIT Secrets)) (Accept reply (Some change)))
-    ≡ Some (first_refusal (refuse_if full (Limit SECRETS_LIMIT Secrets) ∷ []))
-new_refuses true reply change = refl
-new_refuses false reply change = refl
+new_refuses : (many full : Bool) (reply : Reply) (change : Change)
+    → refusal_told (cond many (Refuse (Limit TAGS_LIMIT Tags))
+    (cond full (Refuse (Limit SECRETS_LIMIT Secrets)) (Accept reply (Some change))))
+    ≡ Some (first_refusal
+    (refuse_if many (Limit TAGS_LIMIT Tags) ∷ refuse_if full (Limit SECRETS_LIMIT Secrets) ∷ []))
+new_refuses true full reply change = refl
+new_refuses false true reply change = refl
+new_refuses false false reply change = refl
 
 on_refuses : (held : Option SecretRow) (rows : Rows) (moment : Moment) (call : CreateCall)
     → refusal_told (create_on held rows moment call) ≡ Some (create_refusal_on held rows moment call)
-on_refuses None rows moment call = new_refuses (is_full rows moment) _ _
+on_refuses None rows moment call = new_refuses (has_too_many_tags call.details.tags) (is_full rows moment) _ _
 on_refuses (Some row) rows moment call =
     held_refuses (is_repeat row call.first) row.deletion _ call.names.name
     ∙ ap (λ b. Some (first_refusal (scheduled_refusal row.deletion ∷ refuse_if (not b) (SecretExists call.names.name)
@@ -109,14 +96,16 @@ held_repeats : (repeats wanted : Bool) (reply : Reply) (why : Why) → repeats �
 held_repeats true wanted reply why e = e
 held_repeats false wanted reply why e = tt
 
-new_repeats : (full : Bool) (reply : Reply) (change : Change) (why : Why)
-    → IfAccepted (cond full (Refuse why) (Accept reply (Some change))) (λ c. is_none c ≡ false)
-new_repeats true reply change why = tt
-new_repeats false reply change why = refl
+new_repeats : (many full : Bool) (reply : Reply) (change : Change) (why other : Why)
+    → IfAccepted (cond many (Refuse why) (cond full (Refuse other) (Accept reply (Some change))))
+    (λ c. is_none c ≡ false)
+new_repeats true full reply change why other = tt
+new_repeats false true reply change why other = tt
+new_repeats false false reply change why other = refl
 
 on_repeats : (held : Option SecretRow) (rows : Rows) (moment : Moment) (call : CreateCall)
     → IfAccepted (create_on held rows moment call) (λ change. is_none change ≡ holds_same held call.first)
-on_repeats None rows moment call = new_repeats (is_full rows moment) _ _ _
+on_repeats None rows moment call = new_repeats (has_too_many_tags call.details.tags) (is_full rows moment) _ _ _ _
 on_repeats (Some row) rows moment call =
     unless_scheduled_accepts row.deletion (create_held row call)
     (λ change. is_none change ≡ holds_same (Some row) call.first)
@@ -131,7 +120,7 @@ create_repeats rows moment drawn create =
 
 -- ---- the change
 
-created_kept : (row : SecretRow) (moment : Moment) (first : Option FirstVersion) → row.versions ≡ [] → row.labels ≡ []
+created_kept : (row : SecretRow) (moment : Moment) (first : Option NewValue) → row.versions ≡ [] → row.labels ≡ []
     → row.next_version ≡ 0
     → row.job ≡ None → CurrentKept (with_first row moment first)
 created_kept row moment None versions labels next job = record {
@@ -156,7 +145,7 @@ created_kept row moment (Some first) versions labels next job = record {
   job = rw job tt;
 }
 
-same_row : (row : SecretRow) (moment : Moment) (first : Option FirstVersion)
+same_row : (row : SecretRow) (moment : Moment) (first : Option NewValue)
     → ((with_first row moment first).serial ≡ row.serial) × ((with_first row moment first).name ≡ row.name)
     × ((with_first row moment first).arn ≡ row.arn)
 same_row row moment None = (refl, refl, refl)
@@ -165,35 +154,28 @@ same_row row moment (Some first) = (refl, refl, refl)
 six_drawn : (drawn : List ℕ) → 6 ≤ length drawn → length (take 6 drawn) ≡ 6
 six_drawn drawn h = grind (arith, common_steps)
 
-none_own : (first : FirstVersion) → own_count (record { label = aws_current; id = first.token } ∷ []) ≡ 0
+none_own : (first : NewValue) → own_count (record { label = aws_current; id = first.token } ∷ []) ≡ 0
 unfolding is_aws
 none_own first = grind (arith, same_text_itself aws_current)
-
--- the details of these members
-abbrev details_with : Option (List ℕ) → Option (List ℕ) → Option (List Tag) → Details
-details_with description kms tags = record { description = description; kms = kms; tags = unwrap_or tags [] }
-
-no_details : (description kms : Option (List ℕ)) (tags : Option (List Tag)) → description ≡ None → kms ≡ None → tags
-    ≡ None
-    → details_with description kms tags ≡ details_with None None None
-no_details description kms tags d k t =
-    ap (λ x. details_with x kms tags) d ∙ ap (λ x. details_with None x tags) k ∙ ap (details_with None None) t
 
 -- what a new secret says fits: its details and its first value
 record Fits (call : CreateCall) : Type 0 where
   arn : IsArnOf call.names.arn call.names.name
-  details : call.details ≡ details_with None None None
+  description : IsTrue (fits is_description call.details.description)
+  kms : IsTrue (fits is_description call.details.kms)
+  tags : IsTrue (each_tag call.details.tags) × IsTrue (once (tag_keys call.details.tags))
   small : IfSome call.first (λ first. IsTrue (is_small first.value))
 
-empty_fits : (serial : ℕ) (moment : Moment) (call : CreateCall) → IsTrue (is_date moment) → Fits call
+empty_fits : (serial : ℕ) (moment : Moment) (call : CreateCall) → IsTrue (is_date moment)
+    → has_too_many_tags call.details.tags ≡ false → Fits call
     → RowFits (empty_row serial moment call.names call.details)
-empty_fits serial moment call date fit = record {
+empty_fits serial moment call date few fit = record {
   arn = fit.arn;
-  description = rw (ap (λ d. d.description) fit.details) refl;
-  kms = rw (ap (λ d. d.kms) fit.details) refl;
-  tag_count = rw (ap (λ d. d.tags) fit.details) (omega arith);
-  tags = rw (ap (λ d. d.tags) fit.details) refl;
-  tag_once = rw (ap (λ d. d.tags) fit.details) refl;
+  description = fit.description;
+  kms = fit.kms;
+  tag_count = grind (arith, nat_tests, few);
+  tags = fit.tags.0;
+  tag_once = fit.tags.1;
   version_count = omega arith;
   versions = refl;
   labels = omega arith;
@@ -204,7 +186,7 @@ empty_fits serial moment call date fit = record {
   job = refl;
 }
 
-with_first_fits : (row : SecretRow) (moment : Moment) (first : Option FirstVersion) → IsTrue (is_date moment)
+with_first_fits : (row : SecretRow) (moment : Moment) (first : Option NewValue) → IsTrue (is_date moment)
     → IfSome first (λ f. IsTrue (is_small f.value)) → RowFits row → RowFits (with_first row moment first)
 with_first_fits row moment None date small fit = fit
 with_first_fits row moment (Some first) date small fit = record {
@@ -224,21 +206,25 @@ with_first_fits row moment (Some first) date small fit = record {
   job = fit.job;
 }
 
-given_small : (text binary : Option (List ℕ)) (token : List ℕ) → binary ≡ None → IfSome text (λ t. IsTrue (is_value t))
-    → IfSome (first_with token (value_of text binary)) (λ first. IsTrue (is_small first.value))
-given_small (Some text) binary token none h = h
-given_small None None token none h = tt
-given_small None (Some bytes) token none h = absurd (let f : Some bytes ≡ None = none in cc)
+text_fits : (text : Option (List ℕ)) → IfSome text (λ t. IsTrue (is_description t)) → IsTrue (fits is_description text)
+text_fits None h = refl
+text_fits (Some text) h = h
+
+tags_fit : (tags : Option (List Tag)) → IfSome tags (λ ts. IsTrue (each_tag ts) × IsTrue (once (tag_keys ts)))
+    → IsTrue (each_tag (unwrap_or tags [])) × IsTrue (once (tag_keys (unwrap_or tags [])))
+tags_fit None h = (refl, refl)
+tags_fit (Some tags) h = h
 
 call_fits : (drawn : List ℕ) (create : CreateSecret) → create_forms create ≡ None → 6 ≤ length drawn
     → Fits (create_call drawn create)
-call_fits drawn create forms room =
-    let built = create_built create forms in
-    record {
-      arn = drawn_is_arn_of create.name (take 6 drawn) (six_drawn drawn room);
-      details = no_details create.description create.kms_key_id create.tags built.0 built.1 built.3;
-      small = given_small create.secret_string create.secret_binary _ built.2 (create_text create forms);
-    }
+call_fits drawn create forms room = record {
+  arn = drawn_is_arn_of create.name (take 6 drawn) (six_drawn drawn room);
+  description = text_fits create.description (create_description create forms);
+  kms = text_fits create.kms_key_id (create_kms create forms);
+  tags = tags_fit create.tags (create_tags create forms);
+  small = new_small _ (value_of create.secret_string create.secret_binary)
+      (value_small create.secret_string create.secret_binary (create_text create forms) (create_binary create forms));
+}
 
 not_none : (found : Option SecretRow) → found ≡ None → IsNone found
 not_none None e = refl
@@ -250,16 +236,17 @@ AddsRow rows moment drawn create = IsChange rows moment
 
 add_is_change : (rows : Rows) (moment : Moment) (drawn : List ℕ) (create : CreateSecret) → Sound rows
     → IsTrue (is_date moment)
-    → create_forms create ≡ None → 6 ≤ length drawn → is_full rows moment ≡ false
+    → create_forms create ≡ None → 6 ≤ length drawn → has_too_many_tags (create_call drawn create).details.tags ≡ false
+    → is_full rows moment ≡ false
     → row_named (swept rows.secrets moment) create.name ≡ None
     → AddsRow rows moment drawn create (changes.Add (created_row rows.next moment (create_call drawn create)))
-add_is_change rows moment drawn create sound date forms room full none =
+add_is_change rows moment drawn create sound date forms room few full none =
     let call : CreateCall = create_call drawn create in
     let fit = call_fits drawn create forms room in
     let empty : SecretRow = empty_row rows.next moment call.names call.details in
     let same = same_row empty moment call.first in
     let current = created_kept empty moment call.first refl refl refl refl in
-    let fits = with_first_fits empty moment call.first date fit.small (empty_fits rows.next moment call date fit) in
+    let fits = with_first_fits empty moment call.first date fit.small (empty_fits rows.next moment call date few fit) in
     record {
       makes = ap (λ (secrets : List SecretRow). record { next = rows.next + 1; secrets = secrets })
           (sym (map_settle_push (swept rows.secrets moment) (created_row rows.next moment call)
@@ -269,11 +256,12 @@ add_is_change rows moment drawn create sound date forms room full none =
       sound = (record { kept = current; fits = fits }, grind (arith, nat_tests, full));
     }
 
-new_change : (full : Bool) (judged : Judged) (why : Judged) (P : Change → Type 0) → (full ≡ false → IfChange judged P)
-    → IfChange why P
-    → IfChange (cond full why judged) P
-new_change true judged why P h w = w
-new_change false judged why P h w = h refl
+new_change : (many full : Bool) (judged : Judged) (why other : Why) (P : Change → Type 0)
+    → (many ≡ false → full ≡ false → IfChange judged P)
+    → IfChange (cond many (Refuse why) (cond full (Refuse other) judged)) P
+new_change true full judged why other P h = tt
+new_change false true judged why other P h = tt
+new_change false false judged why other P h = h refl refl
 
 held_change : (repeats : Bool) (reply : Reply) (why : Why) (P : Change → Type 0)
     → IfChange (cond repeats (Accept reply None) (Refuse why)) P
@@ -281,9 +269,11 @@ held_change true reply why P = tt
 held_change false reply why P = tt
 
 on_change : (held : Option SecretRow) (rows : Rows) (moment : Moment) (call : CreateCall) (P : Change → Type 0)
-    → (held ≡ None → is_full rows moment ≡ false → P (changes.Add (created_row rows.next moment call)))
+    → (held ≡ None → has_too_many_tags call.details.tags ≡ false → is_full rows moment ≡ false
+    → P (changes.Add (created_row rows.next moment call)))
     → IfChange (create_on held rows moment call) P
-on_change None rows moment call P h = new_change (is_full rows moment) _ _ P (λ full. h refl full) tt
+on_change None rows moment call P h =
+    new_change (has_too_many_tags call.details.tags) (is_full rows moment) _ _ _ P (λ few full. h refl few full)
 on_change (Some row) rows moment call P h =
     unless_scheduled_change row.deletion (create_held row call) P (held_change (is_repeat row call.first) _ _ P)
 
@@ -297,5 +287,18 @@ pub create_change : (rows : Rows) (moment : Moment) (drawn : List ℕ) (create :
     → IfChange (create_judgement rows moment drawn create) (AddsRow rows moment drawn create)
 create_change rows moment drawn create sound date forms room =
     on_change (row_named (swept rows.secrets moment) create.name) rows moment (create_call drawn create) _
-    (λ none full. add_is_change rows moment drawn create sound date forms
-    (needs_six create (length drawn) room) full none)
+    (λ none few full. add_is_change rows moment drawn create sound date forms
+    (needs_six create (length drawn) room) few full none)
+
+some_few : (tags : Option (List Tag)) → length (unwrap_or tags []) ≤ TAGS_LIMIT
+    → IfSome tags (λ ts. length ts ≤ TAGS_LIMIT)
+some_few None h = tt
+some_few (Some tags) h = h
+
+-- a secret that is made has few enough tags
+pub create_few : (rows : Rows) (moment : Moment) (drawn : List ℕ) (create : CreateSecret)
+    → IfChange (create_judgement rows moment drawn create) (λ _. IfSome create.tags (λ ts. length ts ≤ TAGS_LIMIT))
+create_few rows moment drawn create =
+    on_change (row_named (swept rows.secrets moment) create.name) rows moment (create_call drawn create)
+    (λ _. IfSome create.tags (λ ts. length ts ≤ TAGS_LIMIT))
+    (λ none few full. some_few create.tags (grind (arith, nat_tests, few)))

@@ -6,11 +6,9 @@ use Rattle.sm_model.specs.declared.entry.Change.{Change}
 use Rattle.sm_model.specs.declared.request.GetSecretValue.{GetSecretValue}
 use Rattle.sm_model.specs.declared.rows.Rows.{Rows}
 use Rattle.sm_model.specs.declared.rows.SecretRow.{SecretRow}
-use Rattle.sm_model.specs.declared.rows.VersionRow.{VersionRow}
 use Rattle.sm_model.specs.declared.value.Value.{Value}
 use Rattle.sm_versions.specs.Find.{Lookup, here, nowhere, apart, lookup}
 use Rattle.sm_table.specs.Found.{found}
-use Rattle.sm_judging.specs.declared.judged.Judged.{Judged}
 use Rattle.sm_judging.specs.declared.judged.Judged.TheVariants.{Accept, Refuse}
 use Rattle.sm_judging.specs.Judged.{refusal_told, IfAccepted, IfChange}
 use Rattle.sm_judging.specs.Refusals.{refuse_if, first_refusal}
@@ -19,7 +17,7 @@ use Rattle.sm_judging.proofs.ChangeLemmas.{on_secret_change}
 use Rattle.sm_model.specs.declared.reply.Reply.{Reply}
 use Rattle.sm_model.specs.declared.why.Why.TheVariants.{NoVersion, Differ}
 use Rattle.std.specs.Prelude.{[], ◌∷◌}
-use Rattle.sm_values.specs.GetSecretValue.{get_call, got_secret, get_version, get_found, get_on, get_judgement, is_nowhere, is_apart, is_empty, get_refusal_on, get_refusal}
+use Rattle.sm_values.specs.GetSecretValue.{get_call, get_found, get_on, get_judgement, is_nowhere, is_apart, is_empty, get_refusal_on, get_refusal}
 
 -- ---- refusals
 

@@ -1,35 +1,30 @@
 -- PutSecretValue: its tests on the rows, its reply, what it changes.
--- AWS Secrets Manager API Reference, PutSecretValue; User Guide, "AWS Secrets Manager quotas".
-use Rattle.std.specs.Prelude.{ℕ, Bool, false, not, ◌&&◌, is_some, is_none, if◌then◌else◌, List, [], ◌∷◌, ◌++◌, Option, Some, None, codes}
+-- AWS Secrets Manager API Reference, PutSecretValue.
+use Rattle.std.specs.Prelude.{ℕ, Bool, false, is_some, if◌then◌else◌, List, [], ◌∷◌, ◌++◌, Option, Some, None, codes}
 use Rattle.sm_base.specs.declared.moment.Moment.{Moment}
 use Rattle.sm_base.specs.SecretId.{secret_id}
 use Rattle.sm_model.specs.declared.entry.Change.TheVariants as changes
-use Rattle.sm_model.specs.declared.limits.TheConstants.{VERSIONS_LIMIT, LABELS_LIMIT}
 use Rattle.sm_model.specs.declared.reply.PutValue.{PutValue}
 use Rattle.sm_model.specs.declared.reply.Reply.TheVariants as replies
 use Rattle.sm_model.specs.declared.request.PutSecretValue.{PutSecretValue}
 use Rattle.sm_model.specs.declared.rows.Rows.{Rows}
 use Rattle.sm_model.specs.declared.rows.SecretRow.{SecretRow}
-use Rattle.sm_model.specs.declared.rows.VersionRow.{VersionRow}
-use Rattle.sm_model.specs.declared.value.Value.{Value}
-use Rattle.sm_model.specs.declared.why.What.TheVariants.{Versions, Labels}
 use Rattle.sm_model.specs.declared.why.Why.{Why}
-use Rattle.sm_model.specs.declared.why.Why.TheVariants.{Form, OtherValue, Limit}
-use Rattle.sm_versions.specs.declared.values.PutDone.{PutDone}
-use Rattle.sm_versions.specs.declared.values.PutDone.TheVariants as puts
+use Rattle.sm_model.specs.declared.why.Why.TheVariants.{Form}
 use Rattle.sm_versions.specs.Texts.{aws_current}
-use Rattle.sm_versions.specs.Labels.{holder, place_all}
-use Rattle.sm_versions.specs.Versions.{version_of, same_value, same}
-use Rattle.sm_versions.specs.Put.{has_too_many, is_full, put_answer, put_row}
+use Rattle.sm_versions.specs.Labels.{holder}
+use Rattle.sm_versions.specs.Versions.{same}
+use Rattle.sm_versions.specs.Put.{put_row}
 use Rattle.sm_table.specs.Found.{found}
 use Rattle.sm_judging.specs.declared.judged.Judged.{Judged}
-use Rattle.sm_judging.specs.declared.judged.Judged.TheVariants.{Accept, Refuse, Memory}
+use Rattle.sm_judging.specs.declared.judged.Judged.TheVariants.{Accept, Refuse}
 use Rattle.sm_judging.specs.Changes.{change_named}
 use Rattle.sm_judging.specs.LabelsShown.{labels_shown}
-use Rattle.sm_judging.specs.Members.{token_or_drawn, value_of}
-use Rattle.sm_judging.specs.Refusals.{refuse_if, first_refusal, refusal_at, repeat_at}
+use Rattle.sm_judging.specs.Refusals.{refusal_at, repeat_at}
 use Rattle.sm_judging.specs.Secrets.{with_secret, finished_row}
+use Rattle.sm_values.specs.declared.new_value.NewValue.{NewValue}
 use Rattle.sm_values.specs.declared.put_secret_value.PutCall.{PutCall}
+use Rattle.sm_values.specs.NewValue.{new_value, placed, judged_by, value_refusal}
 
 -- ---- the members
 
@@ -38,18 +33,21 @@ abbrev pub labels_asked : Option (List (List ℕ)) → List (List ℕ)
 labels_asked None = aws_current ∷ []
 labels_asked (Some labels) = labels
 
-abbrev pub put_call_with : List ℕ → PutSecretValue → Option Value → Option PutCall
-put_call_with drawn put None = None
-put_call_with drawn put (Some value) = Some (record {
+-- the value that is given, under its token
+abbrev pub put_value : List ℕ → PutSecretValue → Option NewValue
+put_value drawn put = new_value put.client_request_token drawn put.secret_string put.secret_binary
+
+abbrev pub put_call_with : PutSecretValue → Option NewValue → Option PutCall
+put_call_with put None = None
+put_call_with put (Some value) = Some (record {
   id = secret_id put.secret_id;
   labels = labels_asked put.version_stages;
-  token = token_or_drawn put.client_request_token drawn;
   value = value;
 })
 
 -- the members, where there is a value
 abbrev pub put_call : List ℕ → PutSecretValue → Option PutCall
-put_call drawn put = put_call_with drawn put (value_of put.secret_string put.secret_binary)
+put_call drawn put = put_call_with put (put_value drawn put)
 
 -- ---- the row and the reply
 
@@ -59,7 +57,7 @@ labels_placed row asked = if is_some (holder row.labels aws_current) then asked 
 
 -- the row with the value under the token
 abbrev pub put_into : PutCall → Moment → SecretRow → SecretRow
-put_into call moment row = put_row row call.token call.value (labels_placed row call.labels) moment
+put_into call moment row = put_row row call.value.token call.value.value (labels_placed row call.labels) moment
 
 abbrev pub put_reply : SecretRow → List ℕ → PutValue
 put_reply row token = record {
@@ -72,20 +70,18 @@ put_reply row token = record {
 
 -- ---- the judgement
 
--- by what putting the value answers
-abbrev pub put_outcome : PutDone → SecretRow → SecretRow → List ℕ → Judged
-put_outcome puts.Added row after token = Accept (replies.PutSecretValue (put_reply after token))
-    (Some (changes.Replace after))
-put_outcome (puts.Same labels) row after token = Accept (replies.PutSecretValue (put_reply row token)) None
-put_outcome puts.Exists row after token = Refuse (OtherValue token)
-put_outcome (puts.TooMany limit) row after token = Refuse (Limit limit Versions)
-put_outcome (puts.TooManyLabels limit) row after token = Refuse (Limit limit Labels)
-put_outcome puts.Memory row after token = Memory
+-- the row takes the place of the old one
+abbrev pub put_accepted : SecretRow → List ℕ → Judged
+put_accepted row token = Accept (replies.PutSecretValue (put_reply row token)) (Some (changes.Replace row))
+
+-- a repeat is answered with the labels of the moment
+abbrev pub put_repeated : SecretRow → List ℕ → Judged
+put_repeated row token = Accept (replies.PutSecretValue (put_reply row token)) None
 
 abbrev pub put_on : SecretRow → Moment → PutCall → Judged
 put_on row moment call =
-    put_outcome (put_answer row call.token call.value (labels_placed row call.labels)) row
-    (finished_row (put_into call moment row) moment) call.token
+    judged_by (placed row call.value (labels_placed row call.labels) moment)
+    (λ after. put_accepted (finished_row after moment) call.value.token) (put_repeated row call.value.token)
 
 abbrev pub put_judged : Rows → Moment → PutCall → Judged
 put_judged rows moment call = with_secret rows moment call.id (λ row. put_on row moment call)
@@ -100,27 +96,8 @@ put_judgement rows moment drawn put = put_judgement_of rows moment (put_call dra
 
 -- ---- when it is refused, when it is a repeat, what it does to the rows
 
--- the version has another value
-abbrev pub is_other : Option Value → Value → Bool
-is_other None value = false
-is_other (Some kept) value = not (same_value kept value)
-
-abbrev pub has_other_value : Option VersionRow → Value → Bool
-has_other_value None value = false
-has_other_value (Some version) value = is_other version.value value
-
--- The token's version has no other value; where there is none, one may be added; and where the value is not there yet,
--- at most 20 labels besides those of AWS stand on the secret's versions after it.
 abbrev pub put_refusal_on : SecretRow → PutCall → Option Why
-put_refusal_on row call =
-    let version = version_of row.versions call.token in
-    first_refusal
-    (refuse_if (has_other_value version call.value) (OtherValue call.token)
-    ∷ refuse_if (is_none version && is_full row) (Limit VERSIONS_LIMIT Versions)
-    ∷ refuse_if (not (same row call.token call.value) && has_too_many
-    (place_all row.labels (labels_placed row call.labels) call.token))
-    (Limit LABELS_LIMIT Labels)
-    ∷ [])
+put_refusal_on row call = value_refusal row call.value (labels_placed row call.labels)
 
 abbrev pub put_refusal_of : Rows → Moment → Option PutCall → Option Why
 put_refusal_of rows moment None = Some (Form (codes "SecretString"))
@@ -132,7 +109,8 @@ put_refusal rows moment drawn put = put_refusal_of rows moment (put_call drawn p
 -- the secret's version of the token has exactly the value
 abbrev pub put_repeat_of : Rows → Moment → Option PutCall → Bool
 put_repeat_of rows moment None = false
-put_repeat_of rows moment (Some call) = repeat_at (found rows moment call.id) (λ row. same row call.token call.value)
+put_repeat_of rows moment (Some call) =
+    repeat_at (found rows moment call.id) (λ row. same row call.value.token call.value.value)
 
 abbrev pub put_repeat : Rows → Moment → List ℕ → PutSecretValue → Bool
 put_repeat rows moment drawn put = put_repeat_of rows moment (put_call drawn put)

@@ -3,25 +3,18 @@ ghost use Rattle.std.specs.Prelude.{◌≡◌, ◌≤◌, ◌∷◌, [], IfOk, N
 ghost use Rattle.sm_base.specs.Drawn.{drawn_arn};
 ghost use Rattle.sm_forms.specs.CreateSecret.{create_forms};
 ghost use Rattle.sm_judging.specs.Secrets.{unless_scheduled};
-ghost use Rattle.sm_values.specs.CreateSecret.{create_needs, first_of, names_of, details_of, create_call, token_of, first_version, no_rotation, empty_row, created_row, with_first, created_reply, is_full, is_repeat, create_new, create_held, create_judged, create_judgement};
+ghost use Rattle.sm_values.specs.CreateSecret.{create_needs, first_of, names_of, details_of, create_call, first_version, no_rotation, empty_row, created_row, with_first, has_too_many_tags, is_full, create_with_room, create_new, create_held, create_judged, create_judgement};
 
+use crate::new_value::{NewValue, is_repeat, new_value, token_of, versioned_secret};
 use sm_judging::Judged;
-use sm_judging::members::{token_or_drawn, value_of};
-use sm_model::limits::{NO_SERIAL, SECRETS_LIMIT};
+use sm_model::limits::{NO_SERIAL, SECRETS_LIMIT, TAGS_LIMIT};
 use sm_model::{
     Arn, Change, Copied, CreateSecret, List, Moment, Name, NoMemory, Pair, Reply, Rotation,
-    SecretRow, Tag, Text, Token, Value, VersionRow, VersionedSecret, What, Why,
+    SecretRow, Tag, Text, VersionRow, What, Why,
 };
 use sm_table::Table;
 use sm_versions::labels::current;
 use std::alloc::Global;
-
-/// The version that a new secret begins with.
-#[derive(Drop)]
-pub struct FirstVersion {
-    pub token: Token,
-    pub value: Value,
-}
 
 /// What a new secret is called.
 #[derive(Drop)]
@@ -43,8 +36,8 @@ pub struct Details {
 pub struct CreateCall {
     pub names: Names,
     pub details: Details,
-    /// The version that the secret begins with, where a value is given.
-    pub first: Option<FirstVersion>,
+    /// The value that the secret begins with, where one is given.
+    pub first: Option<NewValue>,
 }
 
 /// Judges a CreateSecret.
@@ -110,25 +103,24 @@ fn new_arn(alloc: Global, name: &Name, drawn: &[u8]) -> Result<Arn, NoMemory>
     Arn::drawn(alloc, name, &random)
 }
 
-/// The version that the secret begins with, where a value is given. The bytes of its token stand behind the six of the
-/// ARN.
-#[tactic(auto, using(sm_forms::proofs::CreateSecretLemmas::create_token, crate::proofs::CreateSecretLemmas::room_for_token))]
+/// The value that the secret begins with, where one is given. The bytes of its token stand behind the six of the ARN.
+#[tactic(auto, using(sm_forms::proofs::CreateSecretLemmas::create_token, crate::proofs::CreateSecretLemmas::room_behind_six))]
 fn first_of(
     alloc: Global,
     drawn: &[u8],
     create: &CreateSecret,
-) -> Result<Option<FirstVersion>, NoMemory>
+) -> Result<Option<NewValue>, NoMemory>
     requires forms { create_forms create.now ≡ None }
     requires drawn { create_needs create.now ≤ length drawn.now }
     ensures { IfOk result (λ first. first ≡ first_of drawn.now create.now) }
 {
-    match value_of(alloc, &create.secret_string, &create.secret_binary)? {
-        Some(value) => {
-            let token = token_or_drawn(alloc, &create.client_request_token, &drawn[6..])?;
-            Ok(Some(FirstVersion { token, value }))
-        }
-        None => Ok(None),
-    }
+    new_value(
+        alloc,
+        &create.client_request_token,
+        &drawn[6..],
+        &create.secret_string,
+        &create.secret_binary,
+    )
 }
 
 /// The tags that were given, if any were.
@@ -180,18 +172,15 @@ fn create_held(alloc: Global, row: &SecretRow, call: &CreateCall) -> Result<Judg
         return Ok(Judged::Refuse(Why::SecretExists(call.names.name.as_text().copy(alloc)?)));
     }
     let version_id = token_of(alloc, &call.first)?;
-    let reply = created_reply(alloc, row, version_id)?;
+    let reply = versioned_secret(alloc, row, version_id)?;
     Ok(Judged::Accept(Reply::CreateSecret(reply), None))
 }
 
-/// Whether the token's version has exactly the value.
-fn is_repeat(row: &SecretRow, first: &Option<FirstVersion>) -> bool
-    ensures { result ≡ is_repeat row.now first.now }
+/// Whether there are more tags than a secret may have.
+fn has_too_many_tags(tags: &List<Tag>) -> bool
+    ensures { result ≡ has_too_many_tags tags.now }
 {
-    match first {
-        Some(first) => sm_versions::same(row, &first.token, &first.value),
-        None => false,
-    }
+    tags.len() > TAGS_LIMIT as usize
 }
 
 /// Whether no secret can be added.
@@ -210,38 +199,28 @@ fn create_new(
 ) -> Result<Judged, NoMemory>
     ensures { IfOk result (λ judged. judged ≡ create_new table.now moment call) }
 {
+    if has_too_many_tags(&call.details.tags) {
+        return Ok(Judged::Refuse(Why::Limit(TAGS_LIMIT, What::Tags)));
+    }
     if is_full(table, moment) {
         return Ok(Judged::Refuse(Why::Limit(SECRETS_LIMIT, What::Secrets)));
     }
+    create_with_room(alloc, table, moment, call)
+}
+
+/// Makes the row of the new secret.
+fn create_with_room(
+    alloc: Global,
+    table: &Table,
+    moment: Moment,
+    call: CreateCall,
+) -> Result<Judged, NoMemory>
+    ensures { IfOk result (λ judged. judged ≡ create_with_room table.now moment call) }
+{
     let version_id = token_of(alloc, &call.first)?;
     let row = created_row(alloc, table.next(), moment, call)?;
-    let reply = created_reply(alloc, &row, version_id)?;
+    let reply = versioned_secret(alloc, &row, version_id)?;
     Ok(Judged::Accept(Reply::CreateSecret(reply), Some(Change::Add(row))))
-}
-
-/// The reply to a CreateSecret that this row answers. It names the version where a value was given.
-fn created_reply(
-    alloc: Global,
-    row: &SecretRow,
-    version_id: Option<Token>,
-) -> Result<VersionedSecret, NoMemory>
-    ensures { IfOk result (λ reply. reply ≡ created_reply row.now version_id) }
-{
-    Ok(VersionedSecret {
-        arn: row.arn.as_text().copy(alloc)?,
-        name: row.name.as_text().copy(alloc)?,
-        version_id,
-    })
-}
-
-/// The token of the version, where there is one.
-fn token_of(alloc: Global, first: &Option<FirstVersion>) -> Result<Option<Token>, NoMemory>
-    ensures { IfOk result (λ token. token ≡ token_of first.now) }
-{
-    match first {
-        Some(first) => Ok(Some(first.token.copy(alloc)?)),
-        None => Ok(None),
-    }
 }
 
 // ---- the row
@@ -314,7 +293,7 @@ fn only<T: Drop>(alloc: Global, item: T) -> Result<List<T>, NoMemory>
 }
 
 /// The first version of a secret, under its token.
-fn first_version(moment: Moment, first: FirstVersion) -> VersionRow
+fn first_version(moment: Moment, first: NewValue) -> VersionRow
     ensures { result ≡ first_version moment first }
 {
     VersionRow {
@@ -332,7 +311,7 @@ fn with_first(
     alloc: Global,
     row: SecretRow,
     moment: Moment,
-    first: FirstVersion,
+    first: NewValue,
 ) -> Result<SecretRow, NoMemory>
     ensures { IfOk result (λ made. made ≡ with_first row moment (Some first)) }
 {

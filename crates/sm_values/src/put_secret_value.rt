@@ -1,26 +1,25 @@
 //! Judging PutSecretValue (AWS Secrets Manager API Reference, PutSecretValue).
-ghost use Rattle.std.specs.Prelude.{◌≡◌, ◌||◌, [], IfOk, IfSome, IsTrue, None, Some, is_some, length, true};
+ghost use Rattle.std.specs.Prelude.{◌≡◌, IfOk, IfSome, IsTrue, None, Some, is_some, length};
 ghost use Rattle.std.specs.List.{list_all};
 ghost use Rattle.sm_base.specs.Spelling.{is_label};
 ghost use Rattle.sm_forms.specs.PutSecretValue.{put_forms};
-ghost use Rattle.sm_judging.specs.Members.{value_of};
 ghost use Rattle.sm_judging.specs.Secrets.{finished_row, unless_scheduled};
 ghost use Rattle.sm_model.specs.Needed.{token_bytes};
-ghost use Rattle.sm_values.specs.PutSecretValue.{labels_asked, labels_placed, put_call, put_reply, put_outcome, put_on, put_judged, put_judgement};
+ghost use Rattle.sm_values.specs.PutSecretValue.{labels_asked, labels_placed, put_value, put_call, put_reply, put_accepted, put_repeated, put_on, put_judged, put_judgement};
 ghost use Rattle.sm_versions.specs.Labels.{holder};
 ghost use Rattle.sm_versions.specs.Texts.{aws_current};
 
+use crate::new_value::{NewValue, Placed, new_value, place};
 use sm_judging::Judged;
 use sm_judging::labels_shown::labels_shown;
-use sm_judging::members::{labels_of, secret_id, token_or_drawn, value_of};
+use sm_judging::members::{labels_of, secret_id};
 use sm_judging::row_change::finish;
 use sm_model::{
     Change, Copied, Label, List, Moment, NoMemory, PutSecretValue, PutValue, Reply, SecretId,
-    SecretRow, Text, Token, Value, What, Why,
+    SecretRow, Text, Token, Why,
 };
 use sm_table::Table;
 use sm_versions::labels::{current, holder};
-use sm_versions::{PutDone, put};
 use std::alloc::Global;
 
 /// A PutSecretValue whose forms pass.
@@ -28,8 +27,7 @@ use std::alloc::Global;
 pub struct PutCall {
     pub id: SecretId,
     pub labels: List<Label>,
-    pub token: Token,
-    pub value: Value,
+    pub value: NewValue,
 }
 
 /// Judges a PutSecretValue.
@@ -52,7 +50,7 @@ pub fn judge_put(
 // ---- the members
 
 /// The members of a PutSecretValue, a token that is drawn too.
-#[tactic(auto, using(sm_forms::proofs::PutSecretValueLemmas::put_id, sm_forms::proofs::PutSecretValueLemmas::put_token, sm_forms::proofs::PutSecretValueLemmas::put_labels, sm_forms::proofs::PutSecretValueLemmas::put_given, crate::proofs::PutSecretValueLemmas::room_for_put, crate::proofs::PutSecretValueLemmas::call_of_value))]
+#[tactic(auto, using(sm_forms::proofs::PutSecretValueLemmas::put_id, sm_forms::proofs::PutSecretValueLemmas::put_labels, crate::proofs::PutSecretValueLemmas::call_of_value))]
 fn put_call(alloc: Global, drawn: &[u8], put: &PutSecretValue) -> Result<PutCall, NoMemory>
     requires forms { put_forms put.now ≡ None }
     requires drawn { length drawn.now ≡ token_bytes put.now.client_request_token }
@@ -60,23 +58,24 @@ fn put_call(alloc: Global, drawn: &[u8], put: &PutSecretValue) -> Result<PutCall
 {
     let id = secret_id(alloc, &put.secret_id)?;
     let labels = labels_asked(alloc, &put.version_stages)?;
-    let token = token_or_drawn(alloc, &put.client_request_token, drawn)?;
-    let value = value_given(alloc, put)?;
-    Ok(PutCall {
-        id,
-        labels,
-        token,
-        value,
-    })
+    let value = value_given(alloc, drawn, put)?;
+    Ok(PutCall { id, labels, value })
 }
 
 /// The value that is given.
-#[tactic(auto, using(crate::proofs::PutSecretValueLemmas::some_value))]
-fn value_given(alloc: Global, put: &PutSecretValue) -> Result<Value, NoMemory>
-    requires { (is_some put.now.secret_string || is_some put.now.secret_binary) ≡ true }
-    ensures { IfOk result (λ value. Some value ≡ value_of put.now.secret_string put.now.secret_binary) }
+#[tactic(auto, using(sm_forms::proofs::PutSecretValueLemmas::put_token, sm_forms::proofs::PutSecretValueLemmas::put_given, crate::proofs::PutSecretValueLemmas::room_for_put, crate::proofs::PutSecretValueLemmas::some_value))]
+fn value_given(alloc: Global, drawn: &[u8], put: &PutSecretValue) -> Result<NewValue, NoMemory>
+    requires forms { put_forms put.now ≡ None }
+    requires drawn { length drawn.now ≡ token_bytes put.now.client_request_token }
+    ensures { IfOk result (λ value. Some value ≡ put_value drawn.now put.now) }
 {
-    match value_of(alloc, &put.secret_string, &put.secret_binary)? {
+    match new_value(
+        alloc,
+        &put.client_request_token,
+        drawn,
+        &put.secret_string,
+        &put.secret_binary,
+    )? {
         Some(value) => Ok(value),
         None => unreachable!(),
     }
@@ -166,21 +165,10 @@ fn put_on(
     ensures { IfOk result (λ judged. judged ≡ put_on row.now moment call.now) }
 {
     let labels = labels_placed(alloc, row, &call.labels)?;
-    let mut after = row.copy(alloc)?;
-    match put(
-        alloc,
-        &mut after,
-        &call.token,
-        &call.value,
-        labels.as_slice(),
-        moment,
-    ) {
-        PutDone::Added => accept(alloc, after, moment, &call.token),
-        PutDone::Same(_) => repeat(alloc, row, &call.token),
-        PutDone::Exists => Ok(Judged::Refuse(Why::OtherValue(call.token.copy(alloc)?))),
-        PutDone::TooMany(limit) => Ok(Judged::Refuse(Why::Limit(limit, What::Versions))),
-        PutDone::TooManyLabels(limit) => Ok(Judged::Refuse(Why::Limit(limit, What::Labels))),
-        PutDone::Memory => Err(NoMemory),
+    match place(alloc, row, &call.value, labels.as_slice(), moment)? {
+        Placed::Added(after) => accept(alloc, after, moment, &call.value.token),
+        Placed::Repeat => repeat(alloc, row, &call.value.token),
+        Placed::Refused(why) => Ok(Judged::Refuse(why)),
     }
 }
 
@@ -203,7 +191,7 @@ fn accept(
     moment: Moment,
     token: &Token,
 ) -> Result<Judged, NoMemory>
-    ensures { IfOk result (λ judged. judged ≡ put_outcome PutDone.Added after (finished_row after moment) token.now) }
+    ensures { IfOk result (λ judged. judged ≡ put_accepted (finished_row after moment) token.now) }
 {
     let mut after = after;
     finish(&mut after, moment);
@@ -213,7 +201,7 @@ fn accept(
 
 /// The answer to a repeat.
 fn repeat(alloc: Global, row: &SecretRow, token: &Token) -> Result<Judged, NoMemory>
-    ensures { IfOk result (λ judged. judged ≡ put_outcome (PutDone.Same []) row.now row.now token.now) }
+    ensures { IfOk result (λ judged. judged ≡ put_repeated row.now token.now) }
 {
     let reply = put_reply(alloc, row, token)?;
     Ok(Judged::Accept(Reply::PutSecretValue(reply), None))

@@ -9,6 +9,7 @@ use Rattle.sm_model.specs.declared.entry.Act.TheVariants.{Asked}
 use Rattle.sm_account.specs.Outcome.{Question}
 use Rattle.sm_account.proofs.HandleLemmas.{after_room, wanted_memory}
 use Rattle.sm_account.proofs.QuestionLemmas.{of_change, read_so, refused_so, made_so}
+use Rattle.sm_account.proofs.RequestSizes.{few_tags}
 use Rattle.sm_account.proofs.RoomLemmas.{limits_aside, room_kept}
 use Rattle.sm_account.specs.declared.handled.Handled.TheVariants.{Memory}
 use Rattle.sm_account.proofs.handling.handle.Goals as goal
@@ -35,6 +36,7 @@ grow-requires g c =
       drawn = c.requires.drawn;
       forms = legal.1;
       changes = change (λ _. is_reading request ≡ false) c.in-Accept.ensures.changes;
+      few = few_tags books.table (record { 0 = c.max.result }) c.args.drawn.now request legal;
     }
 
 pub finish-requires : goal.finish-requires

@@ -8,11 +8,11 @@ encode-requires c =
     subst HasSpelling (sym c.requires.is)
     (entry_fits c.args.entry.now.moment c.args.person.now.key c.args.entry.now.drawn c.args.request.now c.requires.bound
     c.note_text.ensures c.requires.key c.requires.drawn
-    (is_short c.args.request.now c.requires.forms c.requires.changes c.note_texts.ensures))
+    (is_short c.args.request.now c.requires.forms c.requires.changes c.note_texts.ensures c.requires.few))
 
 pub returns : goal.returns
 returns c =
-    let short = is_short c.args.request.now c.requires.forms c.requires.changes c.note_texts.ensures in
+    let short = is_short c.args.request.now c.requires.forms c.requires.changes c.note_texts.ensures c.requires.few in
     let fits : HasSpelling c.args.entry.now = subst HasSpelling (sym c.requires.is)
     (entry_fits c.args.entry.now.moment c.args.person.now.key c.args.entry.now.drawn c.args.request.now c.requires.bound
     c.note_text.ensures c.requires.key c.requires.drawn short) in

@@ -1,0 +1,76 @@
+//! The form of tags (AWS Secrets Manager API Reference, Tag).
+ghost use Rattle.std.specs.Prelude.{◌≡◌};
+ghost use Rattle.std.specs.List.{list_all, list_any};
+ghost use Rattle.sm_model.specs.Bounds.{is_tag_key, is_tag};
+ghost use Rattle.sm_versions.specs.Sound.{tag_keys};
+ghost use Rattle.sm_versions.specs.Texts.{same_text, once};
+ghost use Rattle.sm_forms.specs.Members.{are_tags, tags_form};
+
+use crate::members::{characters, form_unless, has_at_most};
+use sm_model::limits::{TAG_KEY_LIMIT, TAG_VALUE_LIMIT};
+use sm_model::{List, Tag, Text, Why};
+
+/// Whether a text may be a tag's key: it is not empty, not too long, and not one of AWS's own.
+#[tactic(auto, unfolding(sm_model::specs::Bounds::reserved_beginning))]
+fn is_tag_key(key: &Text) -> bool
+    ensures { result ≡ is_tag_key key.now }
+{
+    1 <= characters(key) && has_at_most(key, TAG_KEY_LIMIT) && !key.as_bytes().starts_with(b"aws:")
+}
+
+fn is_tag(tag: &Tag) -> bool
+    ensures { result ≡ is_tag tag.now }
+{
+    is_tag_key(&tag.key) && has_at_most(&tag.value, TAG_VALUE_LIMIT)
+}
+
+/// Whether each of the tags is in its form.
+fn each_is_tag(tags: &[Tag]) -> bool
+    ensures { result ≡ list_all is_tag tags.now }
+{
+    tags.iter().all(|tag| is_tag(tag))
+}
+
+fn is_same(text: &Text, other: &Text) -> bool
+    ensures { result ≡ same_text text.now other.now }
+{
+    text.equals(other)
+}
+
+/// Whether one of the tags has the key.
+fn has_key(tags: &[Tag], key: &Text) -> bool
+    ensures { result ≡ list_any (λ tag. same_text tag.key key.now) tags.now }
+{
+    tags.iter().any(|tag| is_same(&tag.key, key))
+}
+
+/// Whether no key stands twice.
+
+fn each_key_once(tags: &[Tag]) -> bool
+    ensures { result ≡ once (tag_keys tags.now) }
+{
+    for (index, tag) in tags.iter().enumerate() {
+        if has_key(&tags[index + 1..], &tag.key) {
+            return false;
+        }
+    }
+    true
+}
+
+/// Whether the tags are in their form, all of them together.
+#[tactic(auto, using(crate::proofs::TagLemmas::each_tag_is))]
+fn are_tags(tags: &[Tag]) -> bool
+    ensures { result ≡ are_tags tags.now }
+{
+    each_is_tag(tags) && each_key_once(tags)
+}
+
+/// The form of the tags that a secret is to have.
+pub fn tags_form(tags: &Option<List<Tag>>) -> Option<Why>
+    ensures { result ≡ tags_form tags.now }
+{
+    match tags {
+        Some(tags) => form_unless(are_tags(tags.as_slice()), "Tags"),
+        None => None,
+    }
+}

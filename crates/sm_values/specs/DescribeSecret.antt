@@ -1,0 +1,73 @@
+-- DescribeSecret: its reply. It works on a secret that is scheduled for deletion too, and changes nothing.
+-- AWS Secrets Manager API Reference, DescribeSecret.
+use Rattle.std.specs.Prelude.{ℕ, List, [], ◌∷◌, ◌++◌, Option, Some, None}
+use Rattle.sm_base.specs.declared.moment.Moment.{Moment}
+use Rattle.sm_base.specs.SecretId.{secret_id}
+use Rattle.sm_model.specs.declared.reply.Described.{Described}
+use Rattle.sm_model.specs.declared.reply.Reply.TheVariants as replies
+use Rattle.sm_model.specs.declared.reply.RulesShown.{RulesShown}
+use Rattle.sm_model.specs.declared.reply.Staged.{Staged}
+use Rattle.sm_model.specs.declared.request.OfSecret.{OfSecret}
+use Rattle.sm_model.specs.declared.rows.Rows.{Rows}
+use Rattle.sm_model.specs.declared.rows.SecretRow.{SecretRow}
+use Rattle.sm_model.specs.declared.rows.VersionRow.{VersionRow}
+use Rattle.sm_model.specs.declared.why.Why.{Why}
+use Rattle.sm_model.specs.declared.why.Why.TheVariants.{NoSecret}
+use Rattle.sm_table.specs.Found.{found}
+use Rattle.sm_judging.specs.declared.judged.Judged.{Judged}
+use Rattle.sm_judging.specs.declared.judged.Judged.TheVariants.{Accept, Refuse}
+use Rattle.sm_judging.specs.LabelsShown.{labels_shown}
+
+-- ---- the reply
+
+-- the version with its labels, where it has one
+abbrev pub with_labels : List ℕ → List (List ℕ) → List Staged
+with_labels id [] = []
+with_labels id (label ∷ labels) = record { id = id; labels = label ∷ labels } ∷ []
+
+-- the versions with a label, in order of creation, each with its labels as they are shown
+abbrev pub staged : SecretRow → List VersionRow → List Staged
+staged row [] = []
+staged row (version ∷ versions) = with_labels version.id (labels_shown row version.id) ++ staged row versions
+
+-- rotation rules are shown exactly where days are kept
+abbrev pub rules_shown : Option ℕ → Option RulesShown
+rules_shown None = None
+rules_shown (Some days) = Some (record { days = Some days })
+
+abbrev pub described : SecretRow → Described
+described row = record {
+  arn = row.arn;
+  created_date = row.created;
+  deleted_date = row.deletion;
+  description = row.description;
+  kms_key_id = row.kms;
+  last_changed_date = row.changed;
+  last_rotated_date = row.rotation.last;
+  name = row.name;
+  next_rotation_date = row.rotation.next;
+  rotation_enabled = row.rotation.enabled;
+  rotation_lambda_arn = row.rotation.lambda;
+  rotation_rules = rules_shown row.rotation.days;
+  tags = row.tags;
+  version_ids_to_stages = staged row row.versions;
+}
+
+-- ---- the judgement
+
+abbrev pub describe_found : Option SecretRow → Judged
+describe_found None = Refuse NoSecret
+describe_found (Some row) = Accept (replies.DescribeSecret (described row)) None
+
+abbrev pub describe_judgement : Rows → Moment → OfSecret → Judged
+describe_judgement rows moment describe = describe_found (found rows moment (secret_id describe.secret_id))
+
+-- ---- when it is refused
+
+-- the secret has to be there
+abbrev pub unless_found : Option SecretRow → Option Why
+unless_found None = Some NoSecret
+unless_found (Some row) = None
+
+abbrev pub describe_refusal : Rows → Moment → OfSecret → Option Why
+describe_refusal rows moment describe = unless_found (found rows moment (secret_id describe.secret_id))
