@@ -1,5 +1,5 @@
-//! A value that a request gives for a secret, under its token, and what putting it into the secret comes to (AWS Secrets
-//! Manager API Reference, CreateSecret, PutSecretValue and UpdateSecret).
+//! A value that a request gives for a secret, under its token, and what putting it into the secret comes to
+//! (AWS Secrets Manager API Reference, CreateSecret, PutSecretValue and UpdateSecret).
 ghost use Rattle.std.specs.Prelude.{◌≡◌, ◌||◌, ◌≤◌, IfOk, IfSome, IsTrue, is_some, length};
 ghost use Rattle.sm_base.specs.Spelling.{is_token};
 ghost use Rattle.sm_model.specs.Needed.{token_bytes_if};
