@@ -15,7 +15,6 @@ import uuid
 import entries
 
 NOW = entries.MOMENT
-STREAM_LIMIT = 4194304
 MESSAGE_LIMIT = 1000
 HEAD_LIMIT = 16384
 FIELD_LIMIT = 64
@@ -102,6 +101,11 @@ KINDS = set(ERRORS) | {
     "limit of 20 labels",
     "limit of 50 tags",
     "limit of 1000 versions",
+    "http: body too long",
+    "http: chunked",
+    "http: head",
+    "http: head too long",
+    "http: length",
 }
 
 
@@ -550,8 +554,15 @@ REQUEST_LINE = re.compile(rb"([!#-'*+.0-9A-Z^-z|~-]+) ([!-~\x80-\xff]+) HTTP/1\.
 FIELD = re.compile(rb"([!#-'*+.0-9A-Z^-z|~-]+):[ \t]*((?:[!-~\x80-\xff](?:[\t -~\x80-\xff]*[!-~\x80-\xff])?)?)[ \t]*")
 
 
-class NoMessage(Exception):
-    """The stream isn't whole messages."""
+class Bad(Exception):
+    """A fault stands where a message would begin."""
+
+    def __init__(self, fault, status="400 Bad Request"):
+        self.status, self.kind = status, "http: " + fault
+
+
+class Cut(Exception):
+    """The stream ends before the message is whole."""
 
 
 def is_utf8(text):
@@ -566,21 +577,21 @@ class Message:
     """The message at a place of a stream, and the place behind it."""
 
     def __init__(self, stream, at):
-        behind = stream.find(b"\r\n\r\n", at) + 4
-        if behind < 4 or behind - at > HEAD_LIMIT:
-            raise NoMessage
+        behind = stream.find(b"\r\n\r\n", at, at + HEAD_LIMIT) + 4
+        if behind < 4:
+            raise Bad("head too long") if len(stream) - at >= HEAD_LIMIT else Cut
         head = stream[at : behind - 4]
         # A lone LF ends a line too, and empty lines before the request line are passed over.
         first, *rest = re.split(rb"\r?\n", re.sub(rb"\A(\r?\n)+", b"", head))
         request = REQUEST_LINE.fullmatch(first)
         fields = [FIELD.fullmatch(line) for line in rest]
         if not request or not is_utf8(request[2]) or not all(fields) or len(fields) > FIELD_LIMIT:
-            raise NoMessage
+            raise Bad("head")
         self.method, self.path, version = request.groups()
         self.fields = [(field[1].lower(), field[2]) for field in fields]
         self.behind = behind + self.length()
         if len(stream) < self.behind:
-            raise NoMessage
+            raise Cut
         self.body = stream[behind : self.behind]
         self.is_closing = version == b"0" or (self.first(b"connection") or b"").lower() == b"close"
 
@@ -592,12 +603,14 @@ class Message:
 
     def length(self):
         lengths = self.values(b"content-length")
-        if self.values(b"transfer-encoding") or len(lengths) > 1:
-            raise NoMessage
+        if self.values(b"transfer-encoding"):
+            raise Bad("chunked")
         if not lengths:
             return 0
-        if not re.fullmatch(rb"[0-9]{1,10}", lengths[0]) or int(lengths[0]) > BODY_LIMIT:
-            raise NoMessage
+        if len(lengths) > 1 or not re.fullmatch(rb"[0-9]{1,10}", lengths[0]):
+            raise Bad("length")
+        if int(lengths[0]) > BODY_LIMIT:
+            raise Bad("body too long", "413 Content Too Large")
         return int(lengths[0])
 
     def operation(self):
@@ -608,17 +621,13 @@ class Message:
 
 
 def messages_of(stream):
-    """The messages that the stream is, or None."""
+    """The messages that the stream begins with."""
     messages, at = [], 0
-    if len(stream) > STREAM_LIMIT:
-        return None
-    while at < len(stream) and not (messages and messages[-1].is_closing):
-        if len(messages) == MESSAGE_LIMIT:
-            return None
+    while not (messages and messages[-1].is_closing):
         try:
             messages.append(Message(stream, at))
-        except NoMessage:
-            return None
+        except (Bad, Cut):
+            break
         at = messages[-1].behind
     return messages
 
@@ -642,8 +651,18 @@ def reply(account, message):
 
 
 def run(stream, account):
-    """The exit code and the output of a run over this input, on a new account."""
-    messages = messages_of(stream)
-    if messages is None:
-        return 13, b""
-    return 0, b"".join(reply(account, message) for message in messages)
+    """The exit code and the output of a run over this input, on this account."""
+    output, at, is_closed = b"", 0, False
+    for _ in range(MESSAGE_LIMIT):
+        if is_closed or at == len(stream):
+            return 0, output
+        try:
+            message = Message(stream, at)
+        except Cut:
+            return 10, output
+        except Bad as bad:
+            account.reached[None, bad.kind] += 1
+            return 11, output + framed(bad.status, {"Message": bad.kind, "__type": "SerializationException"})
+        output += reply(account, message)
+        at, is_closed = message.behind, message.is_closing
+    return 12, output

@@ -1,12 +1,15 @@
 //! A server with the behaviour of AWS Secrets Manager on one's own machine.
 //!
-//! For now it reads HTTP messages from standard input, answers them and ends: `secretsd --mode exec --number 0`.
+//! For now it answers the HTTP messages of standard input on standard output and ends:
+//! `secretsd --data FOLDER < messages`.
+//! `secretsd --help` says which words it takes.
 #![tactic(auto)]
 
-use sm_disk::MemoryDisk;
-use sm_io::{CountWords, FixedClock, StreamSink, StreamSource};
+use sm_disk::{Disk, FileDisk, MemoryDisk};
+use sm_io::{Clock, CountWords, FixedClock, StreamSink, StreamSource, SystemClock, SystemWords, Words};
 use sm_model::{Bytes, Fails, Moment, NoMemory};
-use sm_server::{Status, run_once};
+use sm_server::{Status, end_of_settings, run_once};
+use sm_words::{Settings, WordsRefused, read_words, refusal_of};
 use std::alloc::Global;
 use std::env::Env;
 use std::io::ErrorKind;
@@ -18,10 +21,12 @@ const FIXED_MOMENT: Moment = Moment(1_700_000_000);
 
 fn main(rt: HostRuntime) -> ExitCode {
     let status = match words(&rt, rt.alloc()) {
-        Ok(words) => exec(&rt, words.as_slice()),
+        Ok(words) => follow(&rt, words.as_slice()),
         Err(error) if error.kind() == ErrorKind::OutOfMemory => Status::Memory,
-        // A word that is no text is none of those that are taken.
-        Err(_) => Status::Words,
+        Err(_) => {
+            let _ = eprintln!(rt; "secretsd: a word of the command line is not UTF-8");
+            Status::Words
+        }
     };
     let code = status.code();
     if code != 0 {
@@ -39,6 +44,72 @@ fn words(rt: &(impl Env + AllocGlobal), alloc: Global) -> io::Result<Vec<String>
     Ok(words)
 }
 
+/// Does what the words ask for. No folder is opened for words that are not followed.
+fn follow(rt: &HostRuntime, words: &[String]) -> Status {
+    match read_words(rt.alloc(), words) {
+        Ok(settings) => match end_of_settings(&settings) {
+            Some(status) => {
+                let _ = eprintln!(rt;
+                    "secretsd: only --mode exec is built yet, without --people and with --rotator local"
+                );
+                status
+            }
+            None => run(rt, words, &settings),
+        },
+        Err(WordsRefused::Refused) => say_refusal(rt, words),
+        Err(WordsRefused::Memory) => Status::Memory,
+    }
+}
+
+/// Prints help or the version where the words ask for it, and else what is wrong with them.
+fn say_refusal(rt: &HostRuntime, words: &[String]) -> Status {
+    match refusal_of(rt.alloc(), words) {
+        Ok(Some(refusal)) if refusal.is_asked => show(rt, refusal.text.as_str()),
+        Ok(Some(refusal)) => {
+            let text = refusal.text.as_str();
+            let _ = eprint!(rt; "{text}");
+            Status::Words
+        }
+        Ok(None) => Status::Words,
+        Err(NoMemory) => Status::Memory,
+    }
+}
+
+/// Prints a text to standard output.
+fn show(rt: &HostRuntime, text: &str) -> Status {
+    match print!(rt; "{text}") {
+        Ok(()) => Status::Done,
+        Err(_) => Status::SinkFault(0),
+    }
+}
+
+/// Runs over the folder that is named, and else over a disk in memory, which is let go at the end.
+fn run(rt: &HostRuntime, words: &[String], settings: &Settings) -> Status {
+    match &settings.folder {
+        Some(folder) => run_over_folder(rt, words, settings.number, folder.as_str()),
+        None => match empty_disk(rt.alloc()) {
+            Ok(disk) => run_over(rt, words, settings.number, disk),
+            Err(NoMemory) => Status::Memory,
+        },
+    }
+}
+
+/// Runs over a folder.
+fn run_over_folder(
+    rt: &HostRuntime,
+    words: &[String],
+    number: Option<u64>,
+    folder: &str,
+) -> Status {
+    match FileDisk::open(rt, rt.alloc(), folder) {
+        Ok(disk) => run_over(rt, words, number, disk),
+        Err(refused) => {
+            let _ = eprintln!(rt; "secretsd: the folder {folder} can't be opened: {refused}");
+            Status::OpenFault
+        }
+    }
+}
+
 /// An empty disk in memory.
 fn empty_disk(alloc: Global) -> Result<MemoryDisk, NoMemory> {
     MemoryDisk::new(
@@ -50,26 +121,47 @@ fn empty_disk(alloc: Global) -> Result<MemoryDisk, NoMemory> {
     )
 }
 
-/// Answers the messages of standard input on standard output. What is kept is kept in memory, and let go at the end.
-fn exec(rt: &HostRuntime, words: &[String]) -> Status {
+/// Runs over a disk: with a fixed clock and bytes that count up where a number is given, and else with the system's.
+fn run_over<D: Disk + Drop>(
+    rt: &HostRuntime,
+    words: &[String],
+    number: Option<u64>,
+    disk: D,
+) -> Status {
     let alloc = rt.alloc();
+    match number {
+        Some(number) => {
+            let mut clock = FixedClock::new(FIXED_MOMENT);
+            let first = (number % 256) as u8;
+            let mut random = CountWords::new(alloc, first, Fails::never(alloc));
+            answer(rt, words, disk, &mut clock, &mut random)
+        }
+        None => {
+            let mut clock = SystemClock::new(rt);
+            let mut random = SystemWords::new(alloc, rt);
+            answer(rt, words, disk, &mut clock, &mut random)
+        }
+    }
+}
+
+/// Answers the messages of standard input on standard output.
+fn answer<D: Disk + Drop, C: Clock, W: Words>(
+    rt: &HostRuntime,
+    words: &[String],
+    disk: D,
+    clock: &mut C,
+    random: &mut W,
+) -> Status {
     let mut source = StreamSource::new(rt.stdin());
     let mut sink = StreamSink::new(rt.stdout());
-    let mut clock = FixedClock::new(FIXED_MOMENT);
-    let mut random = CountWords::new(alloc, 0, Fails::never(alloc));
-    match empty_disk(alloc) {
-        Ok(disk) => {
-            let (status, _disk) = run_once(
-                alloc,
-                words,
-                &mut source,
-                &mut sink,
-                disk,
-                &mut clock,
-                &mut random,
-            );
-            status
-        }
-        Err(NoMemory) => Status::Memory,
-    }
+    let (status, _disk) = run_once(
+        rt.alloc(),
+        words,
+        &mut source,
+        &mut sink,
+        disk,
+        clock,
+        random,
+    );
+    status
 }

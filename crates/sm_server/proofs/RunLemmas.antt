@@ -1,5 +1,5 @@
 -- How a run goes, message by message.
-use Rattle.std.proofs.Common.{◌≡◌, ◌<◌, ◌≤◌, ◌+◌, ℕ, min, List, [], ◌∷◌, ◌++◌, length, take, Option, Bool, true, false, refl, sym, ap, subst, ◌∙◌, append_assoc, append-nil, length-append, arith}
+use Rattle.std.proofs.Common.{◌≡◌, ◌<◌, ◌≤◌, ◌+◌, ◌-◌, ◌^◌, ℕ, min, List, [], ◌∷◌, ◌++◌, length, take, Option, Bool, true, false, refl, sym, ap, subst, ◌∙◌, append-nil, length-append, arith, inl}
 use Rattle.std.proofs.lemmas.Grind.{flat_map-append}
 use Rattle.std.proofs.lemmas.List.{take_all, length-take-le}
 use Rattle.std.specs.Io.KnownBytes.{append_known}
@@ -11,28 +11,31 @@ use Rattle.sm_table.specs.Sound.{Sound}
 use Rattle.sm_core.specs.Histories.{replay, Legal}
 use Rattle.sm_account.specs.History.{entries_in, by_seat}
 use Rattle.sm_account.specs.States.{Base}
-use Rattle.sm_http.specs.declared.message.MessageView.{MessageView}
+use Rattle.sm_http.specs.declared.answer.Message.{Message as owned}
+use Rattle.sm_http.specs.declared.answer.Next.TheVariants as next
 use Rattle.sm_http.specs.declared.reply.Sent.{Sent}
+use Rattle.sm_http.specs.Chains.{unread}
 use Rattle.sm_http.specs.Framed.{Sends}
-use Rattle.sm_http.specs.Fronts.{Shows}
 use Rattle.sm_http.specs.Messages.{Message}
+use Rattle.sm_http.specs.Reading.{ReaderState, content, Reads}
 use Rattle.sm_reply.specs.Shown.{Answered}
-use Rattle.sm_server.specs.Answer.{envelope_of, envelope_seen, heard_of}
-use Rattle.sm_server.specs.Outside.{Outside, Told, nothing_told, told_both, Growth, growth, Trace, Passed, Within}
-use Rattle.sm_server.specs.Ran.{Course, AreAnswered, AllAnswered, CutAt, joined, count_limit}
+use Rattle.sm_server.specs.declared.status.Status.TheVariants.{SinkFault}
+use Rattle.sm_server.specs.Answer.{heard}
+use Rattle.sm_server.specs.Incoming.{count_limit}
+use Rattle.sm_server.specs.Outside.{Outside, Told, Growth, growth, Trace, Passed, Within}
+use Rattle.sm_server.specs.Ran.{Course, AreAnswered, CutWithin, joined, Runs}
 use Rattle.sm_server.specs.Replies.{framed_answer}
-use Rattle.sm_server.specs.Streams.{ShowAll}
-use Rattle.sm_server.specs.Turns.{seat, Turn, TurnOf, marked, Brought, GoesWell, brought_nothing, Turns}
+use Rattle.sm_server.specs.Streams.{message_limit}
+use Rattle.sm_server.specs.Turns.{seat, Turn, TurnOf, Brought, GoesWell, brought_nothing, Turns}
 use Rattle.sm_server.proofs.KnownLemmas.{append_known-nil}
 use Rattle.sm_server.proofs.LegalLemmas.{turns_legal}
-use Rattle.sm_server.proofs.TurnLemmas.{heard_shown}
+use Rattle.sm_server.proofs.StreamLemmas.{GivenSoFar, given_none, given_more, given_start}
 use Rattle.sm_server.proofs.TurnsLemmas.{with_last, turns_more}
 
--- a point of a run: what the outside tells, the messages that are still behind, the history, and how many bytes are
--- counted
+-- a point of a run: what the outside tells, what the reader holds, the history, and how many bytes are counted
 pub record Point : Type 0 where
   pub now : Outside
-  pub behind : List MessageView
+  pub reader : ReaderState
   pub history : List (ℕ × Mark)
   pub count : ℕ
 
@@ -47,66 +50,40 @@ trace_of before after written told = record {
   random = growth (λ c. c.random) before after;
 }
 
--- the messages before those that are still behind have been answered
-pub record Progress (base : Base) (all : List Message) (at : Point) (trace : Trace) : Type 0 where
-  pub done : List Message
-  pub rest : List Message
-  pub parts : all ≡ done ++ rest
-  pub shown : ShowAll rest at.behind
+-- from before to the point so many messages were read and answered
+pub record Progress (base : Base) (before : Outside) (number : ℕ) (at : Point) : Type 0 where
+  pub messages : List Message
+  pub size : length messages ≡ number
+  pub given : GivenSoFar before.left messages at.reader at.now.left
   pub brought : Brought
-  pub turns : Turns base [] done brought
-  pub told : trace.told ≡ brought.told
-  pub disk : trace.disk ≡ brought.disk
-  pub random : trace.random ≡ brought.random
+  pub turns : Turns base [] messages brought
+  pub disk : growth (λ c. c.disk) before at.now ≡ brought.disk
+  pub random : growth (λ c. c.random) before at.now ≡ brought.random
   pub stands : at.history ≡ brought.history
-  pub writes : trace.written ≡ joined brought.replies
-  pub counts : at.count ≡ min (length trace.written) count_limit
+  pub taken : at.now.taken ≡ append_known before.taken (joined brought.replies)
+  pub readings : at.now.readings ≡ append_known before.readings brought.told.readings
+  pub drawn : at.now.drawn ≡ append_known before.drawn brought.told.drawn
+  pub counts : at.count ≡ min (length (joined brought.replies)) count_limit
 
--- from before to the point the messages of these views were answered, save those that are still behind
-abbrev pub Reached : Base → Outside → List MessageView → Point → Type 0
-Reached base before views at = (all : List Message) → ShowAll all views → (trace : Trace) × Passed before at.now trace
-    × Progress base all at trace
+abbrev pub first_point : Outside → ReaderState → List (ℕ × Mark) → Point
+first_point outside reader history = record { now = outside; reader = reader; history = history; count = 0 }
 
-abbrev pub first_point : Outside → List MessageView → Point
-first_point outside views = record { now = outside; behind = views; history = []; count = 0 }
-
-pub reached_first : (base : Base) (outside : Outside) (views : List MessageView)
-    → Reached base outside views (first_point outside views)
-reached_first base outside views all shown = (
-  trace_of outside outside [] nothing_told,
-  record {
-    writes = sym (append_known-nil outside.taken);
-    clock = sym (append_known-nil outside.readings);
-    random = sym (append_known-nil outside.drawn);
-    source_count = refl;
-    sink_count = refl;
-    disk_count = refl;
-    random_count = refl;
-  },
-  record {
-    done = [];
-    rest = all;
-    parts = refl;
-    shown = shown;
-    brought = brought_nothing outside.counts.disk outside.counts.random;
-    turns = refl;
-    told = refl;
-    disk = refl;
-    random = refl;
-    stands = refl;
-    writes = refl;
-    counts = refl;
-  },
-)
-
-shown_front : (rest : List Message) (view : MessageView) (behind : List MessageView) → ShowAll rest (view ∷ behind)
-    → (m : Message) × (more : List Message) × (rest ≡ m ∷ more) × Shows m view × ShowAll more behind
-shown_front [] view behind shown = absurd shown
-shown_front (m ∷ more) view behind shown = (m, more, refl, shown.0, shown.1)
-
-shown_none : (rest : List Message) → ShowAll rest [] → rest ≡ []
-shown_none [] shown = refl
-shown_none (m ∷ more) shown = absurd shown
+pub progress_first : (base : Base) (outside : Outside) (reader : ReaderState) (history : List (ℕ × Mark))
+    → reader ≡ unread → history ≡ [] → Progress base outside 0 (first_point outside reader history)
+progress_first base outside reader history fresh none = record {
+  messages = [];
+  size = refl;
+  given = subst (λ r. GivenSoFar outside.left [] r outside.left) (sym fresh) (given_none outside.left);
+  brought = brought_nothing outside.counts.disk outside.counts.random;
+  turns = refl;
+  disk = refl;
+  random = refl;
+  stands = none;
+  taken = sym (append_known-nil outside.taken);
+  readings = sym (append_known-nil outside.readings);
+  drawn = sym (append_known-nil outside.drawn);
+  counts = refl;
+}
 
 joined_more : (replies : List Answered) (reply : Answered)
     → joined (replies ++ reply ∷ []) ≡ joined replies ++ framed_answer reply
@@ -114,25 +91,68 @@ joined_more replies reply = flat_map-append framed_answer replies (reply ∷ [])
     ∙ ap (λ x. joined replies ++ x) (append-nil (framed_answer reply))
 
 -- what follows what was told before
-told_more : (before now after : Option (List ℕ)) (xs ys : List ℕ) → now ≡ append_known before xs
+pub told_more : (before now after : Option (List ℕ)) (xs ys : List ℕ) → now ≡ append_known before xs
     → after ≡ append_known now ys
     → after ≡ append_known before (xs ++ ys)
 told_more before now after xs ys first then =
     then ∙ ap (λ known. append_known known ys) first ∙ append_known-append before xs ys
 
+-- the sink failed within this reply, so many bytes of which it took
+pub cut_within : (earlier : List Answered) (last : Answered) (size count counted : ℕ)
+    → size < length (framed_answer last) → count ≡ min (length (joined earlier)) count_limit
+    → counted ≡ min (count + size) count_limit
+    → CutWithin earlier last counted (joined earlier ++ take size (framed_answer last))
+cut_within earlier last size count counted short before now =
+    let part = take size (framed_answer last) in
+    let taken : length part ≡ size = length-take-le size (framed_answer last) (omega (arith, short)) in
+    let long : length (joined earlier ++ part) ≡ length (joined earlier) + length part =
+    length-append (joined earlier) part in
+    record { size = size; short = short; writes = refl; counts = omega (arith, before, now, taken, long) }
+
 -- messages that were answered at a course from its first mark on
-abbrev answered_by : (course : Course) (messages : List Message) (trace : Trace) (brought : Brought)
-    → Turns course.base [] messages brought → course.history ≡ brought.history → trace.told ≡ brought.told
-    → trace.disk ≡ brought.disk → trace.random ≡ brought.random → AreAnswered course messages trace
-answered_by course messages trace brought turns history told disk random = record {
+abbrev pub answered_by : (base : Base) (history : List (ℕ × Mark)) (before after : Outside) (messages : List Message)
+    (brought : Brought) → Turns base [] messages brought → history ≡ brought.history
+    → growth (λ c. c.disk) before after ≡ brought.disk → growth (λ c. c.random) before after ≡ brought.random
+    → (written : List ℕ)
+    → AreAnswered (record { base = base; history = history }) messages (trace_of before after written brought.told)
+answered_by base history before after messages brought turns is disk random written = record {
   brought = brought;
   turns = turns;
-  history = history;
-  accepted = subst (λ h. Legal course.base.rows course.base.last (entries_in h)) (sym history)
-      (turns_legal course.base [] messages brought turns);
-  told = told;
-  disk = subst (λ (g : Growth). Within g trace.disk) disk (omega arith, omega arith);
+  history = is;
+  accepted = subst (λ h. Legal base.rows base.last (entries_in h)) (sym is)
+      (turns_legal base [] messages brought turns);
+  told = refl;
+  disk = subst (λ (g : Growth). Within g (growth (λ c. c.disk) before after)) disk (omega arith, omega arith);
   random = random;
+}
+
+-- what passed, where this was written and told
+pub passed_by : (before after : Outside) (written : List ℕ) (told : Told)
+    → after.taken ≡ append_known before.taken written → after.readings ≡ append_known before.readings told.readings
+    → after.drawn ≡ append_known before.drawn told.drawn
+    → Passed before after (trace_of before after written told)
+passed_by before after written told taken readings drawn = record {
+  writes = taken;
+  clock = readings;
+  random = drawn;
+  source_count = refl;
+  sink_count = refl;
+  disk_count = refl;
+  random_count = refl;
+}
+
+whole_since : (whole : Bool) (P R : Type 0) (from before after : ℕ) → from ≤ before
+    → MatchBool whole P (R × Rose before after) → MatchBool whole P (R × Rose from after)
+whole_since true P R from before after later is = is
+whole_since false P R from before after later is = (is.0, omega (arith, is.1, later))
+
+-- what was sent, seen from before a message was read
+pub sent_since : (sent : Sent) (text : List ℕ) (first now then : Option (List ℕ)) (from before after : ℕ) → now ≡ first
+    → from ≤ before → Sends sent text now then before after → Sends sent text first then from after
+sent_since sent text first now then from before after same later sends = record {
+  bytes = sends.bytes ∙ ap (λ known. append_known known (take sent.taken text)) same;
+  whole = whole_since sent.whole (sent.taken ≡ length text) (sent.taken < length text) from before after later
+      sends.whole;
 }
 
 -- the turn of a reply, where this was told for it, with these marks
@@ -145,13 +165,16 @@ turn_between now after reply told marks = record {
   random = growth (λ c. c.random) now after;
 }
 
--- a step of a run: from this point the message of this view brought this reply, and then the outside and the history
--- are these
+-- a step of a run: from this point this message was read and got this reply, and then the outside, the reader and the
+-- history are these
 pub record Step : Type 0 where
   pub now : Outside
+  pub reader : ReaderState
   pub history : List (ℕ × Mark)
-  pub view : MessageView
+  pub count : ℕ
+  pub message : owned
   pub after : Outside
+  pub reader' : ReaderState
   pub history' : List (ℕ × Mark)
   pub reply : Answered
 
@@ -160,7 +183,7 @@ abbrev pub Turned : Base → Step → Type 0
 Turned base s = (told : Told) × (marks : List Mark)
     × (s.after.readings ≡ append_known s.now.readings told.readings)
     × (s.after.drawn ≡ append_known s.now.drawn told.drawn)
-    × TurnOf base s.history (heard_of (envelope_seen s.view)) (turn_between s.now s.after s.reply told marks)
+    × TurnOf base s.history (heard (content s.message)) (turn_between s.now s.after s.reply told marks)
     × (s.history' ≡ s.history ++ by_seat seat marks)
 
 -- what holds after it
@@ -169,182 +192,129 @@ pub record Later (base : Base) (s : Step) : Type 0 where
   pub random : s.now.counts.random ≤ s.after.counts.random
   pub sound : Sound (replay base.rows (entries_in s.history'))
 
-module _ (base : Base) (before : Outside) (views : List MessageView) (s : Step) (behind : List MessageView) (count : ℕ)
-    (reached : Reached base before views (record {
-      now = s.now;
-      behind = s.view ∷ behind;
-      history = s.history;
-      count = count;
-    }))
-    (turned : Turned base s) (later : Later base s)
-    (sent : Sent) (sends : Sends sent (framed_answer s.reply) s.now.taken s.after.taken s.now.counts.sink
-    s.after.counts.sink)
-    (count' : ℕ) (counts : count' ≡ min (count + sent.taken) count_limit) where
-  abbrev point : Point
-  point = record { now = s.now; behind = s.view ∷ behind; history = s.history; count = count }
+abbrev pub point_before : Step → Point
+point_before s = record { now = s.now; reader = s.reader; history = s.history; count = s.count }
 
-  abbrev course : Course
-  course = record { base = base; history = s.history' }
+abbrev pub point_after : Step → ℕ → Point
+point_after s count = record { now = s.after; reader = s.reader'; history = s.history'; count = count }
 
+module _ (base : Base) (before : Outside) (number : ℕ) (s : Step) (p : Progress base before number (point_before s))
+    (reads : Reads s.reader (next.Message s.message) s.reader' s.now.left s.after.left)
+    (turned : Turned base s) (later : Later base s) where
+  -- the message's turn
   abbrev one : Turn
   one = turn_between s.now s.after s.reply turned.0 turned.1
 
-  module _ (all : List Message) (trace : Trace) (passed : Passed before s.now trace)
-      (p : Progress base all point trace) where
-    abbrev front : (m : Message) × (more : List Message) × (p.rest ≡ m ∷ more) × Shows m s.view × ShowAll more behind
-    front = shown_front p.rest s.view behind p.shown
+  -- it and those before it
+  abbrev all_now : List Message
+  all_now = p.messages ++ content s.message ∷ []
 
-    -- how the counts grew until now
-    grew_random : growth (λ c. c.random) before s.now ≡ p.brought.random
-    grew_random = sym passed.random_count ∙ p.random
+  abbrev brought_now : Brought
+  brought_now = with_last p.brought one
 
-    grew_disk : growth (λ c. c.disk) before s.now ≡ p.brought.disk
-    grew_disk = sym passed.disk_count ∙ p.disk
+  size_now : length all_now ≡ number + 1
+  size_now = omega (arith, length-append p.messages (content s.message ∷ []), p.size)
 
-    history_now : s.history' ≡ p.brought.history ++ marked one
-    history_now = turned.5 ∙ ap (λ h. h ++ by_seat seat turned.1) p.stands
+  history_now : s.history' ≡ brought_now.history
+  history_now = turned.5 ∙ ap (λ h. h ++ by_seat seat turned.1) p.stands
 
-    well : GoesWell base p.brought.history one
-    well = record {
-      disk = later.disk;
-      random = later.random;
-      sound = subst (λ h. Sound (replay base.rows (entries_in h))) history_now later.sound;
-    }
+  well : GoesWell base p.brought.history one
+  well = record {
+    disk = later.disk;
+    random = later.random;
+    sound = subst (λ h. Sound (replay base.rows (entries_in h))) history_now later.sound;
+  }
 
-    turns_now : Turns base [] (p.done ++ front.0 ∷ []) (with_last p.brought one)
-    turns_now =
-        turns_more one base front.0 [] p.done p.brought
-        (subst (λ h. TurnOf base h (heard_of (envelope_of front.0)) one) p.stands
-        (subst (λ h. TurnOf base s.history h one) (heard_shown front.0 s.view front.3) turned.4))
-        (sym (ap (λ (g : Growth). g.after) grew_disk), sym (ap (λ (g : Growth). g.after) grew_random)) well p.turns
+  turns_now : Turns base [] all_now brought_now
+  turns_now =
+      turns_more one base (content s.message) [] p.messages p.brought
+      (subst (λ h. TurnOf base h (heard (content s.message)) one) p.stands turned.4)
+      (sym (ap (λ (g : Growth). g.after) p.disk), sym (ap (λ (g : Growth). g.after) p.random)) well p.turns
 
-    parts_now : all ≡ (p.done ++ front.0 ∷ []) ++ front.1
-    parts_now = p.parts ∙ ap (λ r. p.done ++ r) front.2 ∙ sym (append_assoc p.done (front.0 ∷ []) front.1)
+  disk_now : growth (λ c. c.disk) before s.after ≡ brought_now.disk
+  disk_now = ap (λ (g : Growth). record { before = g.before; after = s.after.counts.disk }) p.disk
 
-    random_now : growth (λ c. c.random) before s.after ≡ (with_last p.brought one).random
-    random_now = ap (λ (g : Growth). record { before = g.before; after = s.after.counts.random }) grew_random
+  random_now : growth (λ c. c.random) before s.after ≡ brought_now.random
+  random_now = ap (λ (g : Growth). record { before = g.before; after = s.after.counts.random }) p.random
 
-    disk_now : growth (λ c. c.disk) before s.after ≡ (with_last p.brought one).disk
-    disk_now = ap (λ (g : Growth). record { before = g.before; after = s.after.counts.disk }) grew_disk
+  given_now : GivenSoFar before.left all_now s.reader' s.after.left
+  given_now = given_more before.left p.messages s.reader s.reader' s.now.left s.after.left p.given s.message reads
 
-    told_now : told_both trace.told turned.0 ≡ (with_last p.brought one).told
-    told_now = ap (λ told. told_both told turned.0) p.told
+  readings_now : s.after.readings ≡ append_known before.readings brought_now.told.readings
+  readings_now = told_more before.readings s.now.readings s.after.readings p.brought.told.readings turned.0.readings
+      p.readings turned.2
 
-    passed_now : (written : List ℕ) → s.after.taken ≡ append_known s.now.taken written
-        → Passed before s.after (trace_of before s.after (trace.written ++ written) (told_both trace.told turned.0))
-    passed_now written takes = record {
-      writes = told_more before.taken s.now.taken s.after.taken trace.written written passed.writes takes;
-      clock = told_more before.readings s.now.readings s.after.readings trace.told.readings turned.0.readings
-          passed.clock turned.2;
-      random = told_more before.drawn s.now.drawn s.after.drawn trace.told.drawn turned.0.drawn passed.random
-          turned.3;
-      source_count = refl;
-      sink_count = refl;
-      disk_count = refl;
-      random_count = refl;
-    }
+  drawn_now : s.after.drawn ≡ append_known before.drawn brought_now.told.drawn
+  drawn_now = told_more before.drawn s.now.drawn s.after.drawn p.brought.told.drawn turned.0.drawn p.drawn turned.3
+
+  module _ (sent : Sent)
+      (sends : Sends sent (framed_answer s.reply) s.now.taken s.after.taken s.now.counts.sink s.after.counts.sink)
+      (count' : ℕ) (counts : count' ≡ min (s.count + sent.taken) (2 ^ 64 - 1)) where
+    abbrev IfWhole : Bool → Type 0
+    IfWhole whole = MatchBool whole (sent.taken ≡ length (framed_answer s.reply))
+        ((sent.taken < length (framed_answer s.reply)) × Rose s.now.counts.sink s.after.counts.sink)
 
     -- the reply was written whole
-    progress_more : sent.taken ≡ length (framed_answer s.reply)
-        → Progress base all (record { now = s.after; behind = behind; history = s.history'; count = count' })
-        (trace_of before s.after (trace.written ++ framed_answer s.reply) (told_both trace.told turned.0))
-    progress_more size =
-        let long : length (trace.written ++ framed_answer s.reply)
-        ≡ length trace.written + length (framed_answer s.reply)
-        = length-append trace.written (framed_answer s.reply) in
+    pub progress_more : sent.whole ≡ true → Progress base before (number + 1) (point_after s count')
+    progress_more whole =
+        let size : sent.taken ≡ length (framed_answer s.reply) = subst (λ (b : Bool). IfWhole b) whole sends.whole in
+        let text : take sent.taken (framed_answer s.reply) ≡ framed_answer s.reply =
+        take_all sent.taken (framed_answer s.reply) (omega (arith, size)) in
+        let more : joined brought_now.replies ≡ joined p.brought.replies ++ framed_answer s.reply =
+        joined_more p.brought.replies s.reply in
+        let long : length (joined brought_now.replies)
+        ≡ length (joined p.brought.replies) + length (framed_answer s.reply)
+        = ap length more ∙ length-append (joined p.brought.replies) (framed_answer s.reply) in
         record {
-          done = p.done ++ front.0 ∷ [];
-          rest = front.1;
-          parts = parts_now;
-          shown = front.4;
-          brought = with_last p.brought one;
+          messages = all_now;
+          size = size_now;
+          given = given_now;
+          brought = brought_now;
           turns = turns_now;
-          told = told_now;
           disk = disk_now;
           random = random_now;
           stands = history_now;
-          writes = ap (λ w. w ++ framed_answer s.reply) p.writes ∙ sym (joined_more p.brought.replies s.reply);
+          taken = told_more before.taken s.now.taken s.after.taken (joined p.brought.replies)
+              (framed_answer s.reply) p.taken (sends.bytes ∙ ap (append_known s.now.taken) text)
+              ∙ ap (append_known before.taken) (sym more);
+          readings = readings_now;
+          drawn = drawn_now;
           counts = omega (arith, counts, p.counts, size, long);
         }
 
-    -- the messages up to this one were answered
-    abbrev answered_now : (written : List ℕ)
-        → AreAnswered course (p.done ++ front.0 ∷ [])
-        (trace_of before s.after written (told_both trace.told turned.0))
-    answered_now written = answered_by course (p.done ++ front.0 ∷ [])
-        (trace_of before s.after written (told_both trace.told turned.0)) (with_last p.brought one) turns_now
-        history_now told_now disk_now random_now
-
     -- the sink failed within the reply
-    progress_cut : sent.taken < length (framed_answer s.reply)
-        → CutAt course all count' (trace_of before s.after (trace.written ++ take sent.taken (framed_answer s.reply))
-        (told_both trace.told turned.0))
-    progress_cut short =
-        let part = take sent.taken (framed_answer s.reply) in
-        let taken : length part ≡ sent.taken = length-take-le sent.taken (framed_answer s.reply) (omega (arith, short))
-        in
-        let long : length (trace.written ++ part) ≡ length trace.written + length part =
-        length-append trace.written part in
+    pub run_cut : before.counts.sink ≤ s.now.counts.sink → number < message_limit → sent.whole ≡ false
+        → Runs (record { base = base; history = s.history' }) (SinkFault count') before s.after
+    run_cut since fewer part =
+        let cut : (sent.taken < length (framed_answer s.reply)) × Rose s.now.counts.sink s.after.counts.sink =
+        subst (λ (b : Bool). IfWhole b) part sends.whole in
+        let within = cut_within p.brought.replies s.reply sent.taken s.count count' cut.0 p.counts counts in
+        let rose : Rose before.counts.sink s.after.counts.sink = omega (arith, since, cut.1) in
+        let g = given_now in
+        let course : Course = record { base = base; history = s.history' } in
+        let answered = answered_by base s.history' before s.after all_now brought_now turns_now history_now
+        disk_now random_now (joined p.brought.replies ++ take sent.taken (framed_answer s.reply)) in
         record {
-          first = p.done ++ front.0 ∷ [];
-          unanswered = front.1;
-          parts = parts_now;
-          answered = answered_now (trace.written ++ part);
-          earlier = p.brought.replies;
-          last = s.reply;
-          replies = refl;
-          size = sent.taken;
-          short = short;
-          writes = ap (λ w. w ++ part) p.writes;
-          counts = omega (arith, counts, p.counts, taken, long);
+          input = g.read;
+          trace = trace_of before s.after (joined p.brought.replies ++ take sent.taken (framed_answer s.reply))
+              brought_now.told;
+          reads = g.reads;
+          passed = passed_by before s.after (joined p.brought.replies ++ take sent.taken (framed_answer s.reply))
+              brought_now.told (told_more before.taken s.now.taken s.after.taken (joined p.brought.replies)
+              (take sent.taken (framed_answer s.reply)) p.taken sends.bytes) readings_now drawn_now;
+          ended = record {
+            messages = all_now;
+            answered = answered;
+            ends = (
+              omega (arith, size_now, fewer),
+              rose,
+              inl (record {
+                begin = given_start before.left all_now s.reader' s.after.left g;
+                earlier = p.brought.replies;
+                last = s.reply;
+                parts = refl;
+                within = within;
+              }),
+            );
+          };
         }
-
-  abbrev IfWhole : Bool → Type 0
-  IfWhole whole = MatchBool whole (sent.taken ≡ length (framed_answer s.reply))
-      ((sent.taken < length (framed_answer s.reply)) × Rose s.now.counts.sink s.after.counts.sink)
-
-  pub reached_more : sent.whole ≡ true
-      → Reached base before views (record { now = s.after; behind = behind; history = s.history'; count = count' })
-  reached_more whole all shown =
-      let r = reached all shown in
-      let size : sent.taken ≡ length (framed_answer s.reply) = subst (λ (b : Bool). IfWhole b) whole sends.whole in
-      let text : take sent.taken (framed_answer s.reply) ≡ framed_answer s.reply =
-      take_all sent.taken (framed_answer s.reply) (omega (arith, size)) in (
-        trace_of before s.after (r.0.written ++ framed_answer s.reply) (told_both r.0.told turned.0),
-        passed_now all r.0 r.1 r.2 (framed_answer s.reply) (sends.bytes ∙ ap (append_known s.now.taken) text),
-        progress_more all r.0 r.1 r.2 size,
-      )
-
-  pub reached_cut : before.counts.sink ≤ s.now.counts.sink → sent.whole ≡ false → (all : List Message)
-      → ShowAll all views
-      → (trace : Trace) × Passed before s.after trace
-      × (Rose trace.sink.before trace.sink.after × CutAt course all count' trace)
-  reached_cut since part all shown =
-      let r = reached all shown in
-      let cut : (sent.taken < length (framed_answer s.reply)) × Rose s.now.counts.sink s.after.counts.sink =
-      subst (λ (b : Bool). IfWhole b) part sends.whole in (
-        trace_of before s.after (r.0.written ++ take sent.taken (framed_answer s.reply))
-            (told_both r.0.told turned.0),
-        passed_now all r.0 r.1 r.2 (take sent.taken (framed_answer s.reply)) sends.bytes,
-        (omega (arith, since, cut.1), progress_cut all r.0 r.1 r.2 cut.0),
-      )
-
--- no message is behind
-pub reached_all : (base : Base) (before : Outside) (views : List MessageView) (at : Point) → at.behind ≡ []
-    → Reached base before views at → (all : List Message) → ShowAll all views
-    → (trace : Trace) × Passed before at.now trace
-    × AllAnswered (record { base = base; history = at.history }) all trace
-reached_all base before views at nothing reached all shown =
-    let r = reached all shown in
-    let p = r.2 in
-    let whole : p.done ≡ all =
-    sym (p.parts ∙ ap (λ x. p.done ++ x) (shown_none p.rest (subst (ShowAll p.rest) nothing p.shown))
-    ∙ append-nil p.done) in (
-      r.0,
-      r.1,
-      record {
-        answered = answered_by (record { base = base; history = at.history }) all r.0 p.brought
-            (subst (λ d. Turns base [] d p.brought) whole p.turns) p.stands p.told p.disk p.random;
-        writes = p.writes;
-      },
-    )

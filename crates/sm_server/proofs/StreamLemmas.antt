@@ -1,179 +1,188 @@
--- Splitting a stream into its messages.
-use Rattle.std.proofs.Common.{◌≡◌, ℕ, ◌+◌, ◌-◌, ◌==◌, ◌<◌, ◌≤◌, Bool, true, false, MatchBool, List, [], ◌∷◌, ◌++◌, length, refl, sym, ap, ◌∙◌, subst, append_assoc, append-nil, length-append, arith, inl}
-use Rattle.std.proofs.lemmas.List.{nil_from_length}
-use Rattle.sm_http.specs.declared.message.MessageView.{MessageView}
-use Rattle.sm_http.specs.Fronts.{Shows}
+-- The messages that a reader gives one after the other, and those of all bytes that it read.
+use Rattle.std.proofs.Common.{◌≡◌, ◌⊎◌, ℕ, ◌-◌, ◌+◌, ◌<◌, min, Bool, true, false, MatchBool, MatchOption, List, [], ◌∷◌, ◌++◌, length, Option, None, Some, refl, sym, ap, ◌∙◌, subst, append-nil, inl, inr, arith, if◌then◌else◌}
+use Rattle.std.specs.Prelude.{IfNone}
+use Rattle.std.specs.Io.KnownBytes.{prepend_known}
+use Rattle.sm_base.specs.declared.bad_kind.BadKind.{BadKind}
+use Rattle.sm_io.proofs.Known.{prepend_known-append}
+use Rattle.sm_http.specs.declared.answer.Message.{Message as owned}
+use Rattle.sm_http.specs.declared.answer.Next.{Next}
+use Rattle.sm_http.specs.declared.answer.Next.TheVariants as next
+use Rattle.sm_http.specs.declared.answer.Stop.TheVariants as stop
+use Rattle.sm_http.specs.Chains.{BeginWith, Gave, unread}
 use Rattle.sm_http.specs.Messages.{Message, IsMessage, End, Closing, Bad, Rest, Ends, Messages}
-use Rattle.sm_server.specs.Streams.{EndsWell, IsStream, message_limit, ShowAll, AreWhole, Seen}
-use Rattle.sm_http.proofs.MessageLemmas.{message_unique, partial_is_no_message}
+use Rattle.sm_http.specs.Reading.{ReaderState, content, last_place, stopped, Answers, Reads}
+use Rattle.sm_http.proofs.ChainLemmas.{begin-append, goes_on, gave_nothing, stays_read}
+use Rattle.sm_http.proofs.MessageLemmas.{message_unique, bad_is_no_message, partial_is_no_message}
+use Rattle.sm_http.proofs.OneReadingLemmas.{one_reading}
+use Rattle.sm_server.specs.Streams.{StartWith}
 
--- where a stream ends well, it doesn't matter from where its bytes are numbered
+-- the reader goes on after these messages of the bytes that were read, or the last of them closed the stream
+abbrev pub StandsAfter : List ℕ → List Message → ReaderState → Type 0
+StandsAfter read messages reader = Gave read messages reader
+    ⊎ (Messages read 0 messages Closing × (reader.ended ≡ Some stop.End))
 
-ends_free : (bytes : List ℕ) (a b : ℕ) (end : End) → EndsWell end → Ends bytes a end → Ends bytes b end
-ends_free bytes a b Closing well e = e
-ends_free bytes a b (Bad kind place) well e = absurd well
-ends_free bytes a b (Rest n) well e = e
+-- these messages were given of the bytes that a source had at first, and that is left of them
+pub record GivenSoFar (first : Option (List ℕ)) (messages : List Message) (reader : ReaderState)
+    (left : Option (List ℕ)) : Type 0 where
+  pub read : List ℕ
+  pub reads : first ≡ prepend_known read left
+  pub stands : StandsAfter read messages reader
 
-closing_free : (closing : Bool) (a b : Type 0) (c : Type 0) → (b → c) → MatchBool closing a b → MatchBool closing a c
-closing_free true a b c f h = h
-closing_free false a b c f h = f h
+-- nothing was read
+pub prepend_known-nil : (known : Option (List ℕ)) → prepend_known [] known ≡ known
+prepend_known-nil None = refl
+prepend_known-nil (Some bytes) = refl
 
-numbers_free : (bytes : List ℕ) (a b : ℕ) (messages : List Message) (end : End) → EndsWell end
-    → Messages bytes a messages end → Messages bytes b messages end
-numbers_free bytes a b [] end well h = ends_free bytes a b end well h
-numbers_free bytes a b (message ∷ messages) end well h = (
-  h.0,
-  h.1,
-  closing_free message.closing ((messages ≡ []) × (end ≡ Closing))
-      (Messages h.0 (a + (length bytes - length h.0)) messages end)
-      (Messages h.0 (b + (length bytes - length h.0)) messages end)
-      (numbers_free h.0 (a + (length bytes - length h.0)) (b + (length bytes - length h.0)) messages end well) h.2,
-)
+pub given_none : (left : Option (List ℕ)) → GivenSoFar left [] unread left
+given_none left = record { read = []; reads = sym (prepend_known-nil left); stands = inl gave_nothing }
 
--- before a message that leaves the stream open stands whatever is behind it
-first_whole : (rest behind : List ℕ) (m : Message) (more : List Message) → IsMessage rest m behind → m.closing ≡ false
-    → AreWhole behind more → AreWhole rest (m ∷ more)
-first_whole rest behind m more is stays w =
-    let n = 0 + (length rest - length behind) in (
-      w.0,
-      (
-        behind,
-        is,
-        subst (λ b. MatchBool b ((more ≡ []) × (w.0 ≡ Closing)) (Messages behind n more w.0)) (sym stays)
-            (numbers_free behind 0 n more w.0 w.2 w.1),
-      ),
-      w.2,
-    )
+-- a reader whose stream was closed answers that it ended, and takes nothing
+closed_again : (old new : ReaderState) (answer : Next) (before after : Option (List ℕ)) → old.ended ≡ Some stop.End
+    → Reads old answer new before after → answer ≡ next.End
+closed_again old new answer before after ended reads =
+    (subst (λ o. MatchOption o ((taken : List ℕ) × (before ≡ prepend_known taken after)
+    × Answers old (old.ahead ++ taken) answer new) (λ why. (answer ≡ stopped why) × (new ≡ old))) ended reads).0
 
-abbrev no_messages : List Message
-no_messages = []
+-- what an answer says of the bytes that were read until then, where the reader had not ended
+module _ (first : Option (List ℕ)) (messages : List Message) (old new : ReaderState) (before after : Option (List ℕ))
+    (g : GivenSoFar first messages old before) where
+  -- what was read before and what was taken now
+  both : (taken : List ℕ) → before ≡ prepend_known taken after → first ≡ prepend_known (g.read ++ taken) after
+  both taken e = g.reads ∙ ap (prepend_known g.read) e ∙ prepend_known-append g.read taken after
 
--- a message that closes the stream is its last one
-last_whole : (rest behind : List ℕ) (m : Message) → IsMessage rest m behind → m.closing ≡ true → AreWhole rest (m ∷ [])
-last_whole rest behind m is closing =
-    let n = 0 + (length rest - length behind) in (
-      Closing,
-      (
-        behind,
-        is,
-        subst (λ b. MatchBool b ((no_messages ≡ []) × (Closing ≡ Closing))
-            (Messages behind n [] Closing)) (sym closing) (refl, refl),
-      ),
-      tt,
-    )
+  -- after a message that closes the stream no other answer than the end comes
+  open_yet : (answer : Next) → Reads old answer new before after → (answer ≡ next.End → ⊥) → Gave g.read messages old
+  open_yet answer reads other =
+      elim g.stands [
+        | inl gave ↦ gave
+        | inr closed ↦ absurd (other (closed_again old new answer before after closed.1 reads))
+      ]
 
--- nothing is no message
-no_whole : AreWhole [] []
-no_whole = (Rest 0, (refl, inl (refl, omega (arith))), refl)
+  -- whether the message closes the stream says where the reader stands after it
+  after_message : (m : owned) (read : List ℕ) (closing : Bool) → m.closing ≡ closing
+      → new.ended ≡ (if closing then Some stop.End else None)
+      → MatchBool closing (Messages read 0 (messages ++ content m ∷ []) Closing) (Gave read (messages ++ content m ∷ []) new)
+      → StandsAfter read (messages ++ content m ∷ []) new
+  after_message m read true is ended closed = inr (closed, ended)
+  after_message m read false is ended gave = inl gave
 
-ends_empty : (rest : List ℕ) (end : End) → EndsWell end → Ends rest 0 end → length rest ≡ 0
-ends_empty rest Closing well e = absurd e
-ends_empty rest (Bad kind place) well e = absurd well
-ends_empty rest (Rest n) well e = sym e.0 ∙ well
+  ended_by : (m : owned) → Gave g.read messages old → Reads old (next.Message m) new before after
+      → new.ended ≡ (if m.closing then Some stop.End else None)
+  ended_by m gave reads =
+      let answers = subst (λ o. MatchOption o ((taken : List ℕ) × (before ≡ prepend_known taken after)
+      × Answers old (old.ahead ++ taken) (next.Message m) new)
+      (λ why. (next.Message m ≡ stopped why) × (new ≡ old))) gave.more reads in
+      ap (λ (s : ReaderState). s.ended) answers.2.3
 
-no_message_ends : (rest behind : List ℕ) (m : Message) (end : End) → EndsWell end → Ends rest 0 end
-    → IsMessage rest m behind → ⊥
-no_message_ends rest behind m Closing well e is = e
-no_message_ends rest behind m (Bad kind place) well e is = well
-no_message_ends rest behind m (Rest n) well e is = partial_is_no_message rest m behind e.1 is
+  -- a message is one more
+  pub given_more : (m : owned) → Reads old (next.Message m) new before after
+      → GivenSoFar first (messages ++ content m ∷ []) new after
+  given_more m reads =
+      let gave : Gave g.read messages old =
+      open_yet (next.Message m) reads (λ e. absurd (let h : next.Message m ≡ next.End = e in cc)) in
+      let moved = goes_on g.read messages old new (next.Message m) before after gave reads in
+      record {
+        read = g.read ++ moved.0;
+        reads = both moved.0 moved.1;
+        stands = after_message m (g.read ++ moved.0) m.closing refl (ended_by m gave reads) moved.2;
+      }
 
--- after a message that leaves the stream open come those behind it
-open_only : (rest behind : List ℕ) (m : Message) (all : List Message) → IsMessage rest m behind → m.closing ≡ false
-    → AreWhole rest all
-    → (more : List Message) × (all ≡ m ∷ more) × AreWhole behind more
-open_only rest behind m [] is stays w = absurd (no_message_ends rest behind m w.0 w.2 w.1 is)
-open_only rest behind m (n ∷ more) is stays (end, (after, first, others), well) =
-    let same = message_unique rest n m after behind first is in
-    let at = 0 + (length rest - length after) in
-    let stays' : n.closing ≡ false = ap (λ (x : Message). x.closing) same.0 ∙ stays in
-    let go : Messages after at more end =
-    subst (λ b. MatchBool b ((more ≡ []) × (end ≡ Closing)) (Messages after at more end)) stays' others in (
-      more,
-      ap (λ x. x ∷ more) same.0,
-      (
-        end,
-        numbers_free behind at 0 more end well
-            (subst (λ b. Messages b at more end) same.1 go),
-        well,
-      ),
-    )
+  -- another answer than the end comes only of a reader that had not ended
+  pub given_open : (answer : Next) → Reads old answer new before after → (answer ≡ next.End → ⊥) → (P : Type 0)
+      → IfNone old.ended P → P
+  given_open answer reads other P there = subst (λ o. IfNone o P) (open_yet answer reads other).more there
 
-show_more : (messages : List Message) (views : List MessageView) (m : Message) (view : MessageView)
-    → ShowAll messages views → Shows m view → ShowAll (messages ++ m ∷ []) (views ++ view ∷ [])
-show_more [] [] m view all one = (one, tt)
-show_more [] (v ∷ views) m view all one = absurd all
-show_more (n ∷ messages) [] m view all one = absurd all
-show_more (n ∷ messages) (v ∷ views) m view all one = (all.0, show_more messages views m view all.1 one)
+  pub given_bad : (kind : BadKind) (at : ℕ) → Reads old (next.Bad kind at) new before after
+      → (read : List ℕ) × (first ≡ prepend_known read after)
+      × (place : ℕ) × Messages read 0 messages (Bad kind place) × (at ≡ min place last_place)
+  given_bad kind at reads =
+      let gave = open_yet (next.Bad kind at) reads (λ e. absurd (let h : next.Bad kind at ≡ next.End = e in cc)) in
+      let moved = goes_on g.read messages old new (next.Bad kind at) before after gave reads in
+      (g.read ++ moved.0, both moved.0 moved.1, moved.2.0, moved.2.1, moved.2.2)
 
-show_length : (messages : List Message) (views : List MessageView) → ShowAll messages views
-    → length messages ≡ length views
-show_length [] [] all = refl
-show_length [] (v ∷ views) all = absurd all
-show_length (n ∷ messages) [] all = absurd all
-show_length (n ∷ messages) (v ∷ views) all = let h = show_length messages views all.1 in cc
+  pub given_cut : (n : ℕ) → Reads old (next.Cut n) new before after
+      → (read : List ℕ) × (first ≡ prepend_known read after) × Messages read 0 messages (Rest n) × (0 < n)
+  given_cut n reads =
+      let gave = open_yet (next.Cut n) reads (λ e. absurd (let h : next.Cut n ≡ next.End = e in cc)) in
+      let moved = goes_on g.read messages old new (next.Cut n) before after gave reads in
+      (g.read ++ moved.0, both moved.0 moved.1, moved.2.0, moved.2.1)
 
-pub seen_first : (bytes : List ℕ) → Seen bytes bytes []
-seen_first bytes = record { messages = []; shown = tt; goes = λ more w. w; only = λ all w. (all, refl, w) }
+  pub given_fault : Reads old next.ReadFault new before after
+      → (read : List ℕ) × (first ≡ prepend_known read after) × (n : ℕ) × Messages read 0 messages (Rest n)
+  given_fault reads =
+      let gave = open_yet next.ReadFault reads (λ e. absurd (let h : next.ReadFault ≡ next.End = e in cc)) in
+      let moved = goes_on g.read messages old new next.ReadFault before after gave reads in
+      (g.read ++ moved.0, both moved.0 moved.1, length new.ahead, moved.2)
 
-module _ (bytes rest : List ℕ) (views : List MessageView) (s : Seen bytes rest views) where
-  no_front : (length rest ≡ 0 → ⊥) → ((m : Message) (behind : List ℕ) → IsMessage rest m behind → ⊥)
-      → (more : List Message) → AreWhole rest more → ⊥
-  no_front there none [] w = there (ends_empty rest w.0 w.2 w.1)
-  no_front there none (m ∷ more) (end, (behind, first, others), well) = none m behind first
-
-  -- the bytes are no stream where the rest is not empty and no message is in front of it
-  pub none_in_front : (length rest ≡ 0 → ⊥) → ((m : Message) (behind : List ℕ) → IsMessage rest m behind → ⊥)
-      → (all : List Message) → IsStream bytes all → ⊥
-  none_in_front there none all stream = let o = s.only all stream.1 in no_front there none o.0 o.2
-
-  -- or where there are too many
-  pub too_many : length views ≡ message_limit → (length rest ≡ 0 → ⊥) → (all : List Message) → IsStream bytes all → ⊥
-  too_many full there all stream =
-      let o = s.only all stream.1 in
-      let size : length all ≡ length s.messages + length o.0 = ap length o.1 ∙ length-append s.messages o.0 in
-      let seen : length s.messages ≡ length views = show_length s.messages views s.shown in
-      let few : length all ≤ message_limit = stream.0 in
-      let nothing : o.0 ≡ [] = nil_from_length o.0 (omega (arith, size, seen, full, few)) in
-      let w : AreWhole rest [] = subst (AreWhole rest) nothing o.2 in
-      there (ends_empty rest w.0 w.2 w.1)
-
-  -- the rest is empty
-  pub all_seen : rest ≡ [] → length views ≤ message_limit → (messages : List Message) × IsStream bytes messages
-      × ShowAll messages views
-  all_seen empty few =
-      let w : AreWhole bytes (s.messages ++ []) = s.goes [] (subst (λ r. AreWhole r []) (sym empty) no_whole) in (
-        s.messages,
-        (rw (show_length s.messages views s.shown) few, subst (AreWhole bytes) (append-nil s.messages) w),
-        s.shown,
+  pub given_memory : Reads old next.Memory new before after
+      → (read : List ℕ) × (first ≡ prepend_known read after) × StartWith read messages
+  given_memory reads =
+      let gave = open_yet next.Memory reads (λ e. absurd (let h : next.Memory ≡ next.End = e in cc)) in
+      let moved = goes_on g.read messages old new next.Memory before after gave reads in (
+        g.read ++ moved.0,
+        both moved.0 moved.1,
+        inl (old.ahead ++ moved.0, begin-append g.read moved.0 messages old.ahead gave.begin),
       )
 
-  module _ (behind : List ℕ) (m : Message) (view : MessageView) (is : IsMessage rest m behind)
-      (shows : Shows m view) where
-    pub seen_more : m.closing ≡ false → Seen bytes behind (views ++ view ∷ [])
-    seen_more stays = record {
-      messages = s.messages ++ m ∷ [];
-      shown = show_more s.messages views m view s.shown shows;
-      goes = λ more w. subst (AreWhole bytes) (sym (append_assoc s.messages (m ∷ []) more))
-          (s.goes (m ∷ more) (first_whole rest behind m more is stays w));
-      only = λ all w. (
-          let o = s.only all w in
-          let p = open_only rest behind m o.0 is stays o.2 in
-          (p.0, o.1 ∙ ap (λ x. s.messages ++ x) p.1 ∙ sym (append_assoc s.messages (m ∷ []) p.0), p.2)
-          );
-    }
+  -- the end comes after a message that closes the stream too
+  pub given_end : (P : Type 0) → MatchOption old.ended P (λ _. after ≡ before) → Reads old next.End new before after
+      → (read : List ℕ) × (first ≡ prepend_known read after)
+      × (Messages read 0 messages Closing ⊎ (Messages read 0 messages (Rest 0) × P))
+  given_end P there reads =
+      elim g.stands [
+        | inl gave ↦
+            let moved = goes_on g.read messages old new next.End before after gave reads in
+            let p : P = subst (λ o. MatchOption o P (λ _. after ≡ before)) gave.more there in
+            (g.read ++ moved.0, both moved.0 moved.1, inr (moved.2, p))
+        | inr closed ↦
+            let same : after ≡ before = subst (λ o. MatchOption o P (λ _. after ≡ before)) closed.1 there in
+            (g.read, g.reads ∙ ap (prepend_known g.read) (sym same), inl closed.0)
+      ]
 
-    -- the message closes the stream
-    pub seen_last : m.closing ≡ true → length views < message_limit → (messages : List Message)
-        × IsStream bytes messages × ShowAll messages (views ++ view ∷ [])
-    seen_last closing few =
-        let size : length (s.messages ++ m ∷ []) ≡ length s.messages + 1 = length-append s.messages (m ∷ []) in
-        let seen : length s.messages ≡ length views = show_length s.messages views s.shown in
-        let le : length (s.messages ++ m ∷ []) ≤ message_limit = omega (arith, size, seen, few) in (
-          s.messages ++ m ∷ [],
-          (le, s.goes (m ∷ []) (last_whole rest behind m is closing)),
-          show_more s.messages views m
-              view s.shown shows,
-        )
+-- the messages that were given begin the bytes that were read
+pub given_start : (first : Option (List ℕ)) (messages : List Message) (reader : ReaderState)
+    (left : Option (List ℕ)) (g : GivenSoFar first messages reader left) → StartWith g.read messages
+given_start first messages reader left g =
+    elim g.stands [ inl gave ↦ inl (reader.ahead, gave.begin) | inr closed ↦ inr closed.0 ]
 
-pub not_empty : (rest : List ℕ) → false ≡ (length rest == 0) → length rest ≡ 0 → ⊥
-not_empty rest is e = let f : false ≡ true = is ∙ ap (λ n. n == 0) e in cc
+no_message_at_end : (bytes : List ℕ) (at : ℕ) (end : End) (m : Message) (rest : List ℕ) → Ends bytes at end
+    → IsMessage bytes m rest → ⊥
+no_message_at_end bytes at Closing m rest e is = e
+no_message_at_end bytes at (Bad kind n) m rest e is = bad_is_no_message bytes kind m rest e.1 is
+no_message_at_end bytes at (Rest n) m rest e is = partial_is_no_message bytes m rest e.1 is
+
+begin_prefix : (bytes : List ℕ) (at : ℕ) (messages : List Message) (rest : List ℕ) (all : List Message) (end : End)
+    → BeginWith bytes messages rest → Messages bytes at all end → (more : List Message) × (all ≡ messages ++ more)
+begin_prefix bytes at [] rest all end begin are = (all, refl)
+begin_prefix bytes at (m ∷ ms) rest [] end (behind, is, goes, begin) are =
+    absurd (no_message_at_end bytes at end m behind are is)
+begin_prefix bytes at (m ∷ ms) rest (n ∷ ns) end (behind, is, goes, begin) (behind', other, after) =
+    let first = message_unique bytes m n behind behind' is other in
+    let same : m ≡ n = first.0 in
+    let next : ℕ = at + (length bytes - length behind') in
+    let open' : n.closing ≡ false = sym (ap (λ (x : Message). x.closing) same) ∙ goes in
+    let others : Messages behind' next ns end = subst (λ c. MatchBool c ((ns ≡ []) × (end ≡ Closing))
+    (Messages behind' next ns end)) open' after in
+    let more = begin_prefix behind' next ms rest ns end (subst (λ xs. BeginWith xs ms rest) first.1 begin) others in
+    (more.0, ap (λ xs. n ∷ xs) more.1 ∙ ap (λ x. x ∷ (ms ++ more.0)) (sym same))
+
+-- messages that begin the bytes are the first of all messages of them
+pub start_prefix : (bytes : List ℕ) (messages all : List Message) (end : End) → StartWith bytes messages
+    → Messages bytes 0 all end → (more : List Message) × (all ≡ messages ++ more)
+start_prefix bytes messages all end (inl begin) are = begin_prefix bytes 0 messages begin.0 all end begin.1 are
+start_prefix bytes messages all end (inr closed) are =
+    ([], sym (one_reading bytes 0 messages all Closing end closed are).0 ∙ sym (append-nil messages))
+
+-- and of more bytes
+pub start_more : (bytes more : List ℕ) (messages : List Message) → StartWith bytes messages
+    → StartWith (bytes ++ more) messages
+start_more bytes more messages (inl begin) =
+    inl (begin.0 ++ more, begin-append bytes more messages begin.0 begin.1)
+start_more bytes more messages (inr closed) = inr (stays_read bytes more 0 messages Closing tt closed)
+
+-- no bytes have no message
+pub no_messages : (all : List Message) (end : End) → Messages [] 0 all end → all ≡ []
+no_messages all end are =
+    let none : List Message = [] in
+    let ends : Messages [] 0 none (Rest 0) = (refl, inl (refl, omega arith)) in
+    (one_reading [] 0 all none end (Rest 0) are ends).0

@@ -1,5 +1,5 @@
 -- What one message brings.
-use Rattle.std.proofs.Common.{◌≡◌, ℕ, ◌<◌, List, [], ◌∷◌, length, Option, Some, None, Result, Ok, Err, IfOk, refl, sym, ap, ◌∙◌, inl, inr, subst, option_copied}
+use Rattle.std.proofs.Common.{◌≡◌, ℕ, ◌<◌, List, [], ◌∷◌, length, Some, None, Result, Ok, Err, IfOk, refl, sym, ap, ◌∙◌, inl, inr, subst}
 use Rattle.sm_base.specs.declared.memory.NoMemory.{NoMemory}
 use Rattle.sm_base.specs.declared.moment.Moment.{Moment}
 use Rattle.sm_base.specs.Faults.{Rose}
@@ -15,12 +15,9 @@ use Rattle.sm_account.specs.Outcome.{Outcome, Refuses, Replies, outcome}
 use Rattle.sm_account.specs.States.{Base, state_at}
 use Rattle.sm_account.specs.declared.handled.Handled.{Handled}
 use Rattle.sm_account.specs.declared.handled.Handled.TheVariants as handled
-use Rattle.sm_http.specs.declared.message.MessageView.{MessageView}
-use Rattle.sm_http.specs.Fronts.{Shows}
-use Rattle.sm_http.specs.Messages.{Message}
 use Rattle.sm_reply.specs.Shown.{shown, refused}
 use Rattle.sm_server.specs.declared.reply.MadeReply.{MadeReply}
-use Rattle.sm_server.specs.Answer.{Answer, Envelope, envelope_of, envelope_seen, heard_of, heard, root, question_of, answer_of}
+use Rattle.sm_server.specs.Answer.{Answer, root, question_of, answer_of}
 use Rattle.sm_server.specs.Outside.{Told, nothing_told, Growth}
 use Rattle.sm_server.specs.Replies.{IsReply, Says, unavailable, reply_made}
 use Rattle.sm_server.specs.Turns.{Turn, AnswerAt, entry_marks, LeavesFault, RequestTurn, TurnOf}
@@ -152,13 +149,3 @@ pub unread_turn : (base : Base) (history : List (ℕ × Mark)) (heard : Result R
     })
 unread_turn base history (Ok request) grown = inr (inr (refl, inl (refl, refl)))
 unread_turn base history (Err why) grown = ((refl, refl), inr refl)
-
--- what the server looks at in a message is what the message says
-pub heard_shown : (m : Message) (view : MessageView) → Shows m view → heard_of (envelope_seen view) ≡ heard m
-heard_shown m view s =
-    let of : List ℕ → List ℕ → Option (List ℕ) → List ℕ → Envelope =
-    λ method path target body. record { method = method; path = path; target = target; body = body } in
-    ap (λ x. heard_of (of x view.path.now (option_copied view.target) view.body.now)) s.method
-    ∙ ap (λ x. heard_of (of m.method x (option_copied view.target) view.body.now)) s.path
-    ∙ ap (λ x. heard_of (of m.method m.path x view.body.now)) s.target
-    ∙ ap (λ x. heard_of (of m.method m.path (envelope_of m).target x)) s.body

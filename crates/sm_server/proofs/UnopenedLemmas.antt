@@ -1,25 +1,72 @@
 -- Runs whose account was not opened.
-use Rattle.std.proofs.Common.{◌≡◌, ◌≤◌, ℕ, List, [], None, true, refl, sym, ◌∙◌, inl, inr, arith}
+use Rattle.std.proofs.Common.{◌≡◌, ◌⊎◌, ◌≤◌, Bool, true, false, if◌then◌else◌, [], Option, None, Some, refl, sym, ap, ◌∙◌, subst, inl, inr, arith}
 use Rattle.sm_base.specs.Faults.{Rose}
 use Rattle.sm_disk.specs.declared.disk.Disk.{Ghosts}
 use Rattle.sm_journal.specs.declared.answers.OpenRefused.{OpenRefused}
 use Rattle.sm_journal.specs.declared.answers.OpenRefused.TheVariants.{Damaged, Failed, Memory}
 use Rattle.sm_account.specs.Openings.{IsRefused}
-use Rattle.sm_server.specs.Outside.{Outside}
-use Rattle.sm_server.specs.Ran.{Story, course_of, Ended, WordsDecide, are_words, Ran}
+use Rattle.sm_words.specs.declared.settings.Mode.{Mode}
+use Rattle.sm_words.specs.declared.settings.Mode.TheVariants.{Exec, Serve, Check, Drill}
+use Rattle.sm_words.specs.declared.settings.Settings.{Settings}
+use Rattle.sm_server.specs.declared.status.Status.{Status}
+use Rattle.sm_server.specs.declared.status.Status.TheVariants as statuses
+use Rattle.sm_server.specs.Asked.{is_unbuilt, end_of_mode, end_of_words, EndsAtWords, WordsDecide}
+use Rattle.sm_server.specs.Outside.{Outside, nothing_told}
+use Rattle.sm_server.specs.Ran.{Story, course_of, AreAnswered, Ended, Runs}
 use Rattle.sm_server.specs.Stored.{status_unopened, disk_unopened, Leaves}
-use Rattle.sm_server.proofs.EndLemmas.{Still, idle, prepend_known-nil, runs_idle}
+use Rattle.sm_server.specs.Turns.{brought_nothing}
+use Rattle.sm_server.proofs.KnownLemmas.{append_known-nil}
+use Rattle.sm_server.proofs.RunLemmas.{trace_of, passed_by}
+use Rattle.sm_server.proofs.StreamLemmas.{prepend_known-nil}
 
 -- nothing was opened, and nothing happened
 abbrev pub no_story : Story
 no_story = record { taken = []; history = []; failed = None }
+
+-- between these nothing was read, written, read from the clock or drawn, and only the disk's count may have risen
+pub record Still (before after : Outside) : Type 0 where
+  pub left : after.left ≡ before.left
+  pub taken : after.taken ≡ before.taken
+  pub readings : after.readings ≡ before.readings
+  pub drawn : after.drawn ≡ before.drawn
+  pub disk : before.counts.disk ≤ after.counts.disk
+  pub random : after.counts.random ≡ before.counts.random
+
+module _ (before after : Outside) (still : Still before after) where
+  abbrev none_answered : AreAnswered (course_of no_story) [] (trace_of before after [] nothing_told)
+  none_answered = record {
+    brought = brought_nothing before.counts.disk before.counts.random;
+    turns = refl;
+    history = refl;
+    accepted = tt;
+    told = refl;
+    disk = (omega arith, omega (arith, still.disk));
+    random = ap (λ n. record { before = before.counts.random; after = n }) still.random;
+  }
+
+  memory_ended : Ended (course_of no_story) statuses.Memory [] after.left (trace_of before after [] nothing_told)
+  memory_ended =
+      record { messages = []; answered = none_answered; ends = (omega arith, refl, inl ([], refl)) }
+
+  runs_still : (status : Status)
+      → Ended (course_of no_story) status [] after.left (trace_of before after [] nothing_told)
+      → Runs (course_of no_story) status before after
+  runs_still status ended = record {
+    input = [];
+    trace = trace_of before after [] nothing_told;
+    reads = sym still.left ∙ sym (prepend_known-nil after.left);
+    passed = passed_by before after [] nothing_told (still.taken ∙ sym (append_known-nil before.taken))
+        (still.readings ∙ sym (append_known-nil before.readings))
+        (still.drawn ∙ sym (append_known-nil before.drawn));
+    ended = ended;
+  }
 
 module _ {D : Type 0} (G : Ghosts D) (old : D) where
   pub leaves_unopened : (refused : OpenRefused D) → IsRefused G old refused
       → Leaves G (status_unopened refused) no_story old (disk_unopened refused)
   leaves_unopened (Damaged now damage) r = r
   leaves_unopened (Failed now) r = r
-  leaves_unopened (Memory now) r = inl r
+  leaves_unopened (Memory now) r = inr (inl r)
 
   -- the disk's count did not fall
   pub later_unopened : (refused : OpenRefused D) → IsRefused G old refused
@@ -29,28 +76,72 @@ module _ {D : Type 0} (G : Ghosts D) (old : D) where
   later_unopened (Failed now) r = r.1
   later_unopened (Memory now) r = r.1
 
-  ended_unopened : (refused : OpenRefused D) (before after : Outside) → IsRefused G old refused
+  -- the run whose account was not opened
+  pub runs_unopened : (refused : OpenRefused D) (before after : Outside) → IsRefused G old refused
       → before.counts.disk ≡ G.faults old → after.counts.disk ≡ G.faults (disk_unopened refused)
-      → Ended (course_of no_story) (status_unopened refused) [] after.left (idle before after)
-  ended_unopened (Damaged now damage) before after r first last = (refl, (refl, refl, refl))
-  ended_unopened (Failed now) before after r first last =
+      → Still before after → Runs (course_of no_story) (status_unopened refused) before after
+  runs_unopened (Damaged now damage) before after r first last still =
+      runs_still before after still (statuses.Damaged damage.at damage.entry) (refl, (refl, refl, refl))
+  runs_unopened (Failed now) before after r first last still =
       let rose : Rose before.counts.disk after.counts.disk = omega (arith, r.2, first, last) in
-      (refl, rose, (refl, refl, refl))
-  ended_unopened (Memory now) before after r first last = (refl, refl, refl)
+      runs_still before after still statuses.OpenFault (refl, (refl, refl, refl), rose)
+  runs_unopened (Memory now) before after r first last still =
+      runs_still before after still statuses.Memory (memory_ended before after still)
 
-  words_unopened : (refused : OpenRefused D) (words : List (List ℕ)) → are_words words ≡ true
-      → WordsDecide (status_unopened refused) (are_words words)
-  words_unopened (Damaged now damage) words are = are
-  words_unopened (Failed now) words are = are
-  words_unopened (Memory now) words are = are
+  pub words_unopened : (refused : OpenRefused D) (asked : Option Settings) → end_of_words asked ≡ None
+      → WordsDecide (status_unopened refused) asked
+  words_unopened (Damaged now damage) asked are = are
+  words_unopened (Failed now) asked are = are
+  words_unopened (Memory now) asked are = tt
 
-  -- the run of these words that ended so
-  pub ran_unopened : (refused : OpenRefused D) (words : List (List ℕ)) (before after : Outside)
-      → IsRefused G old refused → are_words words ≡ true → before.counts.disk ≡ G.faults old
-      → after.counts.disk ≡ G.faults (disk_unopened refused) → after.left ≡ before.left → Still before after
-      → Ran words (status_unopened refused) before after no_story
-  ran_unopened refused words before after r are first last left still = record {
-    words_decide = words_unopened refused words are;
-    runs = runs_idle (course_of no_story) before after [] (sym left ∙ sym (prepend_known-nil after.left))
-        (omega arith) (status_unopened refused) still (ended_unopened refused before after r first last);
-  }
+-- runs that do not follow their words
+
+at_mode : (mode : Mode) (unbuilt : Bool) (status : Status)
+    → Some status ≡ end_of_mode mode (if unbuilt then Some statuses.NotBuilt else None)
+    → (status ≡ statuses.Words) ⊎ (status ≡ statuses.NotBuilt)
+at_mode Exec true status is = inr (let h : Some status ≡ Some statuses.NotBuilt = is in cc)
+at_mode Exec false status is = absurd (let h : Some status ≡ None = is in cc)
+at_mode Serve unbuilt status is = inl (let h : Some status ≡ Some statuses.Words = is in cc)
+at_mode Check unbuilt status is = inr (let h : Some status ≡ Some statuses.NotBuilt = is in cc)
+at_mode Drill unbuilt status is = inr (let h : Some status ≡ Some statuses.NotBuilt = is in cc)
+
+at_words : (asked : Option Settings) (status : Status) → Some status ≡ end_of_words asked
+    → (status ≡ statuses.Words) ⊎ (status ≡ statuses.NotBuilt)
+at_words None status is = inl (let h : Some status ≡ Some statuses.Words = is in cc)
+at_words (Some settings) status is =
+    at_mode settings.mode (is_unbuilt settings.people settings.rotator) status is
+
+-- by how such a run ends
+by_end : (P : Status → Type 0) (status : Status) (asked : Option Settings) → EndsAtWords (Some status) asked
+    → P statuses.Memory → (Some statuses.Words ≡ end_of_words asked → P statuses.Words)
+    → (Some statuses.NotBuilt ≡ end_of_words asked → P statuses.NotBuilt) → P status
+by_end P status asked (inl is) memory words unbuilt =
+    let same : status ≡ statuses.Memory = cc in subst P (sym same) memory
+by_end P status asked (inr is) memory words unbuilt =
+    let Is : Status → Type 0 = λ s. Some s ≡ end_of_words asked in
+    elim (at_words asked status is) [
+      | inl w ↦ subst P (sym w) (words (subst Is w is))
+      | inr n ↦ subst P (sym n) (unbuilt (subst Is n is))
+    ]
+
+module _ (status : Status) (asked : Option Settings) (ends : EndsAtWords (Some status) asked) where
+  pub words_decide : WordsDecide status asked
+  words_decide = by_end (λ s. WordsDecide s asked) status asked ends tt (λ is. sym is) (λ is. sym is)
+
+  pub runs_words : (outside : Outside) → Runs (course_of no_story) status outside outside
+  runs_words outside =
+      let still : Still outside outside =
+      record { left = refl; taken = refl; readings = refl; drawn = refl; disk = omega arith; random = refl } in
+      by_end (λ s. Runs (course_of no_story) s outside outside) status asked ends
+      (runs_still outside outside still statuses.Memory (memory_ended outside outside still))
+      (λ is. runs_still outside outside still statuses.Words (refl, (refl, refl, refl)))
+      (λ is. runs_still outside outside still statuses.NotBuilt (refl, (refl, refl, refl)))
+
+  pub leaves_words : {D : Type 0} (G : Ghosts D) (disk : D) → Leaves G status no_story disk disk
+  leaves_words G disk =
+      by_end (λ s. Leaves G s no_story disk disk) status asked ends (inl refl) (λ is. refl) (λ is. refl)
+
+-- words that are followed
+pub followed : (asked : Option Settings) → EndsAtWords None asked → end_of_words asked ≡ None
+followed asked (inl is) = absurd (let none : Option Status = None in let h : none ≡ Some statuses.Memory = is in cc)
+followed asked (inr is) = sym is

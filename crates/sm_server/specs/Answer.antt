@@ -1,5 +1,5 @@
 -- The answer to a message at a history: the model of the API that every reply is compared with.
-use Rattle.std.specs.Prelude.{ℕ, Bool, true, ◌&&◌, if◌then◌else◌, List, [], Option, Some, None, Result, Ok, Err, codes, option_copied}
+use Rattle.std.specs.Prelude.{ℕ, Bool, true, ◌&&◌, if◌then◌else◌, List, [], Option, Some, None, Result, Ok, Err, codes}
 use Rattle.std.specs.Str.{bytes_eq}
 use Rattle.sm_model.specs.declared.entry.Entry.{Entry}
 use Rattle.sm_model.specs.declared.entry.Mark.{Mark}
@@ -9,7 +9,6 @@ use Rattle.sm_model.specs.declared.why.Why.{Why}
 use Rattle.sm_model.specs.declared.why.Why.TheVariants as whys
 use Rattle.sm_account.specs.Outcome.{Outcome, Refuses, Replies, Question, outcome}
 use Rattle.sm_account.specs.States.{Base, state_at}
-use Rattle.sm_http.specs.declared.message.MessageView.{MessageView}
 use Rattle.sm_http.specs.Heads.{field_of}
 use Rattle.sm_http.specs.Messages.{Message}
 use Rattle.sm_json.specs.Built.{asks_built}
@@ -36,21 +35,13 @@ abbrev pub heard_of : Envelope → Result Request Why
 heard_of envelope = if is_request envelope then named_request envelope.target envelope.body
     else Err whys.UnknownOperation
 
--- of a message, and of what the server sees of one
+-- of a message
 abbrev pub envelope_of : Message → Envelope
 envelope_of message = record {
   method = message.method;
   path = message.path;
   target = field_of (codes "x-amz-target") message.fields;
   body = message.body;
-}
-
-abbrev pub envelope_seen : MessageView → Envelope
-envelope_seen view = record {
-  method = view.method.now;
-  path = view.path.now;
-  target = option_copied view.target;
-  body = view.body.now;
 }
 
 abbrev pub heard : Message → Result Request Why

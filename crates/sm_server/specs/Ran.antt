@@ -1,33 +1,25 @@
 -- What a run of the program over one stream does.
-use Rattle.std.specs.Prelude.{◌≡◌, ℕ, ◌+◌, ◌-◌, ◌^◌, min, ◌<◌, ◌≤◌, ◌⊎◌, Bool, ◌&&◌, false, true, List, [], ◌∷◌, ◌++◌, length, take, Option, codes}
+use Rattle.std.specs.Prelude.{◌≡◌, ℕ, min, ◌<◌, ◌≤◌, ◌⊎◌, List, [], ◌∷◌, ◌++◌, length, take, Option}
 use Rattle.std.specs.Io.KnownBytes.{prepend_known, IsAtEnd}
 use Rattle.std.specs.List.{flat_map}
-use Rattle.std.specs.Str.{bytes_eq}
 use Rattle.sm_base.specs.Faults.{Rose}
+use Rattle.sm_base.specs.declared.bad_kind.BadKind.{BadKind}
 use Rattle.sm_model.specs.declared.entry.Entry.{Entry}
 use Rattle.sm_model.specs.declared.entry.Mark.{Mark}
 use Rattle.sm_model.specs.declared.limits.TheConstants.{JOURNAL_LIMIT}
 use Rattle.sm_core.specs.Histories.{Legal}
 use Rattle.sm_account.specs.History.{entries_in}
 use Rattle.sm_account.specs.States.{Base, base_of}
-use Rattle.sm_http.specs.Messages.{Message}
+use Rattle.sm_http.specs.Messages.{Message, Closing, Bad, Rest, Messages}
+use Rattle.sm_http.specs.Reading.{last_place}
 use Rattle.sm_reply.specs.Shown.{Answered}
 use Rattle.sm_server.specs.declared.status.Status.{Status}
-use Rattle.sm_server.specs.declared.status.Status.TheVariants.{Done, Words, Damaged, OpenFault, Memory, SinkFault, SourceFault, NotBuilt}
+use Rattle.sm_server.specs.declared.status.Status.TheVariants.{Done, Words, Damaged, OpenFault, Memory, SinkFault, SourceFault, Cut, BadMessage, Enough, NotBuilt}
+use Rattle.sm_server.specs.Incoming.{count_limit}
 use Rattle.sm_server.specs.Outside.{Outside, Trace, Passed, Within, nothing_told}
-use Rattle.sm_server.specs.Replies.{framed_answer}
-use Rattle.sm_server.specs.Streams.{IsStream}
+use Rattle.sm_server.specs.Replies.{IsBadReply, framed_answer}
+use Rattle.sm_server.specs.Streams.{message_limit, StartWith}
 use Rattle.sm_server.specs.Turns.{Brought, Turns}
-
--- the words that are taken
-abbrev pub are_words : List (List ℕ) → Bool
-are_words (a ∷ b ∷ c ∷ d ∷ []) = bytes_eq a (codes "--mode") && bytes_eq b (codes "exec")
-    && bytes_eq c (codes "--number") && bytes_eq d (codes "0")
-are_words words = false
-
--- how many bytes are answered at most; one more are read
-abbrev pub input_limit : ℕ
-input_limit = 4194304
 
 -- the bytes of replies, one after the other
 abbrev pub joined : List Answered → List ℕ
@@ -56,65 +48,84 @@ pub record AreAnswered (course : Course) (messages : List Message) (trace : Trac
   pub disk : Within brought.disk trace.disk
   pub random : trace.random ≡ brought.random
 
--- all messages were answered, and their replies written
-pub record AllAnswered (course : Course) (messages : List Message) (trace : Trace) : Type 0 where
-  pub answered : AreAnswered course messages trace
-  pub writes : trace.written ≡ joined answered.brought.replies
-
--- the greatest count of bytes that is told
-abbrev pub count_limit : ℕ
-count_limit = 2 ^ 64 - 1
-
--- the sink failed within the reply to one of them: no message after that was answered
-pub record CutAt (course : Course) (messages : List Message) (counted : ℕ) (trace : Trace) : Type 0 where
-  pub first : List Message
-  pub unanswered : List Message
-  pub parts : messages ≡ first ++ unanswered
-  pub answered : AreAnswered course first trace
-  pub earlier : List Answered
-  pub last : Answered
-  pub replies : answered.brought.replies ≡ earlier ++ last ∷ []
+-- the sink failed within this reply, behind the earlier ones
+pub record CutWithin (earlier : List Answered) (last : Answered) (counted : ℕ) (written : List ℕ) : Type 0 where
   pub size : ℕ
   pub short : size < length (framed_answer last)
-  pub writes : trace.written ≡ joined earlier ++ take size (framed_answer last)
-  pub counts : counted ≡ min (length trace.written) count_limit
+  pub writes : written ≡ joined earlier ++ take size (framed_answer last)
+  pub counts : counted ≡ min (length written) count_limit
 
--- how messages were answered
-abbrev pub AnswersAll : Course → Status → List Message → Trace → Type 0
-AnswersAll course Done messages trace = AllAnswered course messages trace
-AnswersAll course (SinkFault counted) messages trace =
-    Rose trace.sink.before trace.sink.after × CutAt course messages counted trace
-AnswersAll course other messages trace = ⊥
+-- it failed within the reply to the last of the messages that were answered
+pub record CutAtLast (input : List ℕ) (messages : List Message) (replies : List Answered) (counted : ℕ)
+    (written : List ℕ) : Type 0 where
+  pub begin : StartWith input messages
+  pub earlier : List Answered
+  pub last : Answered
+  pub parts : replies ≡ earlier ++ last ∷ []
+  pub within : CutWithin earlier last counted written
 
--- how input was answered
-abbrev pub Answers : Course → Status → List ℕ → Trace → Type 0
-Answers course Memory input trace = NothingDone course.history trace
-Answers course NotBuilt input trace =
-    ((messages : List Message) → IsStream input messages → ⊥) × NothingDone course.history trace
-Answers course status input trace =
-    (messages : List Message) × IsStream input messages × AnswersAll course status messages trace
+-- it failed within the reply to the bad message behind them
+pub record CutAtBad (input : List ℕ) (messages : List Message) (replies : List Answered) (counted : ℕ)
+    (written : List ℕ) : Type 0 where
+  pub kind : BadKind
+  pub place : ℕ
+  pub ends : Messages input 0 messages (Bad kind place)
+  pub fewer : length messages < message_limit
+  pub last : Answered
+  pub is : IsBadReply kind last
+  pub within : CutWithin replies last counted written
 
--- why the run ended so, where it read this input and the source has that left
+-- a bad message follows those that were answered, and its reply follows theirs
+pub record AnsweredBadly (input : List ℕ) (messages : List Message) (replies : List Answered) (at : ℕ)
+    (written : List ℕ) : Type 0 where
+  pub kind : BadKind
+  pub place : ℕ
+  pub ends : Messages input 0 messages (Bad kind place)
+  pub at_is : at ≡ min place last_place
+  pub last : Answered
+  pub is : IsBadReply kind last
+  pub writes : written ≡ joined replies ++ framed_answer last
+
+-- Why a run ended so that answered these messages of the bytes that it read, where that is left of the source, with
+-- these replies. Only at a bad message more was written than the replies, and only where the sink failed less. After as
+-- many messages as are answered at most the run ends by that, whatever follows.
+abbrev pub EndsBy : Status → List ℕ → Option (List ℕ) → List Message → List Answered → Trace → Type 0
+EndsBy Done input left messages replies trace =
+    (length messages < message_limit) × (trace.written ≡ joined replies)
+    × (Messages input 0 messages Closing ⊎ (Messages input 0 messages (Rest 0) × IsAtEnd left))
+EndsBy (Cut n) input left messages replies trace =
+    (length messages < message_limit) × (trace.written ≡ joined replies)
+    × Messages input 0 messages (Rest n) × (0 < n) × IsAtEnd left
+EndsBy (BadMessage at) input left messages replies trace =
+    (length messages < message_limit) × AnsweredBadly input messages replies at trace.written
+EndsBy Enough input left messages replies trace =
+    (length messages ≡ message_limit) × (trace.written ≡ joined replies) × StartWith input messages
+EndsBy SourceFault input left messages replies trace =
+    (length messages < message_limit) × (trace.written ≡ joined replies)
+    × (n : ℕ) × Messages input 0 messages (Rest n) × Rose trace.source.before trace.source.after
+EndsBy (SinkFault counted) input left messages replies trace =
+    (length messages ≤ message_limit) × Rose trace.sink.before trace.sink.after
+    × (CutAtLast input messages replies counted trace.written ⊎ CutAtBad input messages replies counted trace.written)
+EndsBy Memory input left messages replies trace =
+    (length messages < message_limit) × (trace.written ≡ joined replies) × StartWith input messages
+EndsBy other input left messages replies trace = ⊥
+
+-- why a run ended so that answered messages of the bytes that it read
+pub record Answers (course : Course) (status : Status) (input : List ℕ) (left : Option (List ℕ)) (trace : Trace)
+    : Type 0 where
+  pub messages : List Message
+  pub answered : AreAnswered course messages trace
+  pub ends : EndsBy status input left messages answered.brought.replies trace
+
+-- why the run ended so, where it read this input and the source has that left; no byte is read before an account is
+-- opened
 abbrev pub Ended : Course → Status → List ℕ → Option (List ℕ) → Trace → Type 0
--- nothing was read
 Ended course Words input left trace = (input ≡ []) × NothingDone course.history trace
+Ended course NotBuilt input left trace = (input ≡ []) × NothingDone course.history trace
 Ended course (Damaged at entry) input left trace = (input ≡ []) × NothingDone course.history trace
 Ended course OpenFault input left trace =
-    (input ≡ []) × Rose trace.disk.before trace.disk.after × NothingDone course.history trace
-Ended course Memory input left trace = NothingDone course.history trace
-Ended course SourceFault input left trace =
-    Rose trace.source.before trace.source.after × NothingDone course.history trace
--- there are more bytes than are answered, or they are no whole messages, or too many of them
-Ended course NotBuilt input left trace =
-    ((input_limit < length input) × NothingDone course.history trace)
-    ⊎ (IsAtEnd left × Answers course NotBuilt input trace)
-Ended course status input left trace =
-    IsAtEnd left × (length input ≤ input_limit) × Answers course status input trace
-
--- the words decide whether anything is opened and read
-abbrev pub WordsDecide : Status → Bool → Type 0
-WordsDecide Words taken = taken ≡ false
-WordsDecide other taken = taken ≡ true
+    (input ≡ []) × NothingDone course.history trace × Rose trace.disk.before trace.disk.after
+Ended course status input left trace = Answers course status input left trace
 
 -- the entries that the disk recovered at the opening, the history since, and the entry whose write failed last, while
 -- that may stand on the disk
@@ -132,11 +143,5 @@ pub record Runs (course : Course) (status : Status) (before after : Outside) : T
   pub input : List ℕ
   pub trace : Trace
   pub reads : before.left ≡ prepend_known input after.left
-  pub within : length input ≤ input_limit + 1
   pub passed : Passed before after trace
   pub ended : Ended course status input after.left trace
-
--- a run with these words that ended so
-pub record Ran (words : List (List ℕ)) (status : Status) (before after : Outside) (story : Story) : Type 0 where
-  pub words_decide : WordsDecide status (are_words words)
-  pub runs : Runs (course_of story) status before after

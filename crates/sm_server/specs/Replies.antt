@@ -1,7 +1,8 @@
 -- The code's replies beside the model's.
-use Rattle.std.specs.Prelude.{◌≡◌, ℕ, List, Result, Ok, Err, IfOk, IsErr}
+use Rattle.std.specs.Prelude.{◌≡◌, ◌⊎◌, ℕ, List, Result, Ok, Err, IfOk, IsErr}
 use Rattle.sm_account.specs.declared.handled.Handled.{Handled}
 use Rattle.sm_account.specs.declared.handled.Handled.TheVariants as handled
+use Rattle.sm_base.specs.declared.bad_kind.BadKind.{BadKind}
 use Rattle.sm_base.specs.declared.memory.NoMemory.{NoMemory}
 use Rattle.sm_model.specs.declared.why.Why.TheVariants as whys
 use Rattle.sm_http.specs.Framed.{framed}
@@ -31,3 +32,7 @@ Says handled.Memory result = IsErr result
 -- a reply's bytes
 abbrev pub framed_answer : Answered → List ℕ
 framed_answer answer = framed answer.status answer.body
+
+-- the reply to a bad message: that of its fault, or the one for want of memory in its place
+abbrev pub IsBadReply : BadKind → Answered → Type 0
+IsBadReply kind answer = (answer ≡ refused (whys.Http kind)) ⊎ (answer ≡ unavailable)

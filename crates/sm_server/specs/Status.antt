@@ -17,3 +17,11 @@ code_of (Cut bytes) = 10
 code_of (BadMessage place) = 11
 code_of Enough = 12
 code_of NotBuilt = 13
+
+-- a run that ended so had its account opened
+abbrev pub WasOpened : Status → Type 0
+WasOpened Words = ⊥
+WasOpened NotBuilt = ⊥
+WasOpened (Damaged at entry) = ⊥
+WasOpened OpenFault = ⊥
+WasOpened status = Unit {0}

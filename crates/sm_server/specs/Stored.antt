@@ -13,7 +13,7 @@ use Rattle.sm_account.specs.Books.{IsLegal, MayFollowIf, FaultsBound}
 use Rattle.sm_account.specs.History.{entries_in}
 use Rattle.sm_account.specs.Openings.{IsRefused}
 use Rattle.sm_server.specs.declared.status.Status.{Status}
-use Rattle.sm_server.specs.declared.status.Status.TheVariants.{Words, Damaged, OpenFault, Memory}
+use Rattle.sm_server.specs.declared.status.Status.TheVariants.{Words, Damaged, OpenFault, Memory, NotBuilt}
 use Rattle.sm_server.specs.Ran.{Story}
 
 -- the recovered entries and those of the history
@@ -35,13 +35,6 @@ pub record Records {D : Type 0} (G : Ghosts D) (story : Story) (old now : D) : T
   pub recovered : ReadsAs JOURNAL (λ bytes. HasEntries bytes story.taken) (G.sight old)
   pub stands : Stands G story old now
 
--- a run that ended so had its account opened
-abbrev pub WasOpened : Status → Type 0
-WasOpened Words = ⊥
-WasOpened (Damaged at entry) = ⊥
-WasOpened OpenFault = ⊥
-WasOpened status = Unit {0}
-
 -- how a run ends where the opening was refused, and the disk that is handed back
 abbrev pub status_unopened : {D : Type 0} → OpenRefused D → Status
 status_unopened (refusals.Damaged disk damage) = Damaged damage.at damage.entry
@@ -53,12 +46,13 @@ disk_unopened (refusals.Damaged disk damage) = disk
 disk_unopened (refusals.Failed disk) = disk
 disk_unopened (refusals.Memory disk) = disk
 
--- What a run leaves of the disk: where the words were refused it is as it was, where the opening was refused the
+-- What a run leaves of the disk: where the words were not followed it is as it was, where the opening was refused the
 -- account's own clause speaks of it, and else it has the story.
 abbrev pub Leaves : {D : Type 0} → Ghosts D → Status → Story → D → D → Type 0
 Leaves G Words story old new = new ≡ old
+Leaves G NotBuilt story old new = new ≡ old
 Leaves G (Damaged at entry) story old new =
     IsRefused G old (refusals.Damaged new (record { at = at; entry = entry }))
 Leaves G OpenFault story old new = IsRefused G old (refusals.Failed new)
-Leaves G Memory story old new = IsRefused G old (refusals.Memory new) ⊎ Records G story old new
+Leaves G Memory story old new = (new ≡ old) ⊎ (IsRefused G old (refusals.Memory new) ⊎ Records G story old new)
 Leaves G status story old new = Records G story old new

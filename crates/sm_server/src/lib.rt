@@ -2,12 +2,15 @@
 #![tactic(auto)]
 
 mod answering;
+mod asked;
 mod hear;
+mod incoming;
 mod reply;
 mod run;
+mod sending;
 mod status;
-mod stream;
 mod turn;
 
+pub use asked::end_of_settings;
 pub use run::run_once;
 pub use status::Status;

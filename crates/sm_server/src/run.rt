@@ -1,13 +1,15 @@
 //! The top call over one stream.
 ghost use Rattle.std.specs.Prelude.{◌≡◌, ◌≤◌, [], None, map, string_bytes};
-ghost use Rattle.std.specs.Str.{bytes_eq};
 ghost use Rattle.sm_account.specs.Accounts.{history, base, began, taken, disk, failed};
 ghost use Rattle.sm_account.specs.States.{base_of};
 ghost use Rattle.sm_model.specs.declared.limits.TheConstants.{JOURNAL_LIMIT};
-ghost use Rattle.sm_server.specs.Ran.{Ran, Runs, Story, course_of, are_words};
-ghost use Rattle.sm_server.specs.Stored.{Leaves, Stands, WasOpened, status_unopened, disk_unopened};
+ghost use Rattle.sm_server.specs.Complete.{Ran};
+ghost use Rattle.sm_server.specs.Ran.{Runs, Story, course_of};
+ghost use Rattle.sm_server.specs.Status.{WasOpened};
+ghost use Rattle.sm_server.specs.Stored.{Leaves, Stands, status_unopened, disk_unopened};
 
 use crate::answering::answer_source;
+use crate::asked::end_of_words;
 use crate::status::Status;
 use sm_account::{Account, OpenRefused};
 use sm_disk::Disk;
@@ -16,8 +18,9 @@ use sm_model::limits::JOURNAL_LIMIT;
 use sm_rotator::NoRotator;
 use std::alloc::Global;
 
-/// Opens the account of the disk, reads all messages from the source, judges them one after the other on the account,
-/// and writes the replies to the sink. The words are those of the program's command line. The disk is handed back.
+/// Follows the words of a command line: opens the account of the disk, and answers the messages of the source one after
+/// the other, at most 1,000. The reply to each is written to the sink before the next one is read. The disk is handed
+/// back.
 pub fn run_once<Q: Source, K: Sink, D: Disk, C: Clock, W: Words>(
     alloc: Global,
     words: &[String],
@@ -59,12 +62,12 @@ pub fn run_once<Q: Source, K: Sink, D: Disk, C: Clock, W: Words>(
     ensures disk_later { D.faults disk ≤ D.faults result.1 }
     ensures random_later { W.faults random.old ≤ W.faults random.new }
 {
-    if !are_words(words) {
-        return (Status::Words, disk);
-    }
-    match Account::open(alloc, disk, 1, JOURNAL_LIMIT) {
-        Ok(account) => run_opened(alloc, account, source, sink, clock, random),
-        Err(refused) => end_unopened(refused),
+    match end_of_words(alloc, words) {
+        Some(status) => (status, disk),
+        None => match Account::open(alloc, disk, 1, JOURNAL_LIMIT) {
+            Ok(account) => run_opened(alloc, account, source, sink, clock, random),
+            Err(refused) => end_unopened(refused),
+        },
     }
 }
 
@@ -80,25 +83,7 @@ fn end_unopened<D>(refused: OpenRefused<D>) -> (Status, D)
     }
 }
 
-/// Whether the words are those that are taken.
-fn are_words(words: &[String]) -> bool
-    ensures { result ≡ are_words (map string_bytes words.now) }
-{
-    match words {
-        [a, b, c, d] => {
-            is_word(a, "--mode") && is_word(b, "exec") && is_word(c, "--number") && is_word(d, "0")
-        }
-        _ => false,
-    }
-}
-
-fn is_word(word: &String, wanted: &str) -> bool
-    ensures { result ≡ bytes_eq (string_bytes word.now) wanted.now }
-{
-    word.as_str() == wanted
-}
-
-/// Reads all messages from the source, and answers them on an account that was just opened.
+/// Answers the messages of the source on an account that was just opened.
 fn run_opened<Q: Source, K: Sink, D: Disk, C: Clock, W: Words>(
     alloc: Global,
     account: Account<D, NoRotator>,

@@ -2,17 +2,17 @@
 ghost use Rattle.std.specs.Prelude.{◌≡◌};
 ghost use Rattle.sm_server.specs.Status.{code_of};
 
-/// How a top call ended. Damaged, OpenFault, People, EdgeFault, Cut, BadMessage and Enough are not met yet.
+/// How a top call ended. People and EdgeFault are not met yet.
 #[derive(Clone, Copy, Debug, PartialEq, Eq)]
 pub enum Status {
     Done,
-    /// The words are not ones that are taken.
+    /// The words are refused, or ask for what another top call does.
     Words,
     /// The journal is damaged: at this byte, in the entry of this number, counted from 0.
     Damaged(u64, u64),
     /// The disk failed when the account was opened.
     OpenFault,
-    /// There was no memory to read the messages.
+    /// There was no memory to read the words, to open the account or to read a message.
     Memory,
     /// The text of the people is wrong at this byte.
     People(u64),
@@ -25,7 +25,7 @@ pub enum Status {
     Cut(u64),
     /// A message is wrong, whose first byte has this number, counted from 0.
     BadMessage(u64),
-    /// As many messages were answered as are answered at most.
+    /// As many messages were answered as are answered at most, and nothing behind them was looked at.
     Enough,
     /// What was asked for is not built yet.
     NotBuilt,

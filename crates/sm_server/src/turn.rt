@@ -6,7 +6,8 @@ ghost use Rattle.sm_io.specs.Words.{IfDrew, OnDrawFailed, Draws};
 ghost use Rattle.sm_model.specs.declared.entry.Mark.{Mark};
 ghost use Rattle.sm_account.specs.Accounts.{history, base, disk, failed, SameOrigin};
 ghost use Rattle.sm_account.specs.History.{by_seat};
-ghost use Rattle.sm_server.specs.Answer.{heard_of, envelope_seen, root};
+ghost use Rattle.sm_http.specs.Reading.{content};
+ghost use Rattle.sm_server.specs.Answer.{heard, root};
 ghost use Rattle.sm_server.specs.Outside.{Told};
 ghost use Rattle.sm_server.specs.Replies.{reply_made};
 ghost use Rattle.sm_server.specs.Turns.{TurnOf, seat};
@@ -15,7 +16,7 @@ use crate::hear::hear;
 use crate::reply::{MadeReply, render_handled, render_refusal};
 use sm_account::Account;
 use sm_disk::Disk;
-use sm_http::MessageView;
+use sm_http::Message;
 use sm_io::{Clock, Drew, Words};
 use sm_json::AskFault;
 use sm_model::{Bytes, NoMemory, Person, Request, Text, Why, need};
@@ -29,14 +30,14 @@ const SEAT: u32 = 1;
 pub fn take_turn<D: Disk, C: Clock, W: Words>(
     alloc: Global,
     account: &mut Account<D, NoRotator>,
-    message: &MessageView<'_>,
+    message: &Message,
     clock: &mut C,
     random: &mut W,
 ) -> Result<MadeReply, NoMemory>
     ensures turn { (told : Told) × (marks : List Mark)
         × (C.readings clock.new ≡ append_known (C.readings clock.old) told.readings)
         × (W.drawn random.new ≡ append_known (W.drawn random.old) told.drawn)
-        × TurnOf (base account.old) (history account.old) (heard_of (envelope_seen message.now)) (record {
+        × TurnOf (base account.old) (history account.old) (heard (content message.now)) (record {
           told = told;
           reply = reply_made result;
           marks = marks;

@@ -15,3 +15,5 @@ mod outside;
 mod streams;
 #[cfg(test)]
 mod support;
+#[cfg(test)]
+mod words;

@@ -1,6 +1,6 @@
-//! Streams that are, and are not, whole messages, and the limits of their count and sizes.
+//! Streams however they are cut, their ends, and the limits of their count and sizes.
 use crate::exchanges::{APP, BAD, CREATE, OK};
-use crate::support::{WELL, add_message, add_reply, expect};
+use crate::support::{Outside, WELL, add_message, add_reply, expect};
 use sm_server::Status;
 use std::alloc::Global;
 use std::process::Abort;
@@ -11,12 +11,15 @@ const ASKS_NOTHING: &[u8] = b"GET / HTTP/1.1\r\n\r\n";
 
 const UNKNOWN: &str = r#"{"Message":"unknown operation","__type":"UnknownOperationException"}"#;
 
-/// So many messages that ask for nothing.
-fn messages(alloc: Global, count: usize) -> Result<Vec<u8>, Fail> {
+const TOO_LARGE: &str = "413 Content Too Large";
+
+/// So many messages that ask for nothing, and what stands behind them.
+fn messages(alloc: Global, count: usize, behind: &str) -> Result<Vec<u8>, Fail> {
     let mut input = Vec::new(alloc);
     for _ in 0..count {
         input.extend_from_slice(ASKS_NOTHING)?;
     }
+    input.extend_from_slice(behind.as_bytes())?;
     Ok(input)
 }
 
@@ -29,105 +32,103 @@ fn replies(alloc: Global, count: usize) -> Result<Vec<u8>, Fail> {
     Ok(output)
 }
 
-/// Eight messages of 524,288 bytes each, which are 4,194,304 together, the last of so many bytes more.
-fn largest(alloc: Global, more: usize) -> Result<Vec<u8>, Fail> {
-    let mut input = Vec::new(alloc);
-    for count in 0..8 {
-        let size: usize = if count < 7 {
-            524_246
-        } else {
-            524_246 + more.min(1)
-        };
-        let head = format!(in alloc; "GET / HTTP/1.1\r\nContent-Length: {size}\r\n\r\n")?;
-        let body = " ".repeat(alloc, size)?;
-        input.extend_from_slice(head.as_bytes())?;
-        input.extend_from_slice(body.as_bytes())?;
-    }
-    Ok(input)
-}
+/// How many messages a stream begins with, what stands behind them, how the run ends, and the status line and the body
+/// of the reply to what stands behind them, where one is written.
+type Case = (usize, &'static str, Status, Option<(&'static str, &'static str)>);
 
-#[test]
-fn answers_up_to_a_thousand_messages(rt: HostRuntime) -> Result<(), Fail> {
-    for count in [0, 1, 2, 1_000] {
-        let output = replies(rt.alloc(), count)?;
-        let input = messages(rt.alloc(), count)?;
-        expect(
-            &rt,
-            input.as_slice(),
-            &WELL,
-            Status::Done,
-            output.as_slice(),
-        )?;
-    }
-    let input = messages(rt.alloc(), 1_001)?;
-    expect(&rt, input.as_slice(), &WELL, Status::NotBuilt, b"")
-}
-
-#[test]
-fn answers_up_to_four_mebibytes(rt: HostRuntime) -> Result<(), Fail> {
-    let output = replies(rt.alloc(), 8)?;
-    let input = largest(rt.alloc(), 0)?;
-    assert_eq!(rt; input.len(), 4_194_304);
-    expect(
-        &rt,
-        input.as_slice(),
-        &WELL,
+const CASES: [Case; 17] = [
+    (0, "", Status::Done, None),
+    (1, "", Status::Done, None),
+    (999, "", Status::Done, None),
+    (1_000, "", Status::Enough, None),
+    (1_001, "", Status::Enough, None),
+    (1_000, "GET / HTTP/1.1\r\nNo field\r\n\r\n", Status::Enough, None),
+    (1, "GET / HTTP/1.1\r\n\r", Status::Cut(17), None),
+    (2, "\r\n", Status::Cut(2), None),
+    (1, "GET / HTTP/1.1\r\nContent-Length: 2\r\n\r\n{", Status::Cut(38), None),
+    (999, "G", Status::Cut(1), None),
+    (
+        0,
+        "GET / HTTP/1.1\r\nContent-Length: 524289\r\n\r\n",
+        Status::BadMessage(0),
+        Some((TOO_LARGE, r#"{"Message":"http: body too long","__type":"SerializationException"}"#)),
+    ),
+    (
+        0,
+        "GET / HTTP/1.1\r\nTransfer-Encoding: chunked\r\n\r\n",
+        Status::BadMessage(0),
+        Some((BAD, r#"{"Message":"http: chunked","__type":"SerializationException"}"#)),
+    ),
+    (
+        1,
+        "GET / HTTP/1.1\r\nContent-Length: +1\r\n\r\n1",
+        Status::BadMessage(18),
+        Some((BAD, r#"{"Message":"http: length","__type":"SerializationException"}"#)),
+    ),
+    (
+        2,
+        "GET / HTTP/1.1\r\nNo field\r\n\r\nGET / HTTP/1.1\r\n\r\n",
+        Status::BadMessage(36),
+        Some((BAD, r#"{"Message":"http: head","__type":"SerializationException"}"#)),
+    ),
+    (
+        0,
+        "\r\n\r\nGET / HTTP/1.1\r\n\r\n",
+        Status::BadMessage(0),
+        Some((BAD, r#"{"Message":"http: head","__type":"SerializationException"}"#)),
+    ),
+    (
+        1,
+        "GET / HTTP/1.1\r\nConnection: Close\r\n\r\nGET",
         Status::Done,
-        output.as_slice(),
-    )?;
-    let input = largest(rt.alloc(), 1)?;
-    expect(&rt, input.as_slice(), &WELL, Status::NotBuilt, b"")
+        Some((BAD, UNKNOWN)),
+    ),
+    (
+        999,
+        "GET / HTTP/1.0\r\n\r\n\r\n\r\n",
+        Status::Enough,
+        Some((BAD, UNKNOWN)),
+    ),
+];
+
+/// Asserts that a stream ends and is answered so.
+fn ends(rt: &(impl Abort + AllocGlobal), case: &Case) -> Result<(), Fail> {
+    let (count, behind, status, last) = *case;
+    let input = messages(rt.alloc(), count, behind)?;
+    let mut output = replies(rt.alloc(), count.min(1_000))?;
+    if let Some((line, body)) = last {
+        add_reply(rt.alloc(), &mut output, line, body)?;
+    }
+    expect(rt, input.as_slice(), &WELL, status, output.as_slice())
 }
 
-/// Every front of two messages that isn't one or both of them is no stream, and gets no reply.
 #[test]
-fn refuses_parts_of_messages(rt: HostRuntime) -> Result<(), Fail> {
-    let mut input = Vec::new(rt.alloc());
-    add_message(rt.alloc(), &mut input, CREATE, APP.as_bytes())?;
-    let first = input.len();
-    add_message(rt.alloc(), &mut input, CREATE, APP.as_bytes())?;
-    for (size, _) in input.as_slice().iter().enumerate() {
-        if size != 0 && size != first {
-            let (front, _) = input.as_slice().split_at(size);
-            expect(&rt, front, &WELL, Status::NotBuilt, b"")?;
-        }
+fn streams_end_by_their_last_bytes(rt: HostRuntime) -> Result<(), Fail> {
+    for case in &CASES {
+        ends(&rt, case)?;
     }
     Ok(())
 }
 
-/// What stands behind a message that closes is no fault, and isn't looked at.
+/// Two messages and thirty bytes of a third are two replies, however the source cuts them.
 #[test]
-fn ends_at_a_closing_message(rt: HostRuntime) -> Result<(), Fail> {
+fn a_stream_may_be_cut_at_any_place(rt: HostRuntime) -> Result<(), Fail> {
+    let input = messages(
+        rt.alloc(),
+        2,
+        "POST / HTTP/1.1\r\nX-Amz-Target:",
+    )?;
+    assert_eq!(rt; input.len(), 66);
     let output = replies(rt.alloc(), 2)?;
-    let inputs = [
-        "GET / HTTP/1.1\r\n\r\nGET / HTTP/1.1\r\nConnection: close\r\n\r\nGET",
-        "GET / HTTP/1.1\r\n\r\nGET / HTTP/1.1\r\nConnection: Close\r\n\r\n\r\n\r\n",
-    ];
-    for input in inputs {
+    for take in 1..=66 {
+        let outside = Outside { take, ..WELL };
         expect(
             &rt,
-            input.as_bytes(),
-            &WELL,
-            Status::Done,
+            input.as_slice(),
+            &outside,
+            Status::Cut(30),
             output.as_slice(),
         )?;
-    }
-    let other = "GET / HTTP/1.1\r\nConnection: closed\r\n\r\nGET";
-    expect(&rt, other.as_bytes(), &WELL, Status::NotBuilt, b"")
-}
-
-/// Streams in which a message is none, the second of two among them.
-#[test]
-fn refuses_bad_messages(rt: HostRuntime) -> Result<(), Fail> {
-    let inputs = [
-        "GET / HTTP/1.1\r\nTransfer-Encoding: chunked\r\n\r\n",
-        "GET / HTTP/1.1\r\nContent-Length: 524289\r\n\r\n",
-        "GET / HTTP/1.1\r\nContent-Length: +1\r\n\r\n1",
-        "GET / HTTP/1.1\r\n\r\nGET / HTTP/1.1\r\nNo field\r\n\r\n",
-        "\r\n\r\nGET / HTTP/1.1\r\n\r\n",
-    ];
-    for input in inputs {
-        expect(&rt, input.as_bytes(), &WELL, Status::NotBuilt, b"")?;
     }
     Ok(())
 }

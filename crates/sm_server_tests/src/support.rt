@@ -51,6 +51,17 @@ pub fn run(
     outside: &Outside,
     disk: MemoryDisk,
 ) -> Result<(Status, Vec<u8>, MemoryDisk), Fail> {
+    run_words(alloc, "--mode exec --number 0", input, outside, disk)
+}
+
+/// The same with the words of a line.
+pub fn run_words(
+    alloc: Global,
+    line: &str,
+    input: &[u8],
+    outside: &Outside,
+    disk: MemoryDisk,
+) -> Result<(Status, Vec<u8>, MemoryDisk), Fail> {
     let take = outside.take.max(1);
     let put = outside.put.max(1);
     let bytes = Bytes::from_slice(alloc, input)?;
@@ -58,7 +69,7 @@ pub fn run(
     let mut sink = MemorySink::new(alloc, put, fails(alloc, outside.sink_from));
     let mut clock = FixedClock::new(Moment(1_700_000_000));
     let mut random = CountWords::new(alloc, 0, fails(alloc, outside.random_from));
-    let words = words(alloc)?;
+    let words = words(alloc, line)?;
     let (status, disk) = run_once(
         alloc,
         words.as_slice(),
@@ -72,9 +83,9 @@ pub fn run(
     Ok((status, written, disk))
 }
 
-fn words(alloc: Global) -> Result<Vec<String>, Fail> {
+fn words(alloc: Global, line: &str) -> Result<Vec<String>, Fail> {
     let mut words = Vec::new(alloc);
-    for word in ["--mode", "exec", "--number", "0"] {
+    for word in line.split_whitespace() {
         words.push(String::from_str(alloc, word)?)?;
     }
     Ok(words)

@@ -1,19 +1,25 @@
-use Rattle.std.proofs.Common.{◌≡◌, ◌≤◌, ℕ, List, [], sym, refl, ap, subst, arith, map, string_bytes}
+use Rattle.std.proofs.Common.{◌≡◌, ◌≤◌, ℕ, List, Option, sym, refl, ap, subst, map, string_bytes}
 use Rattle.sm_model.specs.declared.entry.Entry.{Entry}
 use Rattle.sm_journal.specs.Openings.{ReadsAs}
 use Rattle.sm_store.specs.Entries.{HasEntries}
 use Rattle.sm_store.specs.declared.files.TheConstants.{JOURNAL}
-use Rattle.sm_server.specs.declared.status.Status.TheVariants.{Words}
+use Rattle.sm_words.specs.declared.settings.Settings.{Settings}
+use Rattle.sm_words.specs.Reading.{settings_of}
+use Rattle.sm_server.specs.Complete.{Ran}
 use Rattle.sm_server.specs.Outside.{Outside}
-use Rattle.sm_server.specs.Ran.{are_words, Ran, Runs, course_of}
+use Rattle.sm_server.specs.Ran.{Runs, course_of}
 use Rattle.sm_server.specs.Stored.{Leaves, Stands, status_unopened, disk_unopened}
-use Rattle.sm_server.proofs.EndLemmas.{prepend_known-nil, runs_idle, decides}
+use Rattle.sm_server.proofs.CompleteLemmas.{ran_by}
+use Rattle.sm_server.proofs.EndLemmas.{decides}
 use Rattle.sm_server.proofs.StoredLemmas.{leaves_opened}
-use Rattle.sm_server.proofs.UnopenedLemmas.{no_story, leaves_unopened, later_unopened, ran_unopened}
+use Rattle.sm_server.proofs.UnopenedLemmas.{no_story, followed, leaves_unopened, leaves_words, later_unopened, runs_unopened, runs_words, words_decide, words_unopened}
 use Rattle.sm_server.proofs.run.run_once.Goals as goal
 
-pub returns-then-not-are_words-clause-ran : goal.returns-then-not-are_words-clause-ran
-returns-then-not-are_words-clause-ran g c =
+pub returns-in-Some-clause-ran : goal.returns-in-Some-clause-ran
+returns-in-Some-clause-ran g c =
+    let words = map string_bytes c.args.words.now in
+    let asked : Option Settings = settings_of words in
+    let status = c.in-Some.status in
     let before : Outside = record {
       left = g.Q.Source.left c.args.source.now;
       taken = g.K.Sink.taken c.args.sink.now;
@@ -27,12 +33,9 @@ returns-then-not-are_words-clause-ran g c =
       };
     } in (
       no_story,
-      record {
-        words_decide = sym c.if-not-are_words.ensures;
-        runs = runs_idle (course_of no_story) before before [] (sym (prepend_known-nil before.left)) (omega arith)
-            Words (record { taken = refl; readings = refl; drawn = refl }) (refl, (refl, refl, refl));
-      },
-      refl,
+      ran_by words status before before no_story (words_decide status asked c.in-Some.ensures)
+          (runs_words status asked c.in-Some.ensures before),
+      leaves_words status asked c.in-Some.ensures g.D.Disk c.args.disk,
     )
 
 pub returns-in-Ok-clause-ran : goal.returns-in-Ok-clause-ran
@@ -40,6 +43,7 @@ returns-in-Ok-clause-ran g c =
     let run = c.run_opened in
     let opened = c.in-Ok.ensures.opened in
     let story = run.ensures.ran.0 in
+    let words = map string_bytes c.args.words.now in
     let before : ℕ → Outside = λ (faults : ℕ). record {
       left = g.Q.Source.left c.args.source.now;
       taken = g.K.Sink.taken c.args.sink.now;
@@ -65,12 +69,11 @@ returns-in-Ok-clause-ran g c =
       };
     } in (
       story,
-      record {
-        words_decide = decides run.result.0 (are_words (map string_bytes c.args.words.now)) run.ensures.opened
-            (sym c.if-not-are_words.ensures);
-        runs = subst (λ d. Runs (course_of story) run.result.0 (before (g.D.Disk.faults d))
-            (after (g.D.Disk.faults run.result.1))) opened.began_is run.ensures.ran.2;
-      },
+      ran_by words run.result.0 (before (g.D.Disk.faults c.args.disk)) (after (g.D.Disk.faults run.result.1)) story
+          (decides run.result.0 (settings_of words) run.ensures.opened
+          (followed (settings_of words) c.in-None.ensures))
+          (subst (λ d. Runs (course_of story) run.result.0 (before (g.D.Disk.faults d))
+          (after (g.D.Disk.faults run.result.1))) opened.began_is run.ensures.ran.2),
       leaves_opened g.D.Disk run.result.0 story c.args.disk run.result.1 run.ensures.opened (record {
         recovered = subst (λ (t : List Entry). ReadsAs JOURNAL (λ bytes. HasEntries bytes t)
             (g.D.Disk.sight c.args.disk)) (sym run.ensures.ran.1) c.in-Ok.ensures.list;
@@ -101,8 +104,18 @@ returns-in-Err-clause-ran g c =
     let same : disk_unopened refused ≡ now = sym c.end_unopened.ensures.disk in (
       no_story,
       subst (λ s. Ran words s before after no_story) (sym c.end_unopened.ensures.status)
-          (ran_unopened g.D.Disk c.args.disk refused words before after why (sym c.if-not-are_words.ensures) refl
-          (ap g.D.Disk.faults (sym same)) refl (record { taken = refl; readings = refl; drawn = refl })),
+          (ran_by words (status_unopened refused) before after no_story
+          (words_unopened g.D.Disk c.args.disk refused (settings_of words)
+          (followed (settings_of words) c.in-None.ensures))
+          (runs_unopened g.D.Disk c.args.disk refused before after why refl (ap g.D.Disk.faults (sym same)) (record {
+            left = refl;
+            taken = refl;
+            readings = refl;
+            drawn = refl;
+            disk = subst (λ d. g.D.Disk.faults c.args.disk ≤ g.D.Disk.faults d) same
+                (later_unopened g.D.Disk c.args.disk refused why);
+            random = refl;
+          }))),
       subst (λ s. Leaves g.D.Disk s no_story c.args.disk now) (sym c.end_unopened.ensures.status)
           (subst (λ d. Leaves g.D.Disk (status_unopened refused) no_story c.args.disk d) same
           (leaves_unopened g.D.Disk c.args.disk refused why)),

@@ -6,6 +6,7 @@ use Rattle.sm_account.specs.States.{Base, base_of}
 use Rattle.sm_server.specs.Outside.{Outside}
 use Rattle.sm_server.specs.Ran.{Story, Runs, course_of}
 use Rattle.sm_server.specs.Stored.{Stands}
+use Rattle.sm_server.proofs.EndLemmas.{runs_since}
 use Rattle.sm_server.proofs.StoredLemmas.{cause_since}
 use Rattle.sm_server.proofs.run.run_opened.Goals as goal
 
@@ -44,7 +45,9 @@ returns-clause-ran g c =
     let first = g.D.Disk.faults (began old) in
     let runs : Runs (course_of story) answered.result (before first) (after (g.D.Disk.faults (disk new))) =
     subst (λ (b : Base). Runs (record { base = b; history = history new }) answered.result (before first)
-    (after (g.D.Disk.faults (disk new)))) based (answered.ensures.runs first c.requires.later) in
+    (after (g.D.Disk.faults (disk new)))) based (runs_since (record { base = base old; history = history new })
+    (before (g.D.Disk.faults (disk old))) (after (g.D.Disk.faults (disk new))) first c.requires.later answered.result
+    answered.ensures.opened answered.ensures.runs) in
     let stands : Stands g.D.Disk story (began old) (disk new) = record {
       images = c.standing.ensures.images;
       cause = cause_since (failed old) (failed new) first (g.D.Disk.faults (disk old)) (g.D.Disk.faults (disk new))

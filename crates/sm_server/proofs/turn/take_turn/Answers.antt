@@ -2,8 +2,9 @@ use Rattle.std.proofs.Common.{[], sym, subst, Result, append-nil}
 use Rattle.sm_model.specs.declared.request.Request.{Request}
 use Rattle.sm_model.specs.declared.why.Why.{Why}
 use Rattle.sm_account.specs.Accounts.{base, history, disk}
+use Rattle.sm_http.specs.Reading.{content}
 use Rattle.sm_server.proofs.KnownLemmas.{append_known-nil}
-use Rattle.sm_server.specs.Answer.{envelope_seen, heard_of}
+use Rattle.sm_server.specs.Answer.{heard}
 use Rattle.sm_server.specs.Outside.{nothing_told}
 use Rattle.sm_server.specs.Turns.{TurnOf}
 use Rattle.sm_server.proofs.TurnLemmas.{Grown, turn_with, refused_turn, unread_turn}
@@ -66,6 +67,6 @@ returns-in-Err-Memory-clause-turn g c =
       sym (append_known-nil _),
       sym (append_known-nil _),
       unread_turn (base c.args.account.now) (history c.args.account.now)
-          (heard_of (envelope_seen c.args.message.now)) grown,
+          (heard (content c.args.message.now)) grown,
       sym (append-nil (history c.args.account.now)),
     )

@@ -1,7 +1,7 @@
 use Rattle.std.proofs.Common.{ℕ, List, sym, subst}
 use Rattle.sm_http.specs.Framed.{Sends}
 use Rattle.sm_server.proofs.ReplyLemmas.{unavailable_text}
-use Rattle.sm_server.proofs.answering.send_unavailable.Goals as goal
+use Rattle.sm_server.proofs.sending.send_unavailable.Goals as goal
 
 pub returns-clause-sent : goal.returns-clause-sent
 returns-clause-sent g c =

@@ -1,0 +1,64 @@
+-- What a run gives where nothing of the outside failed.
+use Rattle.std.specs.Prelude.{◌≡◌, ℕ, ◌⊎◌, List, [], ◌∷◌, ◌++◌, take, Option, Some, Result, Ok, Err}
+use Rattle.sm_base.specs.Faults.{Rose}
+use Rattle.sm_model.specs.declared.entry.Mark.{Mark}
+use Rattle.sm_model.specs.declared.request.Request.{Request}
+use Rattle.sm_model.specs.declared.why.Why.{Why}
+use Rattle.sm_account.specs.States.{Base}
+use Rattle.sm_http.specs.Messages.{Message, End, Messages}
+use Rattle.sm_reply.specs.Shown.{Answered}
+use Rattle.sm_words.specs.Reading.{settings_of}
+use Rattle.sm_server.specs.declared.status.Status.{Status}
+use Rattle.sm_server.specs.declared.status.Status.TheVariants.{Done, Memory}
+use Rattle.sm_server.specs.Answer.{heard}
+use Rattle.sm_server.specs.Asked.{WordsDecide}
+use Rattle.sm_server.specs.Outside.{Counts, Outside}
+use Rattle.sm_server.specs.Ran.{Course, joined, Story, course_of, Runs}
+use Rattle.sm_server.specs.Status.{WasOpened}
+use Rattle.sm_server.specs.Streams.{message_limit, AreWhole}
+use Rattle.sm_server.specs.Turns.{Turn, AnsweredAt, WantedMemory, TurnOf, marked}
+
+-- the count did not rise
+abbrev pub Steady : ℕ → ℕ → Type 0
+Steady before now = Rose before now → ⊥
+
+-- no count of faults rose
+pub record NoneFailed (before now : Counts) : Type 0 where
+  pub source : Steady before.source now.source
+  pub sink : Steady before.sink now.sink
+  pub disk : Steady before.disk now.disk
+  pub random : Steady before.random now.random
+
+-- a turn in which neither the disk nor the random source failed: the model's answer, or want of memory
+abbrev pub ModelTurn : Base → List (ℕ × Mark) → Result Request Why → Turn → Type 0
+ModelTurn base history (Err why) turn = TurnOf base history (Err why) turn
+ModelTurn base history (Ok request) turn =
+    AnsweredAt base history request turn ⊎ WantedMemory base history request turn
+
+-- the replies to messages whose turns are such, each at the history that those before it made
+abbrev pub ModelTurns : Base → List (ℕ × Mark) → List Message → List Answered → Type 0
+ModelTurns base history [] replies = replies ≡ []
+ModelTurns base history (message ∷ messages) replies =
+    (turn : Turn) × (others : List Answered)
+    × ModelTurn base history (heard message) turn
+    × ModelTurns base (history ++ marked turn) messages others
+    × (replies ≡ turn.reply ∷ others)
+
+-- Each of the messages of the bytes that were read, of the first that are answered at most, got the model's reply or the
+-- one for want of memory. What was written begins with these.
+abbrev pub AnswersEach : Course → List ℕ → List ℕ → Type 0
+AnswersEach course input written = (all : List Message) (end : End) → Messages input 0 all end
+    → (replies : List Answered) × (more : List ℕ)
+    × ModelTurns course.base [] (take message_limit all) replies × (written ≡ joined replies ++ more)
+
+-- a source that holds whole messages, fewer than are answered at most, is read to its end
+abbrev pub ReadsWhole : Status → Option (List ℕ) → Type 0
+ReadsWhole status left = (bytes : List ℕ) → left ≡ Some bytes → AreWhole bytes → (status ≡ Done) ⊎ (status ≡ Memory)
+
+-- a run with these words that ended so
+pub record Ran (words : List (List ℕ)) (status : Status) (before after : Outside) (story : Story) : Type 0 where
+  pub words_decide : WordsDecide status (settings_of words)
+  pub runs : Runs (course_of story) status before after
+  pub each : NoneFailed before.counts after.counts → (status ≡ Memory → ⊥)
+      → AnswersEach (course_of story) runs.input runs.trace.written
+  pub whole : NoneFailed before.counts after.counts → WasOpened status → ReadsWhole status before.left
