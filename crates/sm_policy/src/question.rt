@@ -1,0 +1,306 @@
+//! Whether a policy allows what is asked (IAM User Guide, "Policy evaluation logic").
+ghost use Rattle.std.specs.Prelude.{◌≡◌, ◌++◌, option_map};
+ghost use Rattle.std.specs.List.{list_any};
+ghost use Rattle.sm_policy.specs.Decisions.{same_text, counted, account_in, root_of, is_for, is_like, is_action, tag_value, value_of, equals_one, like_one, test_holds, block_holds, condition_holds, matches, denies, allows, first_number, decision, is_everybody, is_open, public_number};
+
+use crate::pattern::{Case, is_match};
+use crate::policy::{
+    Block, Condition, Effect, Key, Operator, Pattern, Policy, Principal, Principals, Statement,
+    Test,
+};
+use sm_base::Text;
+use sm_model::{Person, SecretRow, Tag};
+
+/// What is asked: may this person do this with this secret?
+#[derive(Clone, Copy)]
+pub struct Question<'a> {
+    pub person: &'a Person,
+    /// The action's whole name, as `secretsmanager:GetSecretValue`.
+    pub action: &'a [u8],
+    pub row: &'a SecretRow,
+    /// The SecretId as the request gives it.
+    pub secret_id: &'a [u8],
+    pub version_id: Option<&'a [u8]>,
+    /// The label that is asked for. A GetSecretValue that names neither an id nor a label asks for AWSCURRENT.
+    pub version_stage: Option<&'a [u8]>,
+}
+
+/// What a policy says to a question, with the number of the first statement that says so, counted from 1.
+#[derive(Clone, Copy, Debug, PartialEq, Eq)]
+pub enum Decision {
+    Allow(u32),
+    Deny(u32),
+    /// No statement matches.
+    Silent,
+}
+
+/// The number of a statement by its place. Past the last number it stays there.
+pub(crate) fn counted(place: usize) -> u32
+    ensures { result ≡ counted place }
+{
+    if place < u32::MAX as usize {
+        place as u32 + 1
+    } else {
+        u32::MAX
+    }
+}
+
+#[tactic(auto, unfolding(crate::specs::Decisions::same_text))]
+pub(crate) fn same_text(one: &[u8], other: &[u8]) -> bool
+    ensures { result ≡ same_text one.now other.now }
+{
+    one == other
+}
+
+/// Whether a principal is everybody, the person's account, or the person with this ARN.
+fn is_for(arn: &[u8], principal: &Principal) -> bool
+    ensures { result ≡ is_for arn.now principal.now }
+{
+    let named = principal.0.as_bytes();
+    let account = account_in(arn);
+    same_text(named, b"*")
+        || same_text(named, account)
+        || is_root_of(account, named)
+        || same_text(named, arn)
+}
+
+/// The account in the ARN of a person.
+fn account_in(arn: &[u8]) -> &[u8]
+    ensures { result.now ≡ account_in arn.now }
+{
+    let start = arn.len().min(13);
+    let end = arn.len().min(25);
+    &arn[start..end]
+}
+
+/// Whether a text is these three, one after the other.
+#[tactic(auto, using(crate::proofs::TextLemmas::is_joined, crate::proofs::TextLemmas::not_joined))]
+fn is_joined(text: &[u8], front: &[u8], middle: &[u8], end: &[u8]) -> bool
+    ensures { result ≡ same_text text.now (front.now ++ (middle.now ++ end.now)) }
+{
+    let Some(rest) = text.strip_prefix(front) else {
+        return false;
+    };
+    let Some(rest) = rest.strip_prefix(middle) else {
+        return false;
+    };
+    same_text(rest, end)
+}
+
+/// Whether the text is the ARN that stands for a whole account.
+fn is_root_of(account: &[u8], text: &[u8]) -> bool
+    ensures { result ≡ same_text text.now (root_of account.now) }
+{
+    is_joined(text, b"arn:aws:iam::", account, b":root")
+}
+
+fn is_like(text: &[u8], pattern: &Pattern) -> bool
+    ensures { result ≡ is_like text.now pattern.now }
+{
+    is_match(Case::Exact, pattern.0.as_bytes(), text)
+}
+
+fn is_action(action: &[u8], pattern: &Pattern) -> bool
+    ensures { result ≡ is_action action.now pattern.now }
+{
+    is_match(Case::Folded, pattern.0.as_bytes(), action)
+}
+
+/// The value of the tag with the key.
+#[tactic(auto, using(crate::proofs::DecisionLemmas::tag_here, crate::proofs::DecisionLemmas::tag_later, crate::proofs::DecisionLemmas::tag_none))]
+fn tag_value<'a>(tags: &'a [Tag], key: &[u8]) -> Option<&'a [u8]>
+    ensures { option_map (λ t. t.now) result ≡ tag_value tags.now key.now }
+{
+    for tag in tags {
+        if same_text(tag.key.as_bytes(), key) {
+            return Some(tag.value.as_bytes());
+        }
+    }
+    None
+}
+
+/// The value of a key in a question.
+fn value_of<'a>(key: &Key, question: &Question<'a>) -> Option<&'a [u8]>
+    ensures { option_map (λ t. t.now) result ≡ value_of key.now question.now }
+{
+    match key {
+        Key::VersionStage => question.version_stage,
+        Key::VersionId => question.version_id,
+        Key::Name => Some(question.row.name.as_text().as_bytes()),
+        Key::SecretId => Some(question.secret_id),
+        Key::ResourceTag(key) => tag_value(question.row.tags.as_slice(), key.as_bytes()),
+    }
+}
+
+fn equals_one(texts: &[Text], value: &[u8]) -> bool
+    ensures { result ≡ equals_one texts.now value.now }
+{
+    texts.iter().any(|text| same_text(text.as_bytes(), value))
+}
+
+fn like_one(texts: &[Text], value: &[u8]) -> bool
+    ensures { result ≡ like_one texts.now value.now }
+{
+    texts
+        .iter()
+        .any(|text| is_match(Case::Exact, text.as_bytes(), value))
+}
+
+/// Whether a key's test holds. StringNotEquals holds also where there is no value.
+fn test_holds(question: &Question<'_>, operator: Operator, test: &Test) -> bool
+    ensures { result ≡ test_holds question.now operator test.now }
+{
+    let texts = test.values.as_slice();
+    match value_of(&test.key, question) {
+        Some(value) => match operator {
+            Operator::StringEquals => equals_one(texts, value),
+            Operator::StringNotEquals => !equals_one(texts, value),
+            Operator::StringLike => like_one(texts, value),
+        },
+        None => operator == Operator::StringNotEquals,
+    }
+}
+
+fn block_holds(question: &Question<'_>, block: &Block) -> bool
+    ensures { result ≡ block_holds question.now block.now }
+{
+    let operator = block.operator;
+    block
+        .tests
+        .as_slice()
+        .iter()
+        .all(|test| test_holds(question, operator, test))
+}
+
+fn condition_holds(question: &Question<'_>, condition: &Condition) -> bool
+    ensures { result ≡ condition_holds question.now condition.now }
+{
+    condition
+        .0
+        .as_slice()
+        .iter()
+        .all(|block| block_holds(question, block))
+}
+
+fn is_for_one(arn: &[u8], principals: &Principals) -> bool
+    ensures { result ≡ list_any (is_for arn.now) principals.now.0 }
+{
+    principals
+        .0
+        .as_slice()
+        .iter()
+        .any(|principal| is_for(arn, principal))
+}
+
+fn is_action_of_one(action: &[u8], patterns: &[Pattern]) -> bool
+    ensures { result ≡ list_any (is_action action.now) patterns.now }
+{
+    patterns.iter().any(|pattern| is_action(action, pattern))
+}
+
+fn is_like_one(text: &[u8], patterns: &[Pattern]) -> bool
+    ensures { result ≡ list_any (is_like text.now) patterns.now }
+{
+    patterns.iter().any(|pattern| is_like(text, pattern))
+}
+
+/// Whether a statement matches by its principal, its action, its resource and its condition.
+#[tactic(auto, unfolding(crate::specs::Decisions::matches))]
+fn matches(question: &Question<'_>, statement: &Statement) -> bool
+    ensures { result ≡ matches question.now statement.now }
+{
+    is_for_one(question.person.arn.as_bytes(), &statement.principals)
+        && is_action_of_one(question.action, statement.actions.as_slice())
+        && is_like_one(
+            question.row.arn.as_text().as_bytes(),
+            statement.resources.as_slice(),
+        )
+        && condition_holds(question, &statement.condition)
+}
+
+fn denies(question: &Question<'_>, statement: &Statement) -> bool
+    ensures { result ≡ denies question.now statement.now }
+{
+    statement.effect == Effect::Deny && matches(question, statement)
+}
+
+fn allows(question: &Question<'_>, statement: &Statement) -> bool
+    ensures { result ≡ allows question.now statement.now }
+{
+    statement.effect == Effect::Allow && matches(question, statement)
+}
+
+/// Whether a statement allows everybody something, whatever is asked.
+#[tactic(auto, unfolding(crate::specs::Decisions::is_open))]
+fn is_open(statement: &Statement) -> bool
+    ensures { result ≡ is_open statement.now }
+{
+    statement.effect == Effect::Allow
+        && has_everybody(&statement.principals)
+        && statement.condition.0.is_empty()
+}
+
+fn has_everybody(principals: &Principals) -> bool
+    ensures { result ≡ list_any is_everybody principals.now.0 }
+{
+    principals
+        .0
+        .as_slice()
+        .iter()
+        .any(|principal| same_text(principal.0.as_bytes(), b"*"))
+}
+
+/// The number of the first statement that denies the question.
+#[tactic(auto, using(crate::proofs::DecisionLemmas::number_here, crate::proofs::DecisionLemmas::number_later, crate::proofs::DecisionLemmas::number_none))]
+fn first_denial(question: &Question<'_>, statements: &[Statement]) -> Option<u32>
+    ensures { result ≡ first_number (denies question.now) 0 statements.now }
+{
+    for (place, statement) in statements.iter().enumerate() {
+        if denies(question, statement) {
+            return Some(counted(place));
+        }
+    }
+    None
+}
+
+/// The number of the first statement that allows the question.
+#[tactic(auto, using(crate::proofs::DecisionLemmas::number_here, crate::proofs::DecisionLemmas::number_later, crate::proofs::DecisionLemmas::number_none))]
+fn first_allowance(question: &Question<'_>, statements: &[Statement]) -> Option<u32>
+    ensures { result ≡ first_number (allows question.now) 0 statements.now }
+{
+    for (place, statement) in statements.iter().enumerate() {
+        if allows(question, statement) {
+            return Some(counted(place));
+        }
+    }
+    None
+}
+
+impl Policy {
+    /// What the policy says: the first statement that denies, or else the first that allows. It takes no memory.
+    pub fn decide(&self, question: &Question<'_>) -> Decision
+        ensures { result ≡ decision self.now question.now }
+    {
+        let statements = self.statements.as_slice();
+        match first_denial(question, statements) {
+            Some(number) => Decision::Deny(number),
+            None => match first_allowance(question, statements) {
+                Some(number) => Decision::Allow(number),
+                None => Decision::Silent,
+            },
+        }
+    }
+
+    /// The number of the first statement that allows everybody something without a condition. It takes no memory.
+    #[tactic(auto, using(crate::proofs::DecisionLemmas::number_here, crate::proofs::DecisionLemmas::number_later, crate::proofs::DecisionLemmas::number_none))]
+    pub fn is_public(&self) -> Option<u32>
+        ensures { result ≡ public_number self.now }
+    {
+        for (place, statement) in self.statements.as_slice().iter().enumerate() {
+            if is_open(statement) {
+                return Some(counted(place));
+            }
+        }
+        None
+    }
+}

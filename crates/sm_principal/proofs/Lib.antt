@@ -1,0 +1,3 @@
+pub mod CallerLemmas
+pub mod LineLemmas
+pub mod PeopleLemmas

@@ -1,0 +1,91 @@
+-- Who asks: the person that the Authorization field of a message names.
+-- IAM User Guide, "Create a signed AWS API request": Credential=<access key id>/<date>/<region>/<service>/aws4_request.
+use Rattle.std.specs.Prelude.{◌≡◌, ℕ, Bool, true, nat_eq, if◌then◌else◌, List, [], ◌∷◌, take, drop, codes, Option, Some, None, option_and_then, Result, Ok, Err, ⊤}
+use Rattle.std.specs.Cmp.Lexicographic.{pointwise}
+use Rattle.sm_model.specs.declared.person.Person.{Person}
+use Rattle.sm_principal.specs.declared.caller.CallerRefused.{CallerRefused}
+use Rattle.sm_principal.specs.declared.caller.CallerRefused.TheVariants as refused
+use Rattle.sm_principal.specs.declared.people.People.{People}
+use Rattle.sm_principal.specs.declared.people.People.TheVariants.{Everybody, Listed}
+use Rattle.sm_principal.specs.declared.people.PeopleRefused.{PeopleRefused}
+use Rattle.sm_principal.specs.declared.people.PeopleRefused.TheVariants.{BadLine, Memory}
+use Rattle.sm_principal.specs.Lines.{same_text, is_key, person_with, parted, persons_of}
+
+-- the people of persons, or the first bad line
+abbrev pub listed : Result (List Person) ℕ → Result People ℕ
+listed (Ok persons) = Ok (Listed persons)
+listed (Err number) = Err number
+
+-- the people of a text; the empty one is everybody
+abbrev pub people_of : List ℕ → Result People ℕ
+people_of [] = Ok Everybody
+people_of (c ∷ text) = listed (persons_of (c ∷ text))
+
+-- want of memory, or the persons known, or the first bad line
+abbrev pub IsKnown : Result (List Person) PeopleRefused → Result (List Person) ℕ → Type 0
+IsKnown (Ok persons) is = is ≡ Ok persons
+IsKnown (Err (BadLine number)) is = is ≡ Err number
+IsKnown (Err Memory) is = ⊤
+
+-- the answer, or none where memory is wanted
+abbrev pub told : Result People PeopleRefused → Option (Result People ℕ)
+told (Ok people) = Some (Ok people)
+told (Err (BadLine number)) = Some (Err number)
+told (Err Memory) = None
+
+-- the person that everybody is where there are no people
+unfoldable pub root_arn : List ℕ
+root_arn = codes "arn:aws:iam::000000000000:root"
+
+abbrev pub root : Person
+root = person_with [] true root_arn
+
+-- the text begins with `Credential=`
+unfoldable pub begins : List ℕ → Bool
+begins text = pointwise nat_eq (take 11 text) (codes "Credential=")
+
+-- what stands behind the first `Credential=`
+abbrev pub after_credential : List ℕ → Option (List ℕ)
+after_credential [] = None
+after_credential (c ∷ text) = if begins (c ∷ text) then Some (drop 11 (c ∷ text)) else after_credential text
+
+-- the key that stands up to the next `/`
+abbrev pub key_if : Option (List ℕ × List ℕ) → Option (List ℕ)
+key_if None = None
+key_if (Some parts) = if is_key parts.0 then Some parts.0 else None
+
+abbrev pub key_of : List ℕ → Option (List ℕ)
+key_of text = key_if (parted 47 text)
+
+abbrev pub key_in : List ℕ → Option (List ℕ)
+key_in header = option_and_then key_of (after_credential header)
+
+-- why nobody asks: there is no key, or nobody has it
+pub data Nobody : Type 0 where
+  no_credential : Nobody
+  unknown : List ℕ → Nobody
+
+-- the person with the key
+abbrev pub person_named : List ℕ → List Person → Option Person
+person_named key [] = None
+person_named key (person ∷ persons) = if same_text person.key key then Some person else person_named key persons
+
+abbrev pub known_or : List ℕ → Option Person → Result Person Nobody
+known_or key None = Err (unknown key)
+known_or key (Some person) = Ok person
+
+abbrev pub caller_named : List Person → Option (List ℕ) → Result Person Nobody
+caller_named persons None = Err no_credential
+caller_named persons (Some key) = known_or key (person_named key persons)
+
+-- who asks by an Authorization field, or none
+abbrev pub caller_of : People → Option (List ℕ) → Result Person Nobody
+caller_of Everybody header = Ok root
+caller_of (Listed persons) header = caller_named persons (option_and_then key_in header)
+
+-- the answer, or none where memory is wanted
+abbrev pub told_caller : Result Person CallerRefused → Option (Result Person Nobody)
+told_caller (Ok person) = Some (Ok person)
+told_caller (Err refused.NoCredential) = Some (Err no_credential)
+told_caller (Err (refused.Unknown key)) = Some (Err (unknown key))
+told_caller (Err refused.Memory) = None

@@ -1,0 +1,98 @@
+-- The people text: a line for each person, `<key> full|guest <ARN>`.
+-- This project's own; the ARN is that of IAM User Guide, "IAM identifiers".
+use Rattle.std.specs.Prelude.{ℕ, ◌+◌, Bool, true, false, ◌&&◌, ◌||◌, ◌==◌, nat_eq, if◌then◌else◌, List, [], ◌∷◌, ◌++◌, take, drop, codes, slice_index, Option, Some, None, Result, Ok, Err}
+use Rattle.std.specs.List.{list_any, list_all, starts_with}
+use Rattle.std.specs.Char.{is_ascii_digit, is_ascii_alphanumeric}
+use Rattle.std.specs.Cmp.Lexicographic.{pointwise}
+use Rattle.sm_base.specs.Spelling.{is_token_byte, is_run}
+use Rattle.sm_model.specs.declared.person.Person.{Person}
+
+-- both texts have the same bytes
+unfoldable pub same_text : List ℕ → List ℕ → Bool
+same_text one other = pointwise nat_eq one other
+
+-- an ASCII letter, a digit or _
+unfoldable pub is_key_byte : ℕ → Bool
+is_key_byte b = is_ascii_alphanumeric b || b == 95
+
+-- a key has 1 to 128 of these
+unfoldable pub is_key : List ℕ → Bool
+is_key text = is_run is_key_byte 1 128 text
+
+-- an ARN of a person, arn:aws:iam::<12 digits>:<1 to 128 characters from ! to ~>: what stands before the name are 26
+-- characters from ! to ~ too
+unfoldable pub is_person_arn : List ℕ → Bool
+is_person_arn text =
+    is_run is_token_byte 27 154 text && starts_with nat_eq text (codes "arn:aws:iam::")
+    && list_all is_ascii_digit (take 12 (drop 13 text)) && slice_index text 25 == 58
+
+-- the text before the first such byte and the text behind it
+abbrev pub pushed : ℕ → Option (List ℕ × List ℕ) → Option (List ℕ × List ℕ)
+pushed c None = None
+pushed c (Some parts) = Some (c ∷ parts.0, parts.1)
+
+abbrev pub parted : ℕ → List ℕ → Option (List ℕ × List ℕ)
+parted byte [] = None
+parted byte (c ∷ text) = if c == byte then Some ([], text) else pushed c (parted byte text)
+
+-- the lines of a text, each of which ends in a line feed, save the last, which may have none
+abbrev pub onto : ℕ → List (List ℕ) → List (List ℕ)
+onto c [] = (c ∷ []) ∷ []
+onto c (line ∷ lines) = (c ∷ line) ∷ lines
+
+abbrev pub lines_of : List ℕ → List (List ℕ)
+lines_of [] = [] ∷ []
+lines_of (c ∷ text) = if c == 10 then [] ∷ lines_of text else onto c (lines_of text)
+
+-- a person of a key, a kind and an ARN
+abbrev pub person_with : List ℕ → Bool → List ℕ → Person
+person_with key full arn = record { key = key; arn = arn; full = full }
+
+-- full or guest
+unfoldable pub kind_of : List ℕ → Option Bool
+kind_of text = if same_text text (codes "full") then Some true
+    else if same_text text (codes "guest") then Some false else None
+
+abbrev pub person_if : List ℕ → Option Bool → List ℕ → Option Person
+person_if key None arn = None
+person_if key (Some full) arn = if is_key key && is_person_arn arn then Some (person_with key full arn) else None
+
+abbrev pub with_kind : List ℕ → Option (List ℕ × List ℕ) → Option Person
+with_kind key None = None
+with_kind key (Some parts) = person_if key (kind_of parts.0) parts.1
+
+abbrev pub with_key : Option (List ℕ × List ℕ) → Option Person
+with_key None = None
+with_key (Some parts) = with_kind parts.0 (parted 32 parts.1)
+
+-- the person of a line: a key, a space, full or guest, a space, and an ARN
+abbrev pub person_of : List ℕ → Option Person
+person_of line = with_key (parted 32 line)
+
+-- an empty line, or a comment
+abbrev pub is_skipped : List ℕ → Bool
+is_skipped [] = true
+is_skipped (c ∷ line) = c == 35
+
+-- some person has the key
+abbrev pub has_key : List ℕ → Person → Bool
+has_key key person = same_text person.key key
+
+-- the persons known with a line more, or the line's number, where it is bad
+abbrev pub added : ℕ → List Person → Option Person → Result (List Person) ℕ
+added number known None = Err number
+added number known (Some person) =
+    if list_any (has_key person.key) known then Err number else Ok (known ++ person ∷ [])
+
+abbrev pub with_line : ℕ → List Person → List ℕ → Result (List Person) ℕ
+with_line number known line = if is_skipped line then Ok known else added number known (person_of line)
+
+-- the persons of lines, of which the first has this number
+abbrev pub persons_from : ℕ → Result (List Person) ℕ → List (List ℕ) → Result (List Person) ℕ
+persons_from number (Err bad) lines = Err bad
+persons_from number (Ok known) [] = Ok known
+persons_from number (Ok known) (line ∷ lines) = persons_from (number + 1) (with_line number known line) lines
+
+-- the persons of a text, or its first bad line
+abbrev pub persons_of : List ℕ → Result (List Person) ℕ
+persons_of text = persons_from 1 (Ok []) (lines_of text)

@@ -1,0 +1,9 @@
+//! Persons and their credentials: who may ask, and who asks.
+#![tactic(auto)]
+
+pub mod caller;
+mod lines;
+pub mod people;
+
+pub use caller::CallerRefused;
+pub use people::{People, PeopleRefused};
