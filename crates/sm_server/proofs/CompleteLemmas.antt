@@ -204,7 +204,8 @@ module _ (course : Course) (before after : Outside) (trace : Trace)
             let zero : n ≡ 0 = subst EndsWell same well in
             omega (arith, zero, some)
 
-        not_bad : (kind : BadKind) (place : ℕ) (messages : List Message) → Messages input 0 messages (Bad kind place) → ⊥
+        not_bad : (kind : BadKind) (place : ℕ) (messages : List Message) → Messages input 0 messages (Bad kind place)
+            → ⊥
         not_bad kind place messages others =
             let stays : Messages (input ++ rest) 0 messages (Bad kind place) =
             stays_read input rest 0 messages (Bad kind place) tt others in

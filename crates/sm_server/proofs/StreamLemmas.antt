@@ -61,7 +61,8 @@ module _ (first : Option (List ℕ)) (messages : List Message) (old new : Reader
   -- whether the message closes the stream says where the reader stands after it
   after_message : (m : owned) (read : List ℕ) (closing : Bool) → m.closing ≡ closing
       → new.ended ≡ (if closing then Some stop.End else None)
-      → MatchBool closing (Messages read 0 (messages ++ content m ∷ []) Closing) (Gave read (messages ++ content m ∷ []) new)
+      → MatchBool closing (Messages read 0 (messages ++ content m ∷ []) Closing)
+      (Gave read (messages ++ content m ∷ []) new)
       → StandsAfter read (messages ++ content m ∷ []) new
   after_message m read true is ended closed = inr (closed, ended)
   after_message m read false is ended gave = inl gave

@@ -44,8 +44,8 @@ ModelTurns base history (message ∷ messages) replies =
     × ModelTurns base (history ++ marked turn) messages others
     × (replies ≡ turn.reply ∷ others)
 
--- Each of the messages of the bytes that were read, of the first that are answered at most, got the model's reply or the
--- one for want of memory. What was written begins with these.
+-- Each of the messages of the bytes that were read, of the first that are answered at most, got the model's reply or
+-- the one for want of memory. What was written begins with these.
 abbrev pub AnswersEach : Course → List ℕ → List ℕ → Type 0
 AnswersEach course input written = (all : List Message) (end : End) → Messages input 0 all end
     → (replies : List Answered) × (more : List ℕ)

@@ -49,8 +49,8 @@ pub fn next_message<Q: Source, K: Sink>(
     }
 }
 
-/// Writes the reply to a bad message, whose first byte has this number, and says how the run ends. The sink took so many
-/// bytes until now.
+/// Writes the reply to a bad message, whose first byte has this number, and says how the run ends. The sink took so
+/// many bytes until now.
 fn refuse<K: Sink>(
     alloc: Global,
     sink: &mut K,
