@@ -34,7 +34,12 @@ fn replies(alloc: Global, count: usize) -> Result<Vec<u8>, Fail> {
 
 /// How many messages a stream begins with, what stands behind them, how the run ends, and the status line and the body
 /// of the reply to what stands behind them, where one is written.
-type Case = (usize, &'static str, Status, Option<(&'static str, &'static str)>);
+type Case = (
+    usize,
+    &'static str,
+    Status,
+    Option<(&'static str, &'static str)>,
+);
 
 const CASES: [Case; 17] = [
     (0, "", Status::Done, None),
@@ -42,40 +47,65 @@ const CASES: [Case; 17] = [
     (999, "", Status::Done, None),
     (1_000, "", Status::Enough, None),
     (1_001, "", Status::Enough, None),
-    (1_000, "GET / HTTP/1.1\r\nNo field\r\n\r\n", Status::Enough, None),
+    (
+        1_000,
+        "GET / HTTP/1.1\r\nNo field\r\n\r\n",
+        Status::Enough,
+        None,
+    ),
     (1, "GET / HTTP/1.1\r\n\r", Status::Cut(17), None),
     (2, "\r\n", Status::Cut(2), None),
-    (1, "GET / HTTP/1.1\r\nContent-Length: 2\r\n\r\n{", Status::Cut(38), None),
+    (
+        1,
+        "GET / HTTP/1.1\r\nContent-Length: 2\r\n\r\n{",
+        Status::Cut(38),
+        None,
+    ),
     (999, "G", Status::Cut(1), None),
     (
         0,
         "GET / HTTP/1.1\r\nContent-Length: 524289\r\n\r\n",
         Status::BadMessage(0),
-        Some((TOO_LARGE, r#"{"Message":"http: body too long","__type":"SerializationException"}"#)),
+        Some((
+            TOO_LARGE,
+            r#"{"Message":"http: body too long","__type":"SerializationException"}"#,
+        )),
     ),
     (
         0,
         "GET / HTTP/1.1\r\nTransfer-Encoding: chunked\r\n\r\n",
         Status::BadMessage(0),
-        Some((BAD, r#"{"Message":"http: chunked","__type":"SerializationException"}"#)),
+        Some((
+            BAD,
+            r#"{"Message":"http: chunked","__type":"SerializationException"}"#,
+        )),
     ),
     (
         1,
         "GET / HTTP/1.1\r\nContent-Length: +1\r\n\r\n1",
         Status::BadMessage(18),
-        Some((BAD, r#"{"Message":"http: length","__type":"SerializationException"}"#)),
+        Some((
+            BAD,
+            r#"{"Message":"http: length","__type":"SerializationException"}"#,
+        )),
     ),
     (
         2,
         "GET / HTTP/1.1\r\nNo field\r\n\r\nGET / HTTP/1.1\r\n\r\n",
         Status::BadMessage(36),
-        Some((BAD, r#"{"Message":"http: head","__type":"SerializationException"}"#)),
+        Some((
+            BAD,
+            r#"{"Message":"http: head","__type":"SerializationException"}"#,
+        )),
     ),
     (
         0,
         "\r\n\r\nGET / HTTP/1.1\r\n\r\n",
         Status::BadMessage(0),
-        Some((BAD, r#"{"Message":"http: head","__type":"SerializationException"}"#)),
+        Some((
+            BAD,
+            r#"{"Message":"http: head","__type":"SerializationException"}"#,
+        )),
     ),
     (
         1,
@@ -113,11 +143,7 @@ fn streams_end_by_their_last_bytes(rt: HostRuntime) -> Result<(), Fail> {
 /// Two messages and thirty bytes of a third are two replies, however the source cuts them.
 #[test]
 fn a_stream_may_be_cut_at_any_place(rt: HostRuntime) -> Result<(), Fail> {
-    let input = messages(
-        rt.alloc(),
-        2,
-        "POST / HTTP/1.1\r\nX-Amz-Target:",
-    )?;
+    let input = messages(rt.alloc(), 2, "POST / HTTP/1.1\r\nX-Amz-Target:")?;
     assert_eq!(rt; input.len(), 66);
     let output = replies(rt.alloc(), 2)?;
     for take in 1..=66 {
