@@ -6,7 +6,9 @@
 #![tactic(auto)]
 
 use sm_disk::{Disk, FileDisk, MemoryDisk};
-use sm_io::{Clock, CountWords, FixedClock, StreamSink, StreamSource, SystemClock, SystemWords, Words};
+use sm_io::{
+    Clock, CountWords, FixedClock, StreamSink, StreamSource, SystemClock, SystemWords, Words,
+};
 use sm_model::{Bytes, Fails, Moment, NoMemory};
 use sm_server::{Status, end_of_settings, run_once};
 use sm_words::{Settings, WordsRefused, read_words, refusal_of};
