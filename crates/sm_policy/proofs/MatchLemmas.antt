@@ -114,7 +114,8 @@ Fits pattern None = Unit {0}
 Fits pattern (Some last) = length last.pattern.now ≤ length pattern
 
 -- what holds while a match goes on
-pub record Goes (whole : Bool) (case : Case) (pattern text : List ℕ) (star : Option Places) (here : Places) : Type 0 where
+pub record Goes (whole : Bool) (case : Case) (pattern text : List ℕ) (star : Option Places)
+    (here : Places) : Type 0 where
   pub open_is : Open whole case star here
   pub pattern_fits : length here.pattern.now ≤ length pattern
   pub text_fits : length here.text.now ≤ left_of text star

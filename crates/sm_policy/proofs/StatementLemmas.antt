@@ -33,9 +33,11 @@ module _ (items : List Value) (i : ℕ) (v : Value) (h : i < length items) (at :
       → all ≡ behind (front ++ s ∷ []) (statements_from (i + 1) (items_view (drop (i + 1) items)))
   statements_more all front s fine is e =
       e ∙ ap (behind front) (from
-      ∙ ap (λ o. statement_before i o (statement_in (view v)) (statements_from (i + 1) (items_view (drop (i + 1) items)))) fine)
+      ∙ ap (λ o. statement_before i o (statement_in (view v))
+      (statements_from (i + 1) (items_view (drop (i + 1) items)))) fine)
       ∙ moved front i (statement_in (view v)) (statements_from (i + 1) (items_view (drop (i + 1) items)))
-      ∙ ap (λ (t : Statement). behind (front ++ t ∷ []) (statements_from (i + 1) (items_view (drop (i + 1) items)))) (sym is)
+      ∙ ap (λ (t : Statement). behind (front ++ t ∷ [])
+      (statements_from (i + 1) (items_view (drop (i + 1) items)))) (sym is)
 
   -- a statement is at fault
   pub statements_bad : (all : Result (List Statement) Flaw) (front : List Statement) (name : List ℕ)
@@ -43,20 +45,23 @@ module _ (items : List Value) (i : ℕ) (v : Value) (h : i < length items) (at :
       → policy_with all ≡ Err (counted i, name)
   statements_bad all front name bad e =
       ap policy_with (e ∙ ap (behind front) (from
-      ∙ ap (λ o. statement_before i o (statement_in (view v)) (statements_from (i + 1) (items_view (drop (i + 1) items)))) bad))
+      ∙ ap (λ o. statement_before i o (statement_in (view v))
+      (statements_from (i + 1) (items_view (drop (i + 1) items)))) bad))
 
 -- all were read
 pub statements_all : (items : List Value) (i : ℕ) (all : Result (List Statement) Flaw) (front : List Statement)
     → length items ≤ i → all ≡ behind front (statements_from i (items_view (drop i items)))
     → policy_with all ≡ Ok (record { statements = front })
 statements_all items i all front h e =
-    ap policy_with (e ∙ ap (λ (vs : List Value). behind front (statements_from i (items_view vs))) (drop_of_length-le items h)
+    ap policy_with (e
+    ∙ ap (λ (vs : List Value). behind front (statements_from i (items_view vs))) (drop_of_length-le items h)
     ∙ ap Ok (append-nil front))
 
 pub no_statements : (items : List Value) → length items ≡ 0 → listed (Some (items_view items)) ≡ None
 no_statements [] h = refl
 no_statements (v ∷ items) h = absurd (omega arith)
 
-pub some_statements : (items : List Value) → 0 < length items → listed (Some (items_view items)) ≡ Some (items_view items)
+pub some_statements : (items : List Value) → 0 < length items
+    → listed (Some (items_view items)) ≡ Some (items_view items)
 some_statements [] h = absurd (omega arith)
 some_statements (v ∷ items) h = refl

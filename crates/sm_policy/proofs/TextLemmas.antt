@@ -40,7 +40,8 @@ pub tag_key_is : (name key : List ℕ) → starts_with nat_eq name (codes "secre
     → key ≡ drop 27 name → 1 ≤ length key → tag_key_named name ≡ Some (keys.ResourceTag key)
 tag_key_is name key begins e h =
     ap (λ b. cond (b && nat_le 28 (length name)) (Some (keys.ResourceTag (drop 27 name))) None) begins
-    ∙ ap (λ b. cond b (Some (keys.ResourceTag (drop 27 name))) None) (enough name (omega (arith, ap length e, length-drop 27 name)))
+    ∙ ap (λ b. cond b (Some (keys.ResourceTag (drop 27 name))) None)
+    (enough name (omega (arith, ap length e, length-drop 27 name)))
     ∙ ap (λ (k : List ℕ). Some (keys.ResourceTag k)) (sym e)
   where
     enough : (name : List ℕ) → 28 ≤ length name → nat_le 28 (length name) ≡ true

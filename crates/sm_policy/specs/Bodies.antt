@@ -15,6 +15,7 @@ IsBody bodies.NotJson is = is ≡ None
 IsBody bodies.Memory is = ⊤
 
 -- want of memory, or the member at fault, or the statements, as they are shown, where there is none
-abbrev pub IsDocument : {A : Type 0} → (A → shapes.Items) → Result A Fault → Option (List ℕ) → Option shapes.Items → Type 0
+abbrev pub IsDocument : {A : Type 0} → (A → shapes.Items) → Result A Fault → Option (List ℕ)
+    → Option shapes.Items → Type 0
 IsDocument shown (Ok values) flaw is = (flaw ≡ None) × (is ≡ Some (shown values))
 IsDocument shown (Err fault) flaw is = Flawed fault flaw

@@ -59,7 +59,8 @@ abbrev pub Flaw : Type 0
 Flaw = ℕ × List ℕ
 
 -- a statement before others, or the first fault
-abbrev pub statement_before : ℕ → Option (List ℕ) → Statement → Result (List Statement) Flaw → Result (List Statement) Flaw
+abbrev pub statement_before : ℕ → Option (List ℕ) → Statement → Result (List Statement) Flaw
+    → Result (List Statement) Flaw
 statement_before place (Some name) statement more = Err (counted place, name)
 statement_before place None statement (Ok statements) = Ok (statement ∷ statements)
 statement_before place None statement (Err flaw) = Err flaw

@@ -150,7 +150,8 @@ fn right_version(object: &Value) -> Result<(), Fault>
 /// The statements of a document of which no member is at fault.
 #[tactic(auto, unfolding(crate::specs::Documents::document_fields, crate::specs::Members::must, crate::specs::Members::given, crate::specs::Members::fault_of))]
 fn document_in(alloc: Global, object: &Value) -> Result<&[Value], Fault>
-    ensures { IsDocument (λ s. items_view s.now) result (document_fault (view object.now)) (given items Member.Statement (view object.now)) }
+    ensures { IsDocument (λ s. items_view s.now) result (document_fault (view object.now))
+        (given items Member.Statement (view object.now)) }
 {
     only(
         alloc,

@@ -7,8 +7,8 @@ pub fn patterns_match_as_stated()
     ensures star { StarMatchesAll }
 {}
 
-/// A statement that denies and matches wins over each that allows; and a person may do exactly what no statement denies,
-/// where the person is full or some statement allows it.
+/// A statement that denies and matches wins over each that allows; and a person may do exactly what no statement
+/// denies, where the person is full or some statement allows it.
 pub fn a_denial_wins()
     ensures deny { DenyWins }
     ensures allow { AllowIsUndenied }

@@ -56,7 +56,8 @@ pub(crate) fn member_of(json: &Value, name: Member) -> Option<&Value>
 /// A member that must be there.
 #[tactic(auto, unfolding(crate::specs::Members::must, crate::specs::Members::given, crate::specs::Members::fault_of))]
 pub(crate) fn required<T: Part>(alloc: Global, json: &Value, name: Member) -> Result<T, Fault>
-    ensures { Needs result (fault_of (must name (is_read T.reads)) (view json.now)) (given T.reads name (view json.now)) }
+    ensures { Needs result (fault_of (must name (is_read T.reads)) (view json.now))
+        (given T.reads name (view json.now)) }
 {
     match member_of(json, name) {
         Some(value) => match T::read(alloc, value) {
@@ -75,7 +76,8 @@ pub(crate) fn optional<T: Part>(
     json: &Value,
     name: Member,
 ) -> Result<Option<T>, Fault>
-    ensures { Reads result (fault_of (may name (is_read T.reads)) (view json.now)) (given T.reads name (view json.now)) }
+    ensures { Reads result (fault_of (may name (is_read T.reads)) (view json.now))
+        (given T.reads name (view json.now)) }
 {
     match member_of(json, name) {
         Some(value) => match T::read(alloc, value) {

@@ -70,11 +70,13 @@ ascii_at : (test : ℕ → Bool) → ((b : ℕ) → test b ≡ true → b < 128)
     → list_all test bytes ≡ true → get_or bytes place 0 < 128
 ascii_at test low [] place all = omega arith
 ascii_at test low (b ∷ bytes) zero all = low b (both (test b) (list_all test bytes) all).0
-ascii_at test low (b ∷ bytes) (suc place) all = ascii_at test low bytes place (both (test b) (list_all test bytes) all).1
+ascii_at test low (b ∷ bytes) (suc place) all =
+    ascii_at test low bytes place (both (test b) (list_all test bytes) all).1
 
 ascii_is_text : (test : ℕ → Bool) → ((b : ℕ) → test b ≡ true → b < 128) → (bytes : List ℕ)
     → list_all test bytes ≡ true → is_utf8 bytes ≡ true
-ascii_is_text test low bytes all = is_utf8-from_IsUtf8 bytes (IsUtf8-from_ascii bytes (λ i. ascii_at test low bytes i all))
+ascii_is_text test low bytes all =
+    is_utf8-from_IsUtf8 bytes (IsUtf8-from_ascii bytes (λ i. ascii_at test low bytes i all))
 
 key_byte_is_ascii : (b : ℕ) → is_key_byte b ≡ true → b < 128
 unfolding is_key_byte

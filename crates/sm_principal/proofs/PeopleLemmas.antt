@@ -30,7 +30,8 @@ module _ (whole : Result (List Person) ℕ) (number : ℕ) (known : List Person)
 shorter_step : (c : ℕ) (text : List ℕ) (p : List ℕ × List ℕ)
     → ((q : List ℕ × List ℕ) → parted 10 text ≡ Some q → length q.1 < length text) → (o : Option (List ℕ × List ℕ))
     → parted 10 text ≡ o → (b : Bool) → cond b (Some ([], text)) (pushed c o) ≡ Some p → length p.1 < length text + 1
-shorter_step c text p known o is true e = let f : ([], text) ≡ p = cc in omega (arith, ap (λ (q : List ℕ × List ℕ). length q.1) f)
+shorter_step c text p known o is true e =
+    let f : ([], text) ≡ p = cc in omega (arith, ap (λ (q : List ℕ × List ℕ). length q.1) f)
 shorter_step c text p known None is false e = absurd (cc)
 shorter_step c text p known (Some q) is false e =
     let f : (c ∷ q.0, q.1) ≡ p = cc in omega (arith, known q is, ap (λ (r : List ℕ × List ℕ). length r.1) f)

@@ -5,4 +5,5 @@ use Rattle.sm_policy.proofs.question.first_allowance.Given as goal
 -- none of those that were passed does
 abbrev pub invariant-loop-place : goal.invariant-loop-place
 invariant-loop-place l =
-    first_number (allows l.question) 0 l.statements ≡ first_number (allows l.question) l.place (drop l.place l.statements)
+    first_number (allows l.question) 0 l.statements
+    ≡ first_number (allows l.question) l.place (drop l.place l.statements)
