@@ -166,8 +166,8 @@ test_of None values = None
 test_of (Some key) None = None
 test_of (Some key) (Some values) = Some (record { key = key; values = values })
 
-unfoldable pub test : List ℕ → Data → Option Test
-test name value = test_of (key_named name) (one_or_more text value)
+unfoldable pub key_test : List ℕ → Data → Option Test
+key_test name value = test_of (key_named name) (one_or_more text value)
 
 -- an operator and its tests
 abbrev pub block_of : Option Operator → Option (List Test) → Option Block
@@ -176,7 +176,7 @@ block_of (Some operator) None = None
 block_of (Some operator) (Some tests) = Some (record { operator = operator; tests = tests })
 
 unfoldable pub block : List ℕ → Data → Option Block
-block name value = block_of (operator_named name) (members_if test (as_object value))
+block name value = block_of (operator_named name) (members_if key_test (as_object value))
 
 abbrev pub condition_with : List Block → Condition
 condition_with blocks = record { 0 = blocks }

@@ -94,11 +94,11 @@ fn operator_named(name: &[u8]) -> Option<Operator>
 }
 
 impl Named for Test {
-    ghost use Rattle.sm_policy.specs.Kinds.{test};
+    ghost use Rattle.sm_policy.specs.Kinds.{key_test};
 
-    ghost reads = { test };
+    ghost reads = { key_test };
 
-    #[tactic(auto, unfolding(crate::specs::Kinds::test))]
+    #[tactic(auto, unfolding(crate::specs::Kinds::key_test))]
     fn read(alloc: Global, name: &str, value: &Value) -> Read<Test> {
         let key = match key_named(alloc, name) {
             Read::Is(key) => key,

@@ -1,0 +1,182 @@
+//! A policy that lets one person read and keeps everybody from what is pending; texts that are no policies; patterns.
+use sm_base::{Arn, List, Moment, Name, ReadRefused, Text};
+use sm_model::{Person, Rotation, SecretRow};
+use sm_policy::question::Question;
+use sm_policy::{Case, Decision, Policy, PolicyRefused, is_match};
+use std::alloc::Global;
+use std::test::Fail;
+
+const WORKED: &str = "{\"Version\":\"2012-10-17\",\"Statement\":[{\"Effect\":\"Allow\",\
+    \"Principal\":{\"AWS\":\"arn:aws:iam::000000000000:user/gil\"},\
+    \"Action\":\"secretsmanager:GetSecretValue\",\"Resource\":\"*\"},\
+    {\"Effect\":\"Deny\",\"Principal\":\"*\",\"Action\":\"secretsmanager:*\",\"Resource\":\"*\",\
+    \"Condition\":{\"StringEquals\":{\"secretsmanager:VersionStage\":\"AWSPENDING\"}}}]}";
+
+fn row(alloc: Global) -> Result<SecretRow, ReadRefused> {
+    let name = Name::read(alloc, b"db/app")?;
+    Ok(SecretRow {
+        serial: 0,
+        arn: Arn::drawn(alloc, &name, &[0; 6])?,
+        name,
+        created: Moment(0),
+        changed: Moment(0),
+        description: None,
+        kms: None,
+        tags: List::empty(alloc),
+        versions: List::empty(alloc),
+        next_version: 0,
+        labels: List::empty(alloc),
+        deletion: None,
+        rotation: Rotation {
+            enabled: false,
+            lambda: None,
+            days: None,
+            next: None,
+            last: None,
+        },
+        policy: None,
+        job: None,
+    })
+}
+
+/// What a policy says to a person.
+fn said<'a>(
+    policy: &Policy,
+    person: &'a Person,
+    row: &'a SecretRow,
+    action: &'a [u8],
+    stage: &'a [u8],
+) -> Decision {
+    policy.decide(&Question {
+        person,
+        action,
+        row,
+        secret_id: action,
+        version_id: None,
+        version_stage: Some(stage),
+    })
+}
+
+/// What the text of a policy says to a guest.
+fn decided(alloc: Global, policy: &str, action: &str, stage: &str) -> Option<Decision> {
+    let person = Person {
+        key: Text::fixed("GIL"),
+        arn: Text::fixed("arn:aws:iam::000000000000:user/gil"),
+        full: false,
+    };
+    let Ok(row) = row(alloc) else {
+        return None;
+    };
+    match Policy::read(alloc, policy.as_bytes()) {
+        Ok(policy) => Some(said(&policy, &person, &row, action.as_bytes(), stage.as_bytes())),
+        Err(_) => None,
+    }
+}
+
+/// Whether the text is refused so.
+fn is_refused(alloc: Global, text: &str, number: u32, member: &str) -> bool {
+    match Policy::read(alloc, text.as_bytes()) {
+        Ok(_) => false,
+        Err(PolicyRefused::Malformed(at, name)) => at == number && name.as_str() == member,
+        Err(PolicyRefused::Memory) => false,
+    }
+}
+
+/// The number of the first public statement, or 0.
+fn public(alloc: Global, text: &str) -> u32 {
+    match Policy::read(alloc, text.as_bytes()) {
+        Ok(policy) => policy.is_public().unwrap_or(0),
+        Err(_) => 99,
+    }
+}
+
+#[test]
+fn the_worked_policy(rt: HostRuntime) -> Result<(), Fail> {
+    for (action, stage, wanted) in [
+        (
+            "secretsmanager:GetSecretValue",
+            "AWSCURRENT",
+            Decision::Allow(1),
+        ),
+        (
+            "secretsmanager:GetSecretValue",
+            "AWSPENDING",
+            Decision::Deny(2),
+        ),
+        (
+            "secretsmanager:DescribeSecret",
+            "AWSCURRENT",
+            Decision::Silent,
+        ),
+    ] {
+        assert_eq!(rt; decided(rt.alloc(), WORKED, action, stage), Some(wanted));
+    }
+    Ok(())
+}
+
+#[test]
+fn texts_that_are_no_policies(rt: HostRuntime) -> Result<(), Fail> {
+    for (text, number, member) in [
+        ("", 0, "policy"),
+        ("[]", 0, "policy"),
+        ("{\"Version\":\"2012-10-17\"}", 0, "Statement"),
+        (
+            "{\"Version\":\"2008-10-17\",\"Statement\":{}}",
+            0,
+            "Version",
+        ),
+        (
+            "{\"Version\":\"2012-10-17\",\"Statement\":[]}",
+            0,
+            "Statement",
+        ),
+        (
+            "{\"Version\":\"2012-10-17\",\"Statement\":[1]}",
+            1,
+            "Statement",
+        ),
+        (
+            "{\"Version\":\"2012-10-17\",\"Statement\":{\"NotAction\":\"*\"}}",
+            1,
+            "NotAction",
+        ),
+        (
+            "{\"Version\":\"2012-10-17\",\"Id\":null,\"Statement\":{}}",
+            0,
+            "Id",
+        ),
+    ] {
+        assert!(rt; is_refused(rt.alloc(), text, number, member), "{text}");
+    }
+    Ok(())
+}
+
+#[test]
+fn public_statements(rt: HostRuntime) -> Result<(), Fail> {
+    assert_eq!(rt; public(rt.alloc(), WORKED), 0);
+    let open =
+        "{\"Version\":\"2012-10-17\",\"Statement\":{\"Effect\":\"Allow\",\"Principal\":\"*\",\
+        \"Action\":\"*\",\"Resource\":\"*\",\"Condition\":{}}}";
+    assert_eq!(rt; public(rt.alloc(), open), 1);
+    Ok(())
+}
+
+#[test]
+fn patterns(rt: HostRuntime) -> Result<(), Fail> {
+    for (pattern, text, wanted) in [
+        ("a*b?", "aXXbc", true),
+        ("a*b?", "ab", false),
+        ("*", "", true),
+        ("?", "\u{e9}", true),
+        ("a*b*c", "aXbXbXc", true),
+        ("*ab", "aab", true),
+        ("A", "a", false),
+    ] {
+        assert!(rt;
+            is_match(Case::Exact, pattern.as_bytes(), text.as_bytes()) == wanted,
+            "{pattern}"
+        );
+    }
+    assert!(rt; is_match(Case::Folded, b"A*", b"ab"));
+    Ok(())
+}
