@@ -43,10 +43,11 @@ pub fn mode<'a>(alloc: Global) -> Arg<'a>
         alloc,
         "mode",
         "MODE",
-        "What the run does",
-        "What the run does: exec answers the messages of standard input and ends; serve answers at an address; \
-         check says what a folder holds; drill makes messages of its own and answers them.\n\
-         Example: --mode serve",
+        "What the run does; exec alone is built yet",
+        "What the run does: exec answers the messages of standard input and ends; serve is to answer at an address, \
+         check to say what a folder holds, and drill to make messages of its own and answer them. exec alone is built \
+         yet.\n\
+         Example: --mode exec",
     )
     .value_parser(ValueParser::Names(MODES.as_slice()))
     .default_value("exec")
@@ -62,7 +63,7 @@ pub fn data<'a>(alloc: Global) -> Arg<'a>
         "data",
         "FOLDER",
         "The folder that keeps the secrets; without it they are forgotten at the end of the run",
-        "The folder that keeps the secrets from run to run. Files that are not there are made, the folder is not. \
+        "The folder that keeps the secrets from run to run. The folder has to be there; its files are made. \
          Without it all secrets are forgotten at the end of the run.\n\
          Example: --data /var/lib/secretsd",
     )
@@ -77,8 +78,9 @@ pub fn people<'a>(alloc: Global) -> Arg<'a>
         alloc,
         "people",
         "FILE",
-        "The file that says who may call; without it everybody may",
-        "The file that says who may call, a line for each access key. Without it everybody may do all.\n\
+        "The file that says who may call (not built yet); without it everybody may",
+        "The file that says who may call, a line for each access key. It is not built yet. Without it everybody may do \
+         all.\n\
          Example: --people /etc/secretsd/people",
     )
 }
@@ -110,8 +112,8 @@ pub fn rotator<'a>(alloc: Global) -> Arg<'a>
         "local|HOST:PORT",
         "Who makes new values when a secret is rotated: the program itself, or a server",
         "Who makes new values when a secret is rotated: local is the program itself, all else the address of a \
-         server that is asked.\n\
-         Example: --rotator 127.0.0.1:9000",
+         server that is asked, which is not built yet.\n\
+         Example: --rotator local",
     )
     .default_value(ROTATOR)
 }

@@ -18,8 +18,8 @@ fn bare<'a>(alloc: Global) -> Command<'a>
             "Examples:\n  \
              secretsd --data secrets < messages\n      \
              answers the HTTP messages of a file on standard output, and keeps the secrets in a folder\n  \
-             secretsd --mode serve --data secrets --listen 127.0.0.1:7777\n      \
-             answers whoever connects to the address",
+             secretsd --number 0 < messages\n      \
+             answers them the same way in each run, and forgets the secrets at its end",
         )
         .no_binary_name(true)
 }

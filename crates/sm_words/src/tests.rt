@@ -78,7 +78,7 @@ const SAID: [(&str, bool, &str); 9] = [
     ("--version", true, "secretsd 0.1.0\n"),
     ("-V", true, "secretsd 0.1.0\n"),
     ("-h", true, "--connections <1 to 64>"),
-    ("--mode serve --help", true, "Example: --mode serve"),
+    ("--mode serve --help", true, "Example: --mode exec"),
     ("--help", true, "[default: 127.0.0.1:7777]"),
     (
         "--mode nonsense",
