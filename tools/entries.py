@@ -15,6 +15,10 @@ def octets(value):
     return len(value).to_bytes(4, "big") + value
 
 
+def truth(value):
+    return b"\1" if value else b"\0"
+
+
 def option(thing=None):
     return b"\0" if thing is None else b"\1" + thing
 

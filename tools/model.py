@@ -10,6 +10,7 @@ import binascii
 import collections
 import json
 import re
+import string
 import uuid
 
 import entries
@@ -50,11 +51,17 @@ MEMBERS = {
     "ValidateResourcePolicy": "ResourcePolicy* text, SecretId text",
 }
 
-BUILT = {"CreateSecret", "DescribeSecret", "GetSecretValue", "PutSecretValue", "UpdateSecret", "UpdateSecretVersionStage"}
+BUILT = {"CreateSecret", "DeleteSecret", "DescribeSecret", "GetSecretValue", "PutSecretValue", "RestoreSecret", "TagResource", "UntagResource"}
+BUILT |= {"UpdateSecret", "UpdateSecretVersionStage", "BatchGetSecretValue", "GetRandomPassword", "ListSecretVersionIds", "ListSecrets"}
+# Truth values that are true where they are absent.
+TRUE_IF_ABSENT = {"RequireEachIncludedType", "RotateImmediately"}
+# What works on a secret that is scheduled for deletion, beside a forced deletion.
+ON_SCHEDULED = {"DescribeSecret", "ListSecretVersionIds", "RestoreSecret"}
 
 NAME = re.compile(r"[A-Za-z0-9/_+=.@-]{1,512}")
 ARN = re.compile(r"arn:aws:secretsmanager:[a-z0-9-]{1,32}:[0-9]{12}:secret:[A-Za-z0-9/_+=.@-]{1,519}")
 TOKEN = re.compile(r"[!-~]{32,64}")
+PAGE_TOKEN = re.compile(r"[sv](0|[1-9][0-9]*)")
 
 
 class Refusal(Exception):
@@ -69,6 +76,7 @@ class Refusal(Exception):
 # The refusals whose message says all, and their errors' names.
 ERRORS = {
     "AWSCURRENT can be moved but not removed": "InvalidParameterException",
+    "NextToken is not in its form": "InvalidNextTokenException",
     "body is not a JSON object": "SerializationException",
     "not built": "SerializationException",
     "secret not found": "ResourceNotFoundException",
@@ -98,6 +106,7 @@ KINDS = set(ERRORS) | {
     "version _ has another value",
     "label is held by _",
     "label is held by no version",
+    "secret is scheduled for deletion at _",
     "limit of 20 labels",
     "limit of 50 tags",
     "limit of 1000 versions",
@@ -107,6 +116,11 @@ KINDS = set(ERRORS) | {
     "http: head too long",
     "http: length",
 }
+
+
+def scheduled(date):
+    message = f"secret is scheduled for deletion at {date}"
+    return Refusal("InvalidRequestException", message, "secret is scheduled for deletion at _")
 
 
 def limit_of(count, what):
@@ -141,16 +155,41 @@ def is_token(text):
     return bool(TOKEN.fullmatch(text))
 
 
+def is_filter(given):
+    key, values = given
+    return key in FILTERED and 1 <= len(values) <= 10 and all(len(value) <= 512 for value in values)
+
+
+def is_truth(value):
+    return True
+
+
 FORMS = {
     "ClientRequestToken": is_token,
     "Description": is_description,
+    "ExcludeCharacters": lambda text: len(text) <= 4096,
+    "ExcludeLowercase": is_truth,
+    "ExcludeNumbers": is_truth,
+    "ExcludePunctuation": is_truth,
+    "ExcludeUppercase": is_truth,
+    "Filters": lambda filters: len(filters) <= 10 and all(map(is_filter, filters)),
+    "ForceDeleteWithoutRecovery": is_truth,
+    "IncludeDeprecated": is_truth,
+    "IncludePlannedDeletion": is_truth,
+    "IncludeSpace": is_truth,
     "KmsKeyId": is_description,
     "MoveToVersionId": is_token,
     "Name": lambda text: bool(NAME.fullmatch(text)),
+    "PasswordLength": lambda length: 1 <= length <= 4096,
+    "RecoveryWindowInDays": lambda days: 7 <= days <= 30,
     "RemoveFromVersionId": is_token,
+    "RequireEachIncludedType": is_truth,
     "SecretBinary": is_value,
     "SecretId": is_secret_id,
+    "SecretIdList": lambda ids: 1 <= len(ids) <= 20,
     "SecretString": is_value,
+    "SortOrder": lambda order: order in ("asc", "desc"),
+    "TagKeys": lambda keys: len(keys) <= 50 and all(1 <= len(key) <= 128 for key in keys),
     "Tags": are_tags,
     "VersionId": is_token,
     "VersionStage": is_label,
@@ -318,17 +357,70 @@ def needed(operation, members):
         return 22 if value_in(members) is not None and without_token else 6
     if operation == "UpdateSecret":
         return 16 if value_in(members) is not None and without_token else 0
+    if operation == "GetRandomPassword":
+        length = members.get("PasswordLength", 32)
+        return 4 * length if 1 <= length <= 4096 else 0
     return 16 if operation == "PutSecretValue" and without_token else 0
+
+
+def test_form(operation, name, value):
+    """The forms of MaxResults and NextToken are the operation's."""
+    if name == "NextToken":
+        kind = "v" if operation == "ListSecretVersionIds" else "s"
+        if not PAGE_TOKEN.fullmatch(value) or value[0] != kind or int(value[1:]) >= 2**64:
+            raise refusal("NextToken is not in its form")
+    elif name == "MaxResults":
+        if not 1 <= value <= page_limit(operation):
+            raise bad_form(name)
+    elif not FORMS[name](value):
+        raise bad_form(name)
+
+
+def page_limit(operation):
+    return 20 if operation == "BatchGetSecretValue" else 100
 
 
 def test_forms(operation, members):
     for name, value in members.items():
-        if not FORMS[name](value):
-            raise bad_form(name)
+        test_form(operation, name, value)
+    if operation == "BatchGetSecretValue":
+        if ("SecretIdList" in members) == ("Filters" in members):
+            raise bad_form("SecretIdList")
+        if "SecretIdList" in members and {"MaxResults", "NextToken"} & members.keys():
+            raise bad_form("MaxResults")
+    if operation == "GetRandomPassword":
+        classes = classes_of(members)
+        if not classes:
+            raise bad_form("ExcludeCharacters")
+        if members.get("RequireEachIncludedType", True) and members.get("PasswordLength", 32) < len(classes):
+            raise bad_form("PasswordLength")
     if {"SecretBinary", "SecretString"} <= members.keys() or operation == "PutSecretValue" and value_in(members) is None:
         raise bad_form("SecretString")
+    if members.get("ForceDeleteWithoutRecovery") and "RecoveryWindowInDays" in members:
+        raise bad_form("ForceDeleteWithoutRecovery")
     if operation == "UpdateSecretVersionStage" and not {"MoveToVersionId", "RemoveFromVersionId"} & members.keys():
         raise bad_form("MoveToVersionId")
+
+
+def classes_of(members):
+    """The classes of characters of a password."""
+    classes = [string.ascii_lowercase, string.ascii_uppercase, string.digits, string.punctuation]
+    excluded = ["ExcludeLowercase", "ExcludeUppercase", "ExcludeNumbers", "ExcludePunctuation"]
+    taken = [characters for characters, name in zip(classes, excluded) if not members.get(name)]
+    taken += [" "] if members.get("IncludeSpace") else []
+    left = ["".join(it for it in characters if it not in members.get("ExcludeCharacters", "")) for characters in taken]
+    return [characters for characters in left if characters]
+
+
+def password(members, drawn):
+    length, classes = members.get("PasswordLength", 32), classes_of(members)
+    words = [256 * drawn[2 * place] + drawn[2 * place + 1] for place in range(2 * length)]
+    each = classes if members.get("RequireEachIncludedType", True) else []
+    made = []
+    for place in range(length):
+        characters = each[place] if place < len(each) else "".join(classes)
+        made.insert(words[length + place] % (place + 1), characters[words[place] % len(characters)])
+    return {"RandomPassword": "".join(made)}
 
 
 def drawn_token(drawn):
@@ -338,14 +430,47 @@ def drawn_token(drawn):
 # ---- secrets
 
 
+# The texts of a secret that a filter's key speaks of.
+FILTERED = {
+    "name": lambda secret: [secret.name],
+    "description": lambda secret: [secret.said["Description"]] if "Description" in secret.said else [],
+    "tag-key": lambda secret: [key for key, _ in secret.tags],
+    "tag-value": lambda secret: [value for _, value in secret.tags],
+}
+
+
+def holds(secret, given):
+    key, values = given
+    texts = FILTERED[key](secret)
+
+    def one_begins(prefix):
+        return any(text.startswith(prefix) for text in texts)
+
+    return any(not one_begins(value[1:]) if value.startswith("!") else one_begins(value) for value in values)
+
+
+def page(operation, members, items, descending=False):
+    """The numbers of the items on the page, of those that are listed, and the member of the reply for the next page."""
+    items = sorted(items, reverse=descending)
+    if "NextToken" in members:
+        last = int(members["NextToken"][1:])
+        items = [number for number in items if (number < last if descending else number > last)]
+    most = members.get("MaxResults", page_limit(operation))
+    kind = "v" if operation == "ListSecretVersionIds" else "s"
+    shown = items[:most]
+    return shown, {"NextToken": f"{kind}{shown[-1]}"} if len(items) > most else {}
+
+
 class Secret:
-    def __init__(self, name, arn, tags):
+    def __init__(self, number, name, arn, tags):
+        self.number = number
         self.name = name
         self.arn = arn
         self.tags = tags
         self.said = {}
         self.versions = {}
         self.labels = []
+        self.deletion = None
 
     def holder(self, label):
         return next((version for held, version in self.labels if held == label), None)
@@ -384,6 +509,7 @@ class Account:
 
     def __init__(self):
         self.secrets = []
+        self.made = 0
         self.drawn = 0
         self.reached = collections.Counter()
         # The entries that were made, as they stand in a journal.
@@ -411,22 +537,65 @@ class Account:
         test_forms(operation, members)
         if operation == "CreateSecret":
             return self.create(members, drawn)
-        secret = self.find(members["SecretId"])
-        if secret is None:
-            raise refusal("secret not found")
-        if operation == "GetSecretValue":
-            return get(secret, members.get("VersionId"), members.get("VersionStage"))
-        if operation == "DescribeSecret":
-            return describe(secret)
-        if operation == "PutSecretValue":
-            reply, is_new = put(secret, members, drawn)
-        elif operation == "UpdateSecret":
-            reply, is_new = update(secret, members, drawn)
-        else:
-            reply, is_new = move(secret, members["VersionStage"], members.get("MoveToVersionId"), members.get("RemoveFromVersionId")), True
+        if operation == "GetRandomPassword":
+            return password(members, drawn)
+        if operation == "ListSecrets":
+            return self.list(members)
+        if operation == "BatchGetSecretValue":
+            return self.batch(members)
+        forced = members.get("ForceDeleteWithoutRecovery", False)
+        if forced and self.find(members["SecretId"]) is None:
+            return {"DeletionDate": NOW, "Name": members["SecretId"]}
+        secret = self.named(operation, members["SecretId"], forced)
+        if operation in READS:
+            return READS[operation](secret, members)
+        reply, is_new = CHANGES[operation](secret, members, drawn)
+        if forced:
+            self.secrets.remove(secret)
         if is_new:
             self.entries.append(entry_of(operation, members, drawn))
         return reply
+
+    def named(self, operation, secret_id, forced=False):
+        """The secret that the operation works on."""
+        secret = self.find(secret_id)
+        if secret is None:
+            raise refusal("secret not found")
+        if secret.deletion is not None and not forced and operation not in ON_SCHEDULED:
+            raise scheduled(secret.deletion)
+        return secret
+
+    def listed(self, operation, members):
+        """The secrets of a page, and the member of the reply for the next page."""
+        numbered = {secret.number: secret for secret in self.secrets}
+        planned, filters = members.get("IncludePlannedDeletion", False), members.get("Filters", [])
+        items = [
+            secret.number for secret in self.secrets
+            if (planned or secret.deletion is None) and all(holds(secret, given) for given in filters)
+        ]
+        shown, following = page(operation, members, items, members.get("SortOrder") == "desc")
+        return [numbered[number] for number in shown], following
+
+    def list(self, members):
+        secrets, following = self.listed("ListSecrets", members)
+        shown = [describe(secret, {}) for secret in secrets]
+        for it in shown:
+            it["SecretVersionsToStages"] = it.pop("VersionIdsToStages")
+        return {"SecretList": shown} | following
+
+    def batch(self, members):
+        ids, following = members.get("SecretIdList"), {}
+        if ids is None:
+            secrets, following = self.listed("BatchGetSecretValue", members)
+            ids = [secret.arn for secret in secrets]
+        values, errors = [], []
+        for it in ids:
+            try:
+                test_forms("GetSecretValue", {"SecretId": it})
+                values.append(get(self.named("GetSecretValue", it), {}))
+            except Refusal as refused:
+                errors.append({"ErrorCode": refused.error, "Message": refused.message, "SecretId": it})
+        return {"Errors": errors, "SecretValues": values} | following
 
     def create(self, members, drawn):
         value = value_in(members)
@@ -437,13 +606,16 @@ class Account:
             if len(tags) > 50:
                 raise limit_of(50, "tags")
             suffix = "".join(SUFFIX_CHARACTERS[byte % 62] for byte in drawn[:6])
-            secret = Secret(members["Name"], f"{ARN_BEGINNING}{members['Name']}-{suffix}", tags)
+            secret = Secret(self.made, members["Name"], f"{ARN_BEGINNING}{members['Name']}-{suffix}", tags)
+            self.made += 1
             secret.say(members)
             self.secrets.append(secret)
             self.entries.append(entry_of("CreateSecret", members, drawn))
             if value is not None:
                 secret.versions[token] = value
                 secret.place("AWSCURRENT", token)
+        elif secret.deletion is not None:
+            raise scheduled(secret.deletion)
         elif value is None or secret.versions.get(token) != value:
             raise Refusal("ResourceExistsException", f"secret {secret.name} exists", "secret _ exists")
         return secret.named() | ({} if value is None else {"VersionId": token})
@@ -458,24 +630,28 @@ SPELLED = {
     "texts": lambda texts: entries.items(*map(entries.text, texts)),
 }
 # The acts of the operations that are built, by their number in a journal.
-ACTS = {"CreateSecret": 1, "PutSecretValue": 2, "UpdateSecret": 3, "UpdateSecretVersionStage": 6}
+ACTS = {"CreateSecret": 1, "PutSecretValue": 2, "UpdateSecret": 3, "DeleteSecret": 4, "RestoreSecret": 5, "UpdateSecretVersionStage": 6}
+ACTS |= {"TagResource": 7, "UntagResource": 8}
 
 
 def entry_of(operation, members, drawn):
-    """The entry of an accepted request: its members in the order of their names, those that may be absent as options."""
+    """The entry of an accepted request: its members in the order of their names, truth values as they count, others that may be absent as options."""
     fields = []
     for member in MEMBERS[operation].split(", "):
         name, kind = member.split(" ")
         if kind == "regions":
             continue
-        if name.endswith("*"):
+        if kind == "truth":
+            fields.append(entries.truth(members.get(name, name in TRUE_IF_ABSENT)))
+        elif name.endswith("*"):
             fields.append(SPELLED[kind](members[name.rstrip("*")]))
         else:
             fields.append(entries.option(SPELLED[kind](members[name]) if name in members else None))
     return entries.entry(ACTS[operation], *fields, drawn=bytes(drawn))
 
 
-def get(secret, version, label):
+def get(secret, members):
+    version, label = members.get("VersionId"), members.get("VersionStage")
     if version is None and label is None:
         label = "AWSCURRENT"
     if version is not None and version not in secret.versions or label is not None and secret.holder(label) is None:
@@ -489,10 +665,24 @@ def get(secret, version, label):
     return secret.named() | shown | {"VersionStages": secret.labels_of(version)}
 
 
-def describe(secret):
+def describe(secret, members):
     staged = {version: secret.labels_of(version) for version in secret.versions if secret.labels_of(version)}
     shown = {"CreatedDate": NOW, "LastChangedDate": NOW, "RotationEnabled": False, "VersionIdsToStages": staged}
+    if secret.deletion is not None:
+        shown["DeletedDate"] = secret.deletion
     return secret.named() | secret.said | shown | {"Tags": [{"Key": key, "Value": value} for key, value in secret.tags]}
+
+
+def list_versions(secret, members):
+    numbered = list(enumerate(secret.versions))
+    listed = [number for number, it in numbered if members.get("IncludeDeprecated") or secret.labels_of(it)]
+    shown, following = page("ListSecretVersionIds", members, listed)
+    versions = []
+    for number in shown:
+        version = numbered[number][1]
+        labels = secret.labels_of(version)
+        versions.append({"CreatedDate": NOW, "VersionId": version} | ({"VersionStages": labels} if labels else {}))
+    return secret.named() | {"Versions": versions} | following
 
 
 def add_value(secret, token, value, labels):
@@ -531,7 +721,33 @@ def update(secret, members, drawn):
     return secret.named() | {"VersionId": token}, is_new
 
 
-def move(secret, label, target, source):
+def delete(secret, members, drawn):
+    """The reply, and whether anything changed. A forced deletion has the moment as its date."""
+    date = NOW if members.get("ForceDeleteWithoutRecovery") else NOW + 86400 * members.get("RecoveryWindowInDays", 30)
+    secret.deletion = date
+    return secret.named() | {"DeletionDate": date}, True
+
+
+def restore(secret, members, drawn):
+    secret.deletion = None
+    return secret.named(), True
+
+
+def tag(secret, members, drawn):
+    tags = dict(secret.tags) | dict(members["Tags"])
+    if len(tags) > 50:
+        raise limit_of(50, "tags")
+    secret.tags = list(tags.items())
+    return None, True
+
+
+def untag(secret, members, drawn):
+    secret.tags = [(key, value) for key, value in secret.tags if key not in members["TagKeys"]]
+    return None, True
+
+
+def move(secret, members, drawn):
+    label, target, source = members["VersionStage"], members.get("MoveToVersionId"), members.get("RemoveFromVersionId")
     for version in (source, target):
         if version is not None and version not in secret.versions:
             raise refusal("version not found")
@@ -545,7 +761,21 @@ def move(secret, label, target, source):
         raise refusal("AWSCURRENT can be moved but not removed")
     else:
         secret.labels = secret.without(label)
-    return secret.named()
+    return secret.named(), True
+
+
+# What the operations answer that only read a secret.
+READS = {"DescribeSecret": describe, "GetSecretValue": get, "ListSecretVersionIds": list_versions}
+# What the operations do that change a secret: the reply, and whether anything changed.
+CHANGES = {
+    "DeleteSecret": delete,
+    "PutSecretValue": put,
+    "RestoreSecret": restore,
+    "TagResource": tag,
+    "UntagResource": untag,
+    "UpdateSecret": update,
+    "UpdateSecretVersionStage": move,
+}
 
 
 # ---- messages
@@ -633,7 +863,7 @@ def messages_of(stream):
 
 
 def framed(status, shown):
-    body = json.dumps(shown, separators=(",", ":"), ensure_ascii=False, sort_keys=True).encode()
+    body = b"" if shown is None else json.dumps(shown, separators=(",", ":"), ensure_ascii=False, sort_keys=True).encode()
     head = f"HTTP/1.1 {status}\r\nContent-Type: application/x-amz-json-1.1\r\nContent-Length: {len(body)}\r\n\r\n"
     return head.encode() + body
 

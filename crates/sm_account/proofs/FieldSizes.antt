@@ -1,6 +1,6 @@
 -- How long the fields of entries are, and when they fit.
 use Rattle.std.proofs.Common.{◌≡◌, ℕ, ◌+◌, ◌*◌, ◌^◌, ◌<◌, ◌≤◌, Bool, true, false, not, ◌&&◌, List, [], ◌∷◌, ◌++◌, length, Option, Some, None, IfSome, refl, ap, arith, length-append}
-use Rattle.std.specs.Prelude.{IsTrue, IsUtf8, nat_eq, nat_lt, nat_le, if◌then◌else◌, codes}
+use Rattle.std.specs.Prelude.{ℤ, pos, negsuc, IsTrue, IsUtf8, nat_eq, nat_lt, nat_le, if◌then◌else◌, codes}
 use Rattle.std.specs.Str.{is_utf8, chars, encode_utf8_all as encodes}
 use Rattle.std.specs.Char.{is_ascii_digit, encode_utf8 as encode}
 use Rattle.std.specs.List.{flat_map, list_all, starts_with}
@@ -15,9 +15,12 @@ use Rattle.sm_model.specs.declared.limits.TheConstants.{DESCRIPTION_LIMIT, TAGS_
 use Rattle.sm_model.specs.declared.value.Tag.{Tag}
 use Rattle.sm_versions.specs.Texts.{once}
 use Rattle.sm_versions.specs.Sound.{tag_keys, each_tag}
+use Rattle.sm_forms.specs.DeleteSecret.{is_window}
+use Rattle.sm_forms.specs.declared.delete_secret.TheConstants.{SHORTEST_WINDOW, LONGEST_WINDOW}
+use Rattle.sm_forms.specs.UntagResource.{is_untag_key}
 use Rattle.sm_record.specs.Codec.{optional}
-use Rattle.sm_record.specs.Fields.{count, octets, text, listed, tag}
-use Rattle.sm_account.specs.Texts.{TagTexts}
+use Rattle.sm_record.specs.Fields.{count, long, signed, octets, text, truth, listed, tag}
+use Rattle.sm_account.specs.Texts.{TagTexts, EachText}
 
 count_size : (n : ℕ) → length (count.spell n) ≡ 4
 unfolding count
@@ -38,6 +41,37 @@ octets_fits bytes short = grind (arith, nat_tests)
 pub text_fits : (t : List ℕ) → IsUtf8 t → length t < 2 ^ 32 → text.fits t ≡ true
 unfolding text
 text_fits t utf8 short = and_from (is_utf8 t) (octets.fits t) (is_utf8-from_IsUtf8 t utf8) (octets_fits t short)
+
+-- a truth value
+pub truth_size : (b : Bool) → length (truth.spell b) ≡ 1
+unfolding truth
+truth_size b = refl
+
+pub truth_fits : (b : Bool) → truth.fits b ≡ true
+unfolding truth
+truth_fits true = refl
+truth_fits false = refl
+
+-- a window that need not be there
+signed_size : (z : ℤ) → length (signed.spell z) ≡ 8
+unfolding signed long
+signed_size z = refl
+
+window_fit : (days : ℤ) → IsTrue (is_window days) → signed.fits days ≡ true
+unfolding signed
+window_fit (pos n) is =
+    let le = (and_parts (nat_le SHORTEST_WINDOW n) (nat_le n LONGEST_WINDOW) is).1 in grind (arith, nat_tests, le)
+window_fit (negsuc n) is = absurd (let f : false ≡ true = is in cc)
+
+pub window_size : (t : Option ℤ) → length ((optional signed).spell t) ≤ 9
+unfolding optional
+window_size None = omega arith
+window_size (Some days) = omega (arith, signed_size days)
+
+pub window_fits : (t : Option ℤ) → IfSome t (λ days. IsTrue (is_window days)) → (optional signed).fits t ≡ true
+unfolding optional
+window_fits None h = refl
+window_fits (Some days) h = window_fit days h
 
 -- a text that need not be there
 pub optional_size : (t : Option (List ℕ)) (n : ℕ) → IfSome t (λ x. length x ≤ n)
@@ -223,26 +257,84 @@ each_tag_fits (t ∷ tags) texts all =
     and_from (tag.fits t) (list_all tag.fits tags)
     (tag_fits t texts.0 texts.1 (tag_size t texts.0 texts.1 both.0)) (each_tag_fits tags texts.2 both.1)
 
--- tags that need not be there
-pub tags_size : (t : Option (List Tag)) → IfSome t TagTexts
-    → IfSome t (λ tags. IsTrue (each_tag tags) × IsTrue (once (tag_keys tags)))
-    → IfSome t (λ tags. length tags ≤ TAGS_LIMIT) → length ((optional (listed tag)).spell t) ≤ 77205
-unfolding optional listed
-tags_size None texts are few = omega arith
-tags_size (Some tags) texts are few =
+-- a list of tags
+pub tag_list_size : (tags : List Tag) → TagTexts tags → IsTrue (each_tag tags) → length tags ≤ TAGS_LIMIT
+    → length ((listed tag).spell tags) ≤ 77204
+unfolding listed
+tag_list_size tags texts all few =
     omega (
       arith,
       length-append (count.spell (length tags)) (flat_map tag.spell tags),
       count_size (length tags),
-      each_tag_size tags texts are.0,
+      each_tag_size tags texts all,
       few,
     )
+
+pub tag_list_fits : (tags : List Tag) → TagTexts tags → IsTrue (each_tag tags) → length tags ≤ TAGS_LIMIT
+    → (listed tag).fits tags ≡ true
+unfolding listed count
+tag_list_fits tags texts all few =
+    and_from (nat_lt (length tags) (2 ^ 32)) (list_all tag.fits tags) (grind (arith, nat_tests, few))
+    (each_tag_fits tags texts all)
+
+-- tags that need not be there
+pub tags_size : (t : Option (List Tag)) → IfSome t TagTexts
+    → IfSome t (λ tags. IsTrue (each_tag tags) × IsTrue (once (tag_keys tags)))
+    → IfSome t (λ tags. length tags ≤ TAGS_LIMIT) → length ((optional (listed tag)).spell t) ≤ 77205
+unfolding optional
+tags_size None texts are few = omega arith
+tags_size (Some tags) texts are few = omega (arith, tag_list_size tags texts are.0 few)
 
 pub tags_fit : (t : Option (List Tag)) → IfSome t TagTexts
     → IfSome t (λ tags. IsTrue (each_tag tags) × IsTrue (once (tag_keys tags)))
     → IfSome t (λ tags. length tags ≤ TAGS_LIMIT) → (optional (listed tag)).fits t ≡ true
-unfolding optional listed count
+unfolding optional
 tags_fit None texts are few = refl
-tags_fit (Some tags) texts are few =
-    and_from (nat_lt (length tags) (2 ^ 32)) (list_all tag.fits tags) (grind (arith, nat_tests, few))
-    (each_tag_fits tags texts are.0)
+tags_fit (Some tags) texts are few = tag_list_fits tags texts are.0 few
+
+-- the keys of tags that are to be taken off
+key_size : (key : List ℕ) → IsUtf8 key → IsTrue (is_untag_key key) → length key ≤ 512
+key_size key utf8 is =
+    few_bytes TAG_KEY_LIMIT key utf8 (and_parts (nat_le 1 (length (chars key))) (has_at_most TAG_KEY_LIMIT key) is).1
+
+each_key_size : (keys : List (List ℕ)) → EachText keys → IsTrue (list_all is_untag_key keys)
+    → length (flat_map text.spell keys) ≤ 516 * length keys
+each_key_size [] texts all = omega arith
+each_key_size (key ∷ keys) texts all =
+    let both = and_parts (is_untag_key key) (list_all is_untag_key keys) all in
+    omega (
+      arith,
+      length-append (text.spell key) (flat_map text.spell keys),
+      text_size key,
+      key_size key texts.0 both.0,
+      each_key_size keys texts.1 both.1,
+    )
+
+each_key_fits : (keys : List (List ℕ)) → EachText keys → IsTrue (list_all is_untag_key keys)
+    → list_all text.fits keys ≡ true
+each_key_fits [] texts all = refl
+each_key_fits (key ∷ keys) texts all =
+    let both = and_parts (is_untag_key key) (list_all is_untag_key keys) all in
+    and_from (text.fits key) (list_all text.fits keys)
+    (text_fits key texts.0 (omega (arith, key_size key texts.0 both.0))) (each_key_fits keys texts.1 both.1)
+
+pub keys_size : (keys : List (List ℕ)) → EachText keys → IsTrue (list_all is_untag_key keys)
+    → length keys ≤ TAGS_LIMIT
+    → length ((listed text).spell keys) ≤ 25804
+unfolding listed
+keys_size keys texts all few =
+    omega (
+      arith,
+      length-append (count.spell (length keys)) (flat_map text.spell keys),
+      count_size (length keys),
+      each_key_size keys texts all,
+      few,
+    )
+
+pub keys_fit : (keys : List (List ℕ)) → EachText keys → IsTrue (list_all is_untag_key keys)
+    → length keys ≤ TAGS_LIMIT
+    → (listed text).fits keys ≡ true
+unfolding listed count
+keys_fit keys texts all few =
+    and_from (nat_lt (length keys) (2 ^ 32)) (list_all text.fits keys) (grind (arith, nat_tests, few))
+    (each_key_fits keys texts all)

@@ -11,3 +11,4 @@ pub mod OpenLemmas
 pub mod RoomLemmas
 pub mod DoorLemmas
 pub mod QuestionLemmas
+pub mod ConsiderLemmas

@@ -11,33 +11,46 @@ use Rattle.sm_model.specs.declared.entry.Act.TheVariants.{Asked}
 use Rattle.sm_model.specs.declared.entry.Change.{Change}
 use Rattle.sm_model.specs.declared.limits.TheConstants.{VALUE_LIMIT, LABELS_LIMIT, TAGS_LIMIT}
 use Rattle.sm_model.specs.declared.request.CreateSecret.{CreateSecret}
+use Rattle.sm_model.specs.declared.request.DeleteSecret.{DeleteSecret}
+use Rattle.sm_model.specs.declared.request.OfSecret.{OfSecret}
 use Rattle.sm_model.specs.declared.request.PutSecretValue.{PutSecretValue}
 use Rattle.sm_model.specs.declared.request.Request.{Request}
 use Rattle.sm_model.specs.declared.request.Request.TheVariants as requests
+use Rattle.sm_model.specs.declared.request.TagResource.{TagResource}
+use Rattle.sm_model.specs.declared.request.UntagResource.{UntagResource}
 use Rattle.sm_model.specs.declared.request.UpdateSecret.{UpdateSecret}
 use Rattle.sm_model.specs.declared.request.UpdateSecretVersionStage.{UpdateSecretVersionStage}
 use Rattle.sm_model.specs.declared.rows.Rows.{Rows}
 use Rattle.sm_forms.specs.Members.{first_why, form_unless, form_of, has_one, is_value, are_labels, labels_form}
 use Rattle.sm_forms.specs.CreateSecret.{create_forms}
+use Rattle.sm_forms.specs.DeleteSecret.{delete_forms}
+use Rattle.sm_forms.specs.OfSecret.{of_secret_forms}
 use Rattle.sm_forms.specs.PutSecretValue.{put_forms}
+use Rattle.sm_forms.specs.TagResource.{tag_forms}
+use Rattle.sm_forms.specs.UntagResource.{untag_forms}
 use Rattle.sm_forms.specs.UpdateSecret.{update_forms}
 use Rattle.sm_forms.specs.UpdateSecretVersionStage.{move_forms}
 use Rattle.sm_forms.proofs.MemberLemmas.{none_first, passes}
 use Rattle.sm_forms.proofs.CreateSecretLemmas as create
+use Rattle.sm_forms.proofs.DeleteSecretLemmas as deleting
+use Rattle.sm_forms.proofs.OfSecretLemmas as named
 use Rattle.sm_forms.proofs.PutSecretValueLemmas as put
+use Rattle.sm_forms.proofs.TagResourceLemmas as tagging
+use Rattle.sm_forms.proofs.UntagResourceLemmas as untagging
 use Rattle.sm_forms.proofs.UpdateSecretLemmas as update
 use Rattle.sm_forms.proofs.UpdateSecretVersionStageLemmas as moving
 use Rattle.sm_judging.specs.declared.judged.Judged.{Judged}
 use Rattle.sm_judging.specs.declared.judged.Judged.TheVariants.{Accept, Refuse, Memory}
 use Rattle.sm_judging.specs.Judged.{IfChange}
 use Rattle.sm_values.proofs.CreateSecretLemmas.{create_few}
+use Rattle.sm_upkeep.proofs.TagResourceLemmas.{tag_few}
 use Rattle.sm_core.specs.Histories.{IsDue, LegalAct}
 use Rattle.sm_core.specs.Judging.{judgement}
 use Rattle.sm_record.specs.Codec.{optional}
-use Rattle.sm_record.specs.Fields.{octets, text, listed, tag}
-use Rattle.sm_record.specs.Requests.{create_secret, put_secret_value, update_secret, update_secret_version_stage}
-use Rattle.sm_account.specs.Texts.{CreateTexts, PutTexts, UpdateTexts, MoveTexts, HasFewTags}
-use Rattle.sm_account.proofs.FieldSizes.{text_size, text_fits, optional_size, optional_fits, bytes_size, bytes_fit, token_size, name_size, description_size, label_size, secret_id_size, labels_size, labels_fits, tags_size, tags_fit}
+use Rattle.sm_record.specs.Fields.{signed, octets, text, truth, listed, tag}
+use Rattle.sm_record.specs.Requests.{of_secret, create_secret, delete_secret, put_secret_value, tag_resource, untag_resource, update_secret, update_secret_version_stage}
+use Rattle.sm_account.specs.Texts.{CreateTexts, PutTexts, UpdateTexts, MoveTexts, TaggingTexts, UntaggingTexts, HasFewTags}
+use Rattle.sm_account.proofs.FieldSizes.{text_size, text_fits, optional_size, optional_fits, bytes_size, bytes_fit, token_size, name_size, description_size, label_size, secret_id_size, labels_size, labels_fits, tags_size, tags_fit, tag_list_size, tag_list_fits, keys_size, keys_fit, truth_size, truth_fits, window_size, window_fits}
 
 -- a fact of a text that is there follows from another
 some_then : (t : Option (List ℕ)) (P Q : List ℕ → Type 0) → ((x : List ℕ) → P x → Q x) → IfSome t P → IfSome t Q
@@ -255,6 +268,87 @@ module _ (r : UpdateSecretVersionStage) (forms : move_forms r ≡ None) where
       (text_fits r.version_stage texts.label
       (omega (arith, label_size r.version_stage (moving.move_label r forms))))))
 
+-- DeleteSecret
+module _ (r : DeleteSecret) (forms : delete_forms r ≡ None) where
+  pub delete_size : length (delete_secret.spell r) ≤ 2000
+  unfolding delete_secret
+  delete_size =
+      let force : List ℕ = truth.spell r.force_delete_without_recovery in
+      let window : List ℕ = (optional signed).spell r.recovery_window_in_days in
+      let id : List ℕ = text.spell r.secret_id in
+      omega (
+        arith,
+        length-append force (window ++ id),
+        length-append window id,
+        truth_size r.force_delete_without_recovery,
+        window_size r.recovery_window_in_days,
+        text_size r.secret_id,
+        secret_id_size r.secret_id (deleting.delete_id r forms),
+      )
+
+  pub delete_fits : IsUtf8 r.secret_id → delete_secret.fits r ≡ true
+  unfolding delete_secret
+  delete_fits id =
+      and_from (truth.fits r.force_delete_without_recovery) _ (truth_fits r.force_delete_without_recovery)
+      (and_from ((optional signed).fits r.recovery_window_in_days) (text.fits r.secret_id)
+      (window_fits r.recovery_window_in_days (deleting.delete_window r forms))
+      (text_fits r.secret_id id (omega (arith, secret_id_size r.secret_id (deleting.delete_id r forms)))))
+
+-- RestoreSecret
+module _ (r : OfSecret) (forms : of_secret_forms r ≡ None) where
+  pub named_size : length (of_secret.spell r) ≤ 2000
+  unfolding of_secret
+  named_size = omega (arith, text_size r.secret_id, secret_id_size r.secret_id (named.named_id r forms))
+
+  pub named_fits : IsUtf8 r.secret_id → of_secret.fits r ≡ true
+  unfolding of_secret
+  named_fits id = text_fits r.secret_id id (omega (arith, secret_id_size r.secret_id (named.named_id r forms)))
+
+-- TagResource
+module _ (r : TagResource) (forms : tag_forms r ≡ None) (texts : TaggingTexts r)
+    (few : length r.tags ≤ TAGS_LIMIT) where
+  pub tag_resource_size : length (tag_resource.spell r) ≤ 80000
+  unfolding tag_resource
+  tag_resource_size =
+      let id : List ℕ = text.spell r.secret_id in
+      let tags : List ℕ = (listed tag).spell r.tags in
+      omega (
+        arith,
+        length-append id tags,
+        text_size r.secret_id,
+        secret_id_size r.secret_id (tagging.tag_id r forms),
+        tag_list_size r.tags texts.tags (tagging.tag_tags r forms).0 few,
+      )
+
+  pub tag_resource_fits : tag_resource.fits r ≡ true
+  unfolding tag_resource
+  tag_resource_fits =
+      and_from (text.fits r.secret_id) ((listed tag).fits r.tags)
+      (text_fits r.secret_id texts.id (omega (arith, secret_id_size r.secret_id (tagging.tag_id r forms))))
+      (tag_list_fits r.tags texts.tags (tagging.tag_tags r forms).0 few)
+
+-- UntagResource
+module _ (r : UntagResource) (forms : untag_forms r ≡ None) (texts : UntaggingTexts r) where
+  pub untag_resource_size : length (untag_resource.spell r) ≤ 30000
+  unfolding untag_resource
+  untag_resource_size =
+      let id : List ℕ = text.spell r.secret_id in
+      let keys : List ℕ = (listed text).spell r.tag_keys in
+      omega (
+        arith,
+        length-append id keys,
+        text_size r.secret_id,
+        secret_id_size r.secret_id (untagging.untag_id r forms),
+        keys_size r.tag_keys texts.keys (untagging.untag_keys r forms) (untagging.untag_few r forms),
+      )
+
+  pub untag_resource_fits : untag_resource.fits r ≡ true
+  unfolding untag_resource
+  untag_resource_fits =
+      and_from (text.fits r.secret_id) ((listed text).fits r.tag_keys)
+      (text_fits r.secret_id texts.id (omega (arith, secret_id_size r.secret_id (untagging.untag_id r forms))))
+      (keys_fit r.tag_keys texts.keys (untagging.untag_keys r forms) (untagging.untag_few r forms))
+
 -- a fact of each change holds where one is due
 of_due : (j : Judged) (P : Type 0) → IfChange j (λ _. P) → IsDue j → P
 of_due (Accept reply None) P h due = absurd (let f : IsSome {T = Change} None = due in cc)
@@ -268,4 +362,7 @@ pub few_tags : (rows : Rows) (moment : Moment) (drawn : List ℕ) (request : Req
 few_tags rows moment drawn (requests.CreateSecret r) legal =
     of_due (judgement rows moment drawn (requests.CreateSecret r)) (IfSome r.tags (λ tags. length tags ≤ TAGS_LIMIT))
     (create_few rows moment drawn r) legal.2
+few_tags rows moment drawn (requests.TagResource r) legal =
+    of_due (judgement rows moment drawn (requests.TagResource r)) (length r.tags ≤ TAGS_LIMIT)
+    (tag_few rows moment r legal.1) legal.2
 few_tags rows moment drawn request legal = tt

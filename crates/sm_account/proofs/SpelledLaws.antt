@@ -18,7 +18,7 @@ use Rattle.sm_record.specs.Fields.{octets, text, moment, long}
 use Rattle.sm_record.specs.Spelling.{spelling, has_spelling, HasSpelling}
 use Rattle.sm_account.specs.Texts.{TextsOf, HasFewTags}
 use Rattle.sm_account.proofs.FieldSizes.{octets_size, octets_fits, text_size, text_fits}
-use Rattle.sm_account.proofs.RequestSizes.{create_size, create_fits, put_size, put_fits, update_size, update_fits, move_size, move_fits}
+use Rattle.sm_account.proofs.RequestSizes.{create_size, create_fits, put_size, put_fits, update_size, update_fits, move_size, move_fits, delete_size, delete_fits, named_size, named_fits, tag_resource_size, tag_resource_fits, untag_resource_size, untag_resource_fits}
 
 -- a request that changes something has a short spelling
 pub record IsShort (request : Request) : Type 0 where
@@ -115,19 +115,35 @@ is_short (requests.UpdateSecretVersionStage r) forms changes texts few = record 
   fits = move_fits r forms texts;
   drawn = omega arith;
 }
+is_short (requests.DeleteSecret r) forms changes texts few = record {
+  size = omega (arith, delete_size r forms);
+  fits = delete_fits r forms texts;
+  drawn = omega arith;
+}
+is_short (requests.RestoreSecret r) forms changes texts few = record {
+  size = omega (arith, named_size r forms);
+  fits = named_fits r forms texts;
+  drawn = omega arith;
+}
+is_short (requests.TagResource r) forms changes texts few = record {
+  size = omega (arith, tag_resource_size r forms texts few);
+  fits = tag_resource_fits r forms texts few;
+  drawn = omega arith;
+}
+is_short (requests.UntagResource r) forms changes texts few = record {
+  size = omega (arith, untag_resource_size r forms texts);
+  fits = untag_resource_fits r forms texts;
+  drawn = omega arith;
+}
 is_short (requests.GetSecretValue r) forms changes texts few = reads changes
+is_short (requests.BatchGetSecretValue r) forms changes texts few = reads changes
+is_short (requests.GetRandomPassword r) forms changes texts few = reads changes
+is_short (requests.ListSecretVersionIds r) forms changes texts few = reads changes
+is_short (requests.ListSecrets r) forms changes texts few = reads changes
 is_short (requests.DescribeSecret r) forms changes texts few = reads changes
-is_short (requests.BatchGetSecretValue r) forms changes texts few = unbuilt forms
 is_short (requests.CancelRotateSecret r) forms changes texts few = unbuilt forms
 is_short (requests.DeleteResourcePolicy r) forms changes texts few = unbuilt forms
-is_short (requests.DeleteSecret r) forms changes texts few = unbuilt forms
-is_short (requests.GetRandomPassword r) forms changes texts few = unbuilt forms
 is_short (requests.GetResourcePolicy r) forms changes texts few = unbuilt forms
-is_short (requests.ListSecretVersionIds r) forms changes texts few = unbuilt forms
-is_short (requests.ListSecrets r) forms changes texts few = unbuilt forms
 is_short (requests.PutResourcePolicy r) forms changes texts few = unbuilt forms
-is_short (requests.RestoreSecret r) forms changes texts few = unbuilt forms
 is_short (requests.RotateSecret r) forms changes texts few = unbuilt forms
-is_short (requests.TagResource r) forms changes texts few = unbuilt forms
-is_short (requests.UntagResource r) forms changes texts few = unbuilt forms
 is_short (requests.ValidateResourcePolicy r) forms changes texts few = unbuilt forms

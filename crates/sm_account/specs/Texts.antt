@@ -1,10 +1,12 @@
 -- The texts and tags of the requests that make entries.
-use Rattle.std.specs.Prelude.{◌≤◌, List, [], ◌∷◌, length, ⊤, IfSome, IsUtf8}
+use Rattle.std.specs.Prelude.{ℕ, ◌≤◌, List, [], ◌∷◌, length, ⊤, IfSome, IsUtf8}
 use Rattle.sm_model.specs.declared.limits.TheConstants.{TAGS_LIMIT}
 use Rattle.sm_model.specs.declared.request.CreateSecret.{CreateSecret}
 use Rattle.sm_model.specs.declared.request.PutSecretValue.{PutSecretValue}
 use Rattle.sm_model.specs.declared.request.Request.{Request}
 use Rattle.sm_model.specs.declared.request.Request.TheVariants as requests
+use Rattle.sm_model.specs.declared.request.TagResource.{TagResource}
+use Rattle.sm_model.specs.declared.request.UntagResource.{UntagResource}
 use Rattle.sm_model.specs.declared.request.UpdateSecret.{UpdateSecret}
 use Rattle.sm_model.specs.declared.request.UpdateSecretVersionStage.{UpdateSecretVersionStage}
 use Rattle.sm_model.specs.declared.value.Tag.{Tag}
@@ -12,6 +14,10 @@ use Rattle.sm_model.specs.declared.value.Tag.{Tag}
 abbrev pub TagTexts : List Tag → Type 0
 TagTexts [] = ⊤
 TagTexts (tag ∷ tags) = IsUtf8 tag.key × IsUtf8 tag.value × TagTexts tags
+
+abbrev pub EachText : List (List ℕ) → Type 0
+EachText [] = ⊤
+EachText (text ∷ texts) = IsUtf8 text × EachText texts
 
 pub record CreateTexts (r : CreateSecret) : Type 0 where
   pub token : IfSome r.client_request_token IsUtf8
@@ -39,15 +45,28 @@ pub record MoveTexts (r : UpdateSecretVersionStage) : Type 0 where
   pub id : IsUtf8 r.secret_id
   pub label : IsUtf8 r.version_stage
 
+pub record TaggingTexts (r : TagResource) : Type 0 where
+  pub id : IsUtf8 r.secret_id
+  pub tags : TagTexts r.tags
+
+pub record UntaggingTexts (r : UntagResource) : Type 0 where
+  pub id : IsUtf8 r.secret_id
+  pub keys : EachText r.tag_keys
+
 -- each text of the request is UTF-8
 abbrev pub TextsOf : Request → Type 0
 TextsOf (requests.CreateSecret r) = CreateTexts r
 TextsOf (requests.PutSecretValue r) = PutTexts r
 TextsOf (requests.UpdateSecret r) = UpdateTexts r
 TextsOf (requests.UpdateSecretVersionStage r) = MoveTexts r
+TextsOf (requests.DeleteSecret r) = IsUtf8 r.secret_id
+TextsOf (requests.RestoreSecret r) = IsUtf8 r.secret_id
+TextsOf (requests.TagResource r) = TaggingTexts r
+TextsOf (requests.UntagResource r) = UntaggingTexts r
 TextsOf r = ⊤
 
--- a new secret has at most 50 tags
+-- a request gives at most 50 tags
 abbrev pub HasFewTags : Request → Type 0
 HasFewTags (requests.CreateSecret r) = IfSome r.tags (λ tags. length tags ≤ TAGS_LIMIT)
+HasFewTags (requests.TagResource r) = length r.tags ≤ TAGS_LIMIT
 HasFewTags r = ⊤

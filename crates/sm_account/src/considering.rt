@@ -52,6 +52,7 @@ pub fn consider(
 }
 
 /// Judges a request whose members are in their forms.
+#[tactic(auto, using(crate::proofs::ConsiderLemmas::request_changes))]
 fn judge_admitted(
     alloc: Global,
     table: &Table,

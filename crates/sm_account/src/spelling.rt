@@ -7,7 +7,7 @@ ghost use Rattle.sm_forms.specs.Forms.{forms_of};
 ghost use Rattle.sm_journal.specs.Records.{body_limit};
 ghost use Rattle.sm_model.specs.Needed.{needed};
 ghost use Rattle.sm_store.specs.Entries.{Spells};
-ghost use Rattle.sm_account.specs.Texts.{HasFewTags, TagTexts, TextsOf};
+ghost use Rattle.sm_account.specs.Texts.{EachText, HasFewTags, TagTexts, TextsOf};
 
 use sm_model::{Bytes, Entry, List, NoMemory, Person, Request, Tag, Text};
 use sm_record::encode;
@@ -66,6 +66,16 @@ fn note_texts(request: &Request)
             note_text(&update.secret_id);
             note_text(&update.version_stage);
         }
+        Request::DeleteSecret(delete) => note_text(&delete.secret_id),
+        Request::RestoreSecret(restore) => note_text(&restore.secret_id),
+        Request::TagResource(tag) => {
+            note_text(&tag.secret_id);
+            note_tags(tag.tags.as_slice());
+        }
+        Request::UntagResource(untag) => {
+            note_text(&untag.secret_id);
+            note_each(untag.tag_keys.as_slice());
+        }
         _ => {}
     }
 }
@@ -90,6 +100,19 @@ fn note_tags(tags: &[Tag])
             note_text(&tag.key);
             note_text(&tag.value);
             note_tags(rest)
+        }
+    }
+}
+
+/// The law that each of these texts is UTF-8.
+fn note_each(texts: &[Text])
+    ensures { EachText texts.now }
+{
+    match texts {
+        [] => {}
+        [text, rest @ ..] => {
+            note_text(text);
+            note_each(rest)
         }
     }
 }

@@ -1,10 +1,12 @@
 -- Judging a request: when it is refused, when it changes nothing, and what its change is.
-use Rattle.std.proofs.Common.{◌≡◌, ℕ, ◌≤◌, List, length, Option, Some, None, IsSome, IsTrue, refl, sym, subst, arith}
+use Rattle.std.proofs.Common.{◌≡◌, ℕ, ◌≤◌, Bool, false, ◌||◌, List, length, Option, Some, None, is_none, IsSome, IsTrue, refl, sym, subst, arith}
 use Rattle.std.proofs.lemmas.Bool.Decides.{nat_tests}
+use Rattle.std.proofs.Math.Bool.{or-false}
 use Rattle.sm_base.specs.declared.moment.Moment.{Moment}
 use Rattle.sm_base.specs.declared.moment.TheConstants.{LAST_READING}
 use Rattle.sm_base.specs.Outcomes.{OrMemory}
 use Rattle.sm_model.specs.declared.request.CreateSecret.{CreateSecret}
+use Rattle.sm_model.specs.declared.request.DeleteSecret.{DeleteSecret}
 use Rattle.sm_model.specs.declared.request.Request.{Request}
 use Rattle.sm_model.specs.declared.request.Request.TheVariants as requests
 use Rattle.sm_model.specs.declared.rows.Rows.{Rows}
@@ -24,55 +26,72 @@ use Rattle.sm_values.proofs.GetSecretValueLemmas.{get_refuses, get_reads, get_ch
 use Rattle.sm_values.proofs.PutSecretValueLemmas.{put_refuses, put_repeats, put_change}
 use Rattle.sm_values.proofs.UpdateSecretLemmas.{update_refuses, update_repeats, update_change}
 use Rattle.sm_labels.proofs.UpdateSecretVersionStageLemmas.{move_refuses, move_changes, move_change}
+use Rattle.sm_lists.proofs.BatchGetSecretValueLemmas.{batch_refuses, batch_reads}
+use Rattle.sm_lists.proofs.GetRandomPasswordLemmas.{password_refuses, password_reads}
+use Rattle.sm_lists.proofs.ListSecretVersionIdsLemmas.{versions_refuses, versions_reads, versions_change}
+use Rattle.sm_lists.proofs.ListSecretsLemmas.{list_refuses, list_reads}
+use Rattle.sm_upkeep.specs.DeleteSecret.{delete_judgement, deletes_nobody}
+use Rattle.sm_upkeep.proofs.DeleteSecretLemmas.{delete_refuses, delete_changes, delete_change}
+use Rattle.sm_upkeep.proofs.RestoreSecretLemmas.{restore_refuses, restore_changes, restore_change}
+use Rattle.sm_upkeep.proofs.TagResourceLemmas.{tag_refuses, tag_changes, tag_change}
+use Rattle.sm_upkeep.proofs.UntagResourceLemmas.{untag_refuses, untag_changes, untag_change}
 use Rattle.sm_core.specs.Effects.{effect, entry_of}
 use Rattle.sm_core.specs.Judging.{judgement, refusal, IsUnchanged}
 
 -- it is refused exactly by the first test that fails
 pub is_refused : (rows : Rows) (moment : Moment) (drawn : List ℕ) (request : Request)
     → refusal_told (judgement rows moment drawn request) ≡ Some (refusal rows moment drawn request)
+is_refused rows moment drawn (requests.BatchGetSecretValue batch) = batch_refuses rows moment batch
 is_refused rows moment drawn (requests.CreateSecret create) = create_refuses rows moment drawn create
+is_refused rows moment drawn (requests.DeleteSecret delete) = delete_refuses rows moment delete
 is_refused rows moment drawn (requests.DescribeSecret describe) = describe_refuses rows moment describe
+is_refused rows moment drawn (requests.GetRandomPassword get) = password_refuses drawn get
 is_refused rows moment drawn (requests.GetSecretValue get) = get_refuses rows moment get
+is_refused rows moment drawn (requests.ListSecretVersionIds list) = versions_refuses rows moment list
+is_refused rows moment drawn (requests.ListSecrets list) = list_refuses rows moment list
 is_refused rows moment drawn (requests.PutSecretValue put) = put_refuses rows moment drawn put
+is_refused rows moment drawn (requests.RestoreSecret restore) = restore_refuses rows moment restore
+is_refused rows moment drawn (requests.TagResource tag) = tag_refuses rows moment tag
+is_refused rows moment drawn (requests.UntagResource untag) = untag_refuses rows moment untag
 is_refused rows moment drawn (requests.UpdateSecret update) = update_refuses rows moment drawn update
 is_refused rows moment drawn (requests.UpdateSecretVersionStage update) = move_refuses rows moment update
-is_refused rows moment drawn (requests.BatchGetSecretValue r) = refl
 is_refused rows moment drawn (requests.CancelRotateSecret r) = refl
 is_refused rows moment drawn (requests.DeleteResourcePolicy r) = refl
-is_refused rows moment drawn (requests.DeleteSecret r) = refl
-is_refused rows moment drawn (requests.GetRandomPassword r) = refl
 is_refused rows moment drawn (requests.GetResourcePolicy r) = refl
-is_refused rows moment drawn (requests.ListSecretVersionIds r) = refl
-is_refused rows moment drawn (requests.ListSecrets r) = refl
 is_refused rows moment drawn (requests.PutResourcePolicy r) = refl
-is_refused rows moment drawn (requests.RestoreSecret r) = refl
 is_refused rows moment drawn (requests.RotateSecret r) = refl
-is_refused rows moment drawn (requests.TagResource r) = refl
-is_refused rows moment drawn (requests.UntagResource r) = refl
 is_refused rows moment drawn (requests.ValidateResourcePolicy r) = refl
 
--- nothing is changed exactly by what only reads and by a repeat
+-- a deletion has no repeat
+deletes_unchanged : (rows : Rows) (moment : Moment) (delete : DeleteSecret)
+    → IfAccepted (delete_judgement rows moment delete)
+    (λ change. is_none change ≡ (deletes_nobody rows moment delete || false))
+deletes_unchanged rows moment delete =
+    subst (λ b. IfAccepted (delete_judgement rows moment delete) (λ change. is_none change ≡ b))
+    (sym (or-false (deletes_nobody rows moment delete))) (delete_changes rows moment delete)
+
+-- nothing is changed exactly by what only reads, by the forced deletion of a secret that is not there, and by a repeat
 pub is_unchanged : (rows : Rows) (moment : Moment) (drawn : List ℕ) (request : Request)
     → IfAccepted (judgement rows moment drawn request) (IsUnchanged rows moment drawn request)
+is_unchanged rows moment drawn (requests.BatchGetSecretValue batch) = batch_reads rows moment batch
 is_unchanged rows moment drawn (requests.CreateSecret create) = create_repeats rows moment drawn create
+is_unchanged rows moment drawn (requests.DeleteSecret delete) = deletes_unchanged rows moment delete
 is_unchanged rows moment drawn (requests.DescribeSecret describe) = describe_reads rows moment describe
+is_unchanged rows moment drawn (requests.GetRandomPassword get) = password_reads drawn get
 is_unchanged rows moment drawn (requests.GetSecretValue get) = get_reads rows moment get
+is_unchanged rows moment drawn (requests.ListSecretVersionIds list) = versions_reads rows moment list
+is_unchanged rows moment drawn (requests.ListSecrets list) = list_reads rows moment list
 is_unchanged rows moment drawn (requests.PutSecretValue put) = put_repeats rows moment drawn put
+is_unchanged rows moment drawn (requests.RestoreSecret restore) = restore_changes rows moment restore
+is_unchanged rows moment drawn (requests.TagResource tag) = tag_changes rows moment tag
+is_unchanged rows moment drawn (requests.UntagResource untag) = untag_changes rows moment untag
 is_unchanged rows moment drawn (requests.UpdateSecret update) = update_repeats rows moment drawn update
 is_unchanged rows moment drawn (requests.UpdateSecretVersionStage update) = move_changes rows moment update
-is_unchanged rows moment drawn (requests.BatchGetSecretValue r) = tt
 is_unchanged rows moment drawn (requests.CancelRotateSecret r) = tt
 is_unchanged rows moment drawn (requests.DeleteResourcePolicy r) = tt
-is_unchanged rows moment drawn (requests.DeleteSecret r) = tt
-is_unchanged rows moment drawn (requests.GetRandomPassword r) = tt
 is_unchanged rows moment drawn (requests.GetResourcePolicy r) = tt
-is_unchanged rows moment drawn (requests.ListSecretVersionIds r) = tt
-is_unchanged rows moment drawn (requests.ListSecrets r) = tt
 is_unchanged rows moment drawn (requests.PutResourcePolicy r) = tt
-is_unchanged rows moment drawn (requests.RestoreSecret r) = tt
 is_unchanged rows moment drawn (requests.RotateSecret r) = tt
-is_unchanged rows moment drawn (requests.TagResource r) = tt
-is_unchanged rows moment drawn (requests.UntagResource r) = tt
 is_unchanged rows moment drawn (requests.ValidateResourcePolicy r) = tt
 
 -- a moment that a clock can give is a date that a secret may keep
@@ -89,31 +108,36 @@ pub change_is_entry : (rows : Rows) (moment : Moment) (key drawn : List ℕ) (re
     → forms_of request ≡ None → length drawn ≡ needed request
     → IfChange (judgement rows moment drawn request) (IsChange rows moment
     (effect rows (entry_of moment key drawn request)))
+change_is_entry rows moment key drawn (requests.BatchGetSecretValue batch) sound early forms room = tt
 change_is_entry rows moment key drawn (requests.CreateSecret create) sound early forms room =
     create_change rows moment drawn create sound (is_kept_date moment early) forms (least create (length drawn) room)
+change_is_entry rows moment key drawn (requests.DeleteSecret delete) sound early forms room =
+    delete_change rows moment delete sound early forms
 change_is_entry rows moment key drawn (requests.DescribeSecret describe) sound early forms room =
     describe_change rows moment describe _
+change_is_entry rows moment key drawn (requests.GetRandomPassword get) sound early forms room = tt
 change_is_entry rows moment key drawn (requests.GetSecretValue get) sound early forms room = get_change rows moment get
     _
+change_is_entry rows moment key drawn (requests.ListSecretVersionIds list) sound early forms room =
+    versions_change rows moment list _
+change_is_entry rows moment key drawn (requests.ListSecrets list) sound early forms room = tt
 change_is_entry rows moment key drawn (requests.PutSecretValue put) sound early forms room =
     put_change rows moment drawn put sound (is_kept_date moment early) forms
+change_is_entry rows moment key drawn (requests.RestoreSecret restore) sound early forms room =
+    restore_change rows moment restore sound (is_kept_date moment early)
+change_is_entry rows moment key drawn (requests.TagResource tag) sound early forms room =
+    tag_change rows moment tag sound (is_kept_date moment early) forms
+change_is_entry rows moment key drawn (requests.UntagResource untag) sound early forms room =
+    untag_change rows moment untag sound (is_kept_date moment early)
 change_is_entry rows moment key drawn (requests.UpdateSecret update) sound early forms room =
     update_change rows moment drawn update sound (is_kept_date moment early) forms
 change_is_entry rows moment key drawn (requests.UpdateSecretVersionStage update) sound early forms room =
     move_change rows moment update sound (is_kept_date moment early)
-change_is_entry rows moment key drawn (requests.BatchGetSecretValue r) sound early forms room = tt
 change_is_entry rows moment key drawn (requests.CancelRotateSecret r) sound early forms room = tt
 change_is_entry rows moment key drawn (requests.DeleteResourcePolicy r) sound early forms room = tt
-change_is_entry rows moment key drawn (requests.DeleteSecret r) sound early forms room = tt
-change_is_entry rows moment key drawn (requests.GetRandomPassword r) sound early forms room = tt
 change_is_entry rows moment key drawn (requests.GetResourcePolicy r) sound early forms room = tt
-change_is_entry rows moment key drawn (requests.ListSecretVersionIds r) sound early forms room = tt
-change_is_entry rows moment key drawn (requests.ListSecrets r) sound early forms room = tt
 change_is_entry rows moment key drawn (requests.PutResourcePolicy r) sound early forms room = tt
-change_is_entry rows moment key drawn (requests.RestoreSecret r) sound early forms room = tt
 change_is_entry rows moment key drawn (requests.RotateSecret r) sound early forms room = tt
-change_is_entry rows moment key drawn (requests.TagResource r) sound early forms room = tt
-change_is_entry rows moment key drawn (requests.UntagResource r) sound early forms room = tt
 change_is_entry rows moment key drawn (requests.ValidateResourcePolicy r) sound early forms room = tt
 
 -- no request is judged as want of memory

@@ -15,17 +15,24 @@ use Rattle.sm_values.specs.CreateSecret.{create_effect}
 use Rattle.sm_values.specs.PutSecretValue.{put_effect}
 use Rattle.sm_values.specs.UpdateSecret.{update_effect}
 use Rattle.sm_labels.specs.UpdateSecretVersionStage.{move_effect}
+use Rattle.sm_upkeep.specs.DeleteSecret.{delete_effect}
+use Rattle.sm_upkeep.specs.RestoreSecret.{restore_effect}
+use Rattle.sm_upkeep.specs.TagResource.{tag_effect}
+use Rattle.sm_upkeep.specs.UntagResource.{untag_effect}
 
 -- the rows after an accepted request, of those that are still there at its moment
 abbrev pub request_effect : Rows → Moment → List ℕ → Request → Rows
 request_effect rows moment drawn (requests.CreateSecret create) = create_effect rows moment drawn create
+request_effect rows moment drawn (requests.DeleteSecret delete) = delete_effect rows moment delete
 request_effect rows moment drawn (requests.PutSecretValue put) = put_effect rows moment drawn put
+request_effect rows moment drawn (requests.RestoreSecret restore) = restore_effect rows moment restore
+request_effect rows moment drawn (requests.TagResource tag) = tag_effect rows moment tag
+request_effect rows moment drawn (requests.UntagResource untag) = untag_effect rows moment untag
 request_effect rows moment drawn (requests.UpdateSecret update) = update_effect rows moment drawn update
 request_effect rows moment drawn (requests.UpdateSecretVersionStage update) = move_effect rows moment update
 request_effect rows moment drawn (requests.BatchGetSecretValue r) = rows
 request_effect rows moment drawn (requests.CancelRotateSecret r) = rows
 request_effect rows moment drawn (requests.DeleteResourcePolicy r) = rows
-request_effect rows moment drawn (requests.DeleteSecret r) = rows
 request_effect rows moment drawn (requests.DescribeSecret r) = rows
 request_effect rows moment drawn (requests.GetRandomPassword r) = rows
 request_effect rows moment drawn (requests.GetResourcePolicy r) = rows
@@ -33,10 +40,7 @@ request_effect rows moment drawn (requests.GetSecretValue r) = rows
 request_effect rows moment drawn (requests.ListSecretVersionIds r) = rows
 request_effect rows moment drawn (requests.ListSecrets r) = rows
 request_effect rows moment drawn (requests.PutResourcePolicy r) = rows
-request_effect rows moment drawn (requests.RestoreSecret r) = rows
 request_effect rows moment drawn (requests.RotateSecret r) = rows
-request_effect rows moment drawn (requests.TagResource r) = rows
-request_effect rows moment drawn (requests.UntagResource r) = rows
 request_effect rows moment drawn (requests.ValidateResourcePolicy r) = rows
 
 abbrev pub act_effect : Rows → Moment → List ℕ → Act → Rows

@@ -15,51 +15,59 @@ use Rattle.sm_values.specs.GetSecretValue.{get_judgement, get_refusal}
 use Rattle.sm_values.specs.PutSecretValue.{put_judgement, put_refusal, put_repeat}
 use Rattle.sm_values.specs.UpdateSecret.{update_judgement, update_refusal, update_repeat}
 use Rattle.sm_labels.specs.UpdateSecretVersionStage.{move_judgement, move_refusal}
+use Rattle.sm_lists.specs.BatchGetSecretValue.{batch_judgement, batch_refusal}
+use Rattle.sm_lists.specs.GetRandomPassword.{password_judgement, password_refusal}
+use Rattle.sm_lists.specs.ListSecretVersionIds.{versions_judgement, versions_refusal}
+use Rattle.sm_lists.specs.ListSecrets.{list_judgement, list_refusal}
+use Rattle.sm_upkeep.specs.DeleteSecret.{delete_judgement, delete_refusal, deletes_nobody}
+use Rattle.sm_upkeep.specs.RestoreSecret.{restore_judgement, restore_refusal}
+use Rattle.sm_upkeep.specs.TagResource.{tag_judgement, tag_refusal}
+use Rattle.sm_upkeep.specs.UntagResource.{untag_judgement, untag_refusal}
 
 -- the first test after the forms that fails, or the reply and, where an entry is due, the change
 abbrev pub judgement : Rows → Moment → List ℕ → Request → Judged
+judgement rows moment drawn (requests.BatchGetSecretValue batch) = batch_judgement rows moment batch
 judgement rows moment drawn (requests.CreateSecret create) = create_judgement rows moment drawn create
+judgement rows moment drawn (requests.DeleteSecret delete) = delete_judgement rows moment delete
 judgement rows moment drawn (requests.DescribeSecret describe) = describe_judgement rows moment describe
+judgement rows moment drawn (requests.GetRandomPassword get) = password_judgement drawn get
 judgement rows moment drawn (requests.GetSecretValue get) = get_judgement rows moment get
+judgement rows moment drawn (requests.ListSecretVersionIds list) = versions_judgement rows moment list
+judgement rows moment drawn (requests.ListSecrets list) = list_judgement rows moment list
 judgement rows moment drawn (requests.PutSecretValue put) = put_judgement rows moment drawn put
+judgement rows moment drawn (requests.RestoreSecret restore) = restore_judgement rows moment restore
+judgement rows moment drawn (requests.TagResource tag) = tag_judgement rows moment tag
+judgement rows moment drawn (requests.UntagResource untag) = untag_judgement rows moment untag
 judgement rows moment drawn (requests.UpdateSecret update) = update_judgement rows moment drawn update
 judgement rows moment drawn (requests.UpdateSecretVersionStage update) = move_judgement rows moment update
-judgement rows moment drawn (requests.BatchGetSecretValue r) = Refuse NotBuilt
 judgement rows moment drawn (requests.CancelRotateSecret r) = Refuse NotBuilt
 judgement rows moment drawn (requests.DeleteResourcePolicy r) = Refuse NotBuilt
-judgement rows moment drawn (requests.DeleteSecret r) = Refuse NotBuilt
-judgement rows moment drawn (requests.GetRandomPassword r) = Refuse NotBuilt
 judgement rows moment drawn (requests.GetResourcePolicy r) = Refuse NotBuilt
-judgement rows moment drawn (requests.ListSecretVersionIds r) = Refuse NotBuilt
-judgement rows moment drawn (requests.ListSecrets r) = Refuse NotBuilt
 judgement rows moment drawn (requests.PutResourcePolicy r) = Refuse NotBuilt
-judgement rows moment drawn (requests.RestoreSecret r) = Refuse NotBuilt
 judgement rows moment drawn (requests.RotateSecret r) = Refuse NotBuilt
-judgement rows moment drawn (requests.TagResource r) = Refuse NotBuilt
-judgement rows moment drawn (requests.UntagResource r) = Refuse NotBuilt
 judgement rows moment drawn (requests.ValidateResourcePolicy r) = Refuse NotBuilt
 
 -- the first test after the forms that fails, by the rows alone
 abbrev pub refusal : Rows → Moment → List ℕ → Request → Option Why
+refusal rows moment drawn (requests.BatchGetSecretValue batch) = batch_refusal rows moment batch
 refusal rows moment drawn (requests.CreateSecret create) = create_refusal rows moment drawn create
+refusal rows moment drawn (requests.DeleteSecret delete) = delete_refusal rows moment delete
 refusal rows moment drawn (requests.DescribeSecret describe) = describe_refusal rows moment describe
+refusal rows moment drawn (requests.GetRandomPassword get) = password_refusal get
 refusal rows moment drawn (requests.GetSecretValue get) = get_refusal rows moment get
+refusal rows moment drawn (requests.ListSecretVersionIds list) = versions_refusal rows moment list
+refusal rows moment drawn (requests.ListSecrets list) = list_refusal rows moment list
 refusal rows moment drawn (requests.PutSecretValue put) = put_refusal rows moment drawn put
+refusal rows moment drawn (requests.RestoreSecret restore) = restore_refusal rows moment restore
+refusal rows moment drawn (requests.TagResource tag) = tag_refusal rows moment tag
+refusal rows moment drawn (requests.UntagResource untag) = untag_refusal rows moment untag
 refusal rows moment drawn (requests.UpdateSecret update) = update_refusal rows moment drawn update
 refusal rows moment drawn (requests.UpdateSecretVersionStage update) = move_refusal rows moment update
-refusal rows moment drawn (requests.BatchGetSecretValue r) = Some NotBuilt
 refusal rows moment drawn (requests.CancelRotateSecret r) = Some NotBuilt
 refusal rows moment drawn (requests.DeleteResourcePolicy r) = Some NotBuilt
-refusal rows moment drawn (requests.DeleteSecret r) = Some NotBuilt
-refusal rows moment drawn (requests.GetRandomPassword r) = Some NotBuilt
 refusal rows moment drawn (requests.GetResourcePolicy r) = Some NotBuilt
-refusal rows moment drawn (requests.ListSecretVersionIds r) = Some NotBuilt
-refusal rows moment drawn (requests.ListSecrets r) = Some NotBuilt
 refusal rows moment drawn (requests.PutResourcePolicy r) = Some NotBuilt
-refusal rows moment drawn (requests.RestoreSecret r) = Some NotBuilt
 refusal rows moment drawn (requests.RotateSecret r) = Some NotBuilt
-refusal rows moment drawn (requests.TagResource r) = Some NotBuilt
-refusal rows moment drawn (requests.UntagResource r) = Some NotBuilt
 refusal rows moment drawn (requests.ValidateResourcePolicy r) = Some NotBuilt
 
 -- what was carried out before, with the same token
@@ -108,6 +116,12 @@ is_reading (requests.UpdateSecret r) = false
 is_reading (requests.UpdateSecretVersionStage r) = false
 is_reading (requests.ValidateResourcePolicy r) = true
 
--- nothing is changed exactly by what only reads and by a repeat
+-- a forced deletion of a secret that is not there
+abbrev pub is_of_nobody : Rows → Moment → Request → Bool
+is_of_nobody rows moment (requests.DeleteSecret delete) = deletes_nobody rows moment delete
+is_of_nobody rows moment request = false
+
+-- nothing is changed exactly by what only reads, by the forced deletion of a secret that is not there, and by a repeat
 abbrev pub IsUnchanged : Rows → Moment → List ℕ → Request → Option Change → Type 0
-IsUnchanged rows moment drawn request change = is_none change ≡ (is_reading request || repeat rows moment drawn request)
+IsUnchanged rows moment drawn request change =
+    is_none change ≡ (is_reading request || is_of_nobody rows moment request || repeat rows moment drawn request)

@@ -13,8 +13,16 @@ ghost use Rattle.sm_table.specs.Sweep.{sweep};
 
 use sm_judging::Judged;
 use sm_labels::update_secret_version_stage::judge_move;
+use sm_lists::batch_get_secret_value::judge_batch;
+use sm_lists::get_random_password::judge_password;
+use sm_lists::list_secret_version_ids::judge_versions;
+use sm_lists::list_secrets::judge_list;
 use sm_model::{Moment, NoMemory, Person, Request, Why};
 use sm_table::Table;
+use sm_upkeep::delete_secret::judge_delete;
+use sm_upkeep::restore_secret::judge_restore;
+use sm_upkeep::tag_resource::judge_tag;
+use sm_upkeep::untag_resource::judge_untag;
 use sm_values::create_secret::judge_create;
 use sm_values::describe_secret::judge_describe;
 use sm_values::get_secret_value::judge_get;
@@ -40,8 +48,8 @@ pub fn judge(
     ensures judged { OrMemory (judged_told result) (judgement table.now moment drawn.now request.now) }
     ensures judgement_is_no_memory { IsSome (judged_told (judgement table.now moment drawn.now request.now)) }
 
-    // It is refused exactly by the first test that fails, and nothing is changed exactly by what only reads and by a
-    // repeat.
+    // It is refused exactly by the first test that fails, and nothing is changed exactly by what only reads, by the
+    // forced deletion of a secret that is not there, and by a repeat.
     ensures refused { OrMemory (refusal_told result) (refusal table.now moment drawn.now request.now) }
     ensures unchanged { IfAccepted result (IsUnchanged table.now moment drawn.now request.now) }
 
@@ -66,30 +74,31 @@ pub fn judge_exactly(
     drawn: &[u8],
     request: &Request,
 ) -> Result<Judged, NoMemory>
+    requires moment { moment.0 ≤ LAST_READING }
     requires forms { forms_of request.now ≡ None }
     requires drawn { length drawn.now ≡ needed request.now }
     ensures { IfOk result (λ judged. judged ≡ judgement table.now moment drawn.now request.now) }
 {
     match request {
+        Request::BatchGetSecretValue(batch) => judge_batch(alloc, table, moment, batch),
         Request::CreateSecret(create) => judge_create(alloc, table, moment, drawn, create),
+        Request::DeleteSecret(delete) => judge_delete(alloc, table, moment, delete),
         Request::DescribeSecret(describe) => judge_describe(alloc, table, moment, describe),
+        Request::GetRandomPassword(get) => judge_password(alloc, drawn, get),
         Request::GetSecretValue(get) => judge_get(alloc, table, moment, get),
+        Request::ListSecretVersionIds(list) => judge_versions(alloc, table, moment, list),
+        Request::ListSecrets(list) => judge_list(alloc, table, moment, list),
         Request::PutSecretValue(put) => judge_put(alloc, table, moment, drawn, put),
+        Request::RestoreSecret(restore) => judge_restore(alloc, table, moment, restore),
+        Request::TagResource(tag) => judge_tag(alloc, table, moment, tag),
+        Request::UntagResource(untag) => judge_untag(alloc, table, moment, untag),
         Request::UpdateSecret(update) => judge_update(alloc, table, moment, drawn, update),
         Request::UpdateSecretVersionStage(update) => judge_move(alloc, table, moment, update),
-        Request::BatchGetSecretValue(_)
-        | Request::CancelRotateSecret(_)
+        Request::CancelRotateSecret(_)
         | Request::DeleteResourcePolicy(_)
-        | Request::DeleteSecret(_)
-        | Request::GetRandomPassword(_)
         | Request::GetResourcePolicy(_)
-        | Request::ListSecretVersionIds(_)
-        | Request::ListSecrets(_)
         | Request::PutResourcePolicy(_)
-        | Request::RestoreSecret(_)
         | Request::RotateSecret(_)
-        | Request::TagResource(_)
-        | Request::UntagResource(_)
         | Request::ValidateResourcePolicy(_) => Ok(Judged::Refuse(Why::NotBuilt)),
     }
 }

@@ -45,6 +45,7 @@ pub fn again(alloc: Global, table: &Table, entry: &Entry) -> Replayed
 
 /// Judges an entry again, also on rows of which nothing is known.
 pub fn replay_entry(alloc: Global, table: &Table, entry: &Entry) -> Replayed
+    requires { entry.now.moment.0 ≤ LAST_READING }
     ensures { OrMemory (again_told result) (replayed table.now entry.now) }
 {
     match &entry.act {
@@ -64,6 +65,7 @@ fn replay_request(
     drawn: &[u8],
     request: &Request,
 ) -> Replayed
+    requires { moment.0 ≤ LAST_READING }
     ensures { OrMemory (again_told result) (replayed_request table.now moment drawn.now request.now) }
 {
     if drawn.len() != need(request) {

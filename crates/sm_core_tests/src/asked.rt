@@ -1,7 +1,8 @@
 //! A request as a row says it: the operation's word, and its members, of which `.` stands for one that is absent.
 use sm_model::{
-    Bytes, CreateSecret, GetSecretValue, List, OfSecret, PutSecretValue, Request, Tag, Text,
-    UpdateSecret, UpdateSecretVersionStage,
+    BatchGetSecretValue, Bytes, CreateSecret, DeleteSecret, Filter, GetRandomPassword,
+    GetSecretValue, List, ListSecretVersionIds, ListSecrets, OfSecret, PutSecretValue, Request,
+    Tag, TagResource, Text, UntagResource, UpdateSecret, UpdateSecretVersionStage,
 };
 use std::alloc::Global;
 use std::test::Fail;
@@ -204,12 +205,168 @@ fn move_label(alloc: Global, text: &str) -> Result<Request, Fail> {
     }))
 }
 
+/// `delete SECRET WINDOW`: `force` stands in the window's place, or beside it with a plus sign between them.
+fn delete(alloc: Global, text: &str) -> Result<Request, Fail> {
+    let window = word(text, 2);
+    let days = window.strip_suffix("+force").unwrap_or(window);
+    Ok(Request::DeleteSecret(DeleteSecret {
+        force_delete_without_recovery: window.ends_with("force"),
+        recovery_window_in_days: days.parse::<i64>().ok(),
+        secret_id: secret_id(alloc, word(text, 1))?,
+    }))
+}
+
+/// `restore SECRET`
+fn restore(alloc: Global, text: &str) -> Result<Request, Fail> {
+    Ok(Request::RestoreSecret(OfSecret {
+        secret_id: secret_id(alloc, word(text, 1))?,
+    }))
+}
+
+/// `tag SECRET TAGS`
+fn tag_secret(alloc: Global, text: &str) -> Result<Request, Fail> {
+    let secret_id = secret_id(alloc, word(text, 1))?;
+    let tags = tags(alloc, word(text, 2))?;
+    Ok(Request::TagResource(TagResource {
+        secret_id,
+        tags: tags.unwrap_or(List::empty(alloc)),
+    }))
+}
+
+/// Keys with commas between them, or so many. A point alone is a list of none.
+fn keys(alloc: Global, text: &str) -> Result<List<Text>, Fail> {
+    let mut keys = Vec::new(alloc);
+    if let Some(count) = text.strip_prefix("k*") {
+        for number in 0..count.parse::<u32>().unwrap_or(0) {
+            keys.push(Text::new(format!(in alloc; "k{number}")?))?;
+        }
+        return Ok(List::new(keys));
+    }
+    for key in text.split(",") {
+        if let Some(key) = value(alloc, key)? {
+            keys.push(key)?;
+        }
+    }
+    Ok(List::new(keys))
+}
+
+/// `untag SECRET KEYS`
+fn untag(alloc: Global, text: &str) -> Result<Request, Fail> {
+    let secret_id = secret_id(alloc, word(text, 1))?;
+    Ok(Request::UntagResource(UntagResource {
+        secret_id,
+        tag_keys: keys(alloc, word(text, 2))?,
+    }))
+}
+
+fn filter(alloc: Global, text: &str) -> Result<Filter, Fail> {
+    let (key, values) = text.split_once("=").unwrap_or((text, ""));
+    let mut list = Vec::new(alloc);
+    for value in values.split(",") {
+        list.push(Text::from_str(alloc, value)?)?;
+    }
+    Ok(Filter {
+        key: Text::from_str(alloc, key)?,
+        values: List::new(list),
+    })
+}
+
+/// Filters with plus signs between them, each a key, an equals sign and values with commas between them.
+fn filters(alloc: Global, text: &str) -> Result<Option<List<Filter>>, Fail> {
+    if text == "." {
+        return Ok(None);
+    }
+    let mut filters = Vec::new(alloc);
+    for one in text.split("+") {
+        filters.push(filter(alloc, one)?)?;
+    }
+    Ok(Some(List::new(filters)))
+}
+
+/// A number, where there is one.
+fn count(text: &str) -> Option<i64> {
+    text.parse::<i64>().ok()
+}
+
+/// `list FILTERS MOST TOKEN ORDER PLANNED`
+fn list(alloc: Global, text: &str) -> Result<Request, Fail> {
+    let next_token = given(alloc, word(text, 3))?;
+    let sort_order = given(alloc, word(text, 4))?;
+    Ok(Request::ListSecrets(ListSecrets {
+        filters: filters(alloc, word(text, 1))?,
+        include_planned_deletion: word(text, 5) == "planned",
+        max_results: count(word(text, 2)),
+        next_token,
+        sort_order,
+    }))
+}
+
+/// `versions SECRET MOST TOKEN DEPRECATED`
+fn versions(alloc: Global, text: &str) -> Result<Request, Fail> {
+    let next_token = given(alloc, word(text, 3))?;
+    Ok(Request::ListSecretVersionIds(ListSecretVersionIds {
+        include_deprecated: word(text, 4) == "deprecated",
+        max_results: count(word(text, 2)),
+        next_token,
+        secret_id: secret_id(alloc, word(text, 1))?,
+    }))
+}
+
+/// SecretIds with commas between them.
+fn secret_ids(alloc: Global, text: &str) -> Result<Option<List<Text>>, Fail> {
+    if text == "." {
+        return Ok(None);
+    }
+    let mut ids = Vec::new(alloc);
+    for id in text.split(",") {
+        ids.push(secret_id(alloc, id)?)?;
+    }
+    Ok(Some(List::new(ids)))
+}
+
+/// `batch SECRETS FILTERS MOST TOKEN`
+fn batch(alloc: Global, text: &str) -> Result<Request, Fail> {
+    let filters = filters(alloc, word(text, 2))?;
+    let next_token = given(alloc, word(text, 4))?;
+    Ok(Request::BatchGetSecretValue(BatchGetSecretValue {
+        filters,
+        max_results: count(word(text, 3)),
+        next_token,
+        secret_id_list: secret_ids(alloc, word(text, 1))?,
+    }))
+}
+
+/// `password LENGTH CLASSES CHARACTERS ANY`: CLASSES has the first letters of lower case, upper case, numbers and
+/// punctuation where they are excluded, and that of the space where it is included. With `any` no class has to be
+/// there.
+fn password(alloc: Global, text: &str) -> Result<Request, Fail> {
+    let classes = word(text, 2);
+    Ok(Request::GetRandomPassword(GetRandomPassword {
+        exclude_characters: given(alloc, word(text, 3))?,
+        exclude_lowercase: classes.contains("l"),
+        exclude_numbers: classes.contains("n"),
+        exclude_punctuation: classes.contains("p"),
+        exclude_uppercase: classes.contains("u"),
+        include_space: classes.contains("s"),
+        password_length: count(word(text, 1)),
+        require_each_included_type: word(text, 4) != "any",
+    }))
+}
+
 /// The request of a text.
 pub fn request(alloc: Global, text: &str) -> Result<Request, Fail> {
     match word(text, 0) {
+        "batch" => batch(alloc, text),
         "create" => create(alloc, text),
+        "delete" => delete(alloc, text),
         "describe" => describe(alloc, text),
+        "list" => list(alloc, text),
+        "password" => password(alloc, text),
+        "restore" => restore(alloc, text),
+        "tag" => tag_secret(alloc, text),
+        "untag" => untag(alloc, text),
         "update" => update(alloc, text),
+        "versions" => versions(alloc, text),
         "put" => put(alloc, text),
         "get" => get(alloc, text),
         _ => move_label(alloc, text),

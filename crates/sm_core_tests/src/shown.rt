@@ -1,8 +1,8 @@
 //! What a request is answered, as a line says it.
 use sm_core::Judged;
 use sm_model::{
-    Described, GotSecret, Label, List, NamedSecret, PutValue, Reply, Text, Token, VersionedSecret,
-    Why,
+    BatchError, Change, DeletedSecret, Described, GotSecret, Label, List, NamedSecret, PutValue,
+    Reply, SecretBatch, SecretPage, Text, Token, VersionItem, VersionPage, VersionedSecret, Why,
 };
 use std::alloc::Global;
 use std::test::Fail;
@@ -48,6 +48,7 @@ fn why_text(alloc: Global, why: &Why) -> Result<String, Fail> {
             let what = *what;
             Ok(format!(in alloc; "limit of {most} {what:?}")?)
         }
+        Why::BadToken => plain(alloc, "bad token"),
         Why::NotBuilt => plain(alloc, "not built"),
         _ => plain(alloc, "another refusal"),
     }
@@ -152,21 +153,108 @@ fn named_text(alloc: Global, reply: &NamedSecret) -> Result<String, Fail> {
     secret_text(alloc, &reply.arn, &reply.name)
 }
 
+/// The secret, or the name alone where it has no ARN, and the date.
+fn deleted_text(alloc: Global, reply: &DeletedSecret) -> Result<String, Fail> {
+    let mut shown = match &reply.arn {
+        Some(arn) => secret_text(alloc, arn, &reply.name)?,
+        None => plain(alloc, reply.name.as_str())?,
+    };
+    let date = reply.deletion_date.0;
+    shown.push_str(format!(in alloc; " {date}")?.as_str())?;
+    Ok(shown)
+}
+
+fn push_next(shown: &mut String, next: &Option<Text>) -> Result<(), Fail> {
+    if let Some(next) = next {
+        shown.push_str("next ")?;
+        shown.push_str(next.as_str())?;
+    }
+    Ok(())
+}
+
+/// The names, and the token of the next page.
+fn page_text(alloc: Global, reply: &SecretPage) -> Result<String, Fail> {
+    let mut shown = String::new(alloc);
+    for secret in reply.secret_list.as_slice() {
+        shown.push_str(secret.name.as_str())?;
+        shown.push_str(" ")?;
+    }
+    push_next(&mut shown, &reply.next_token)?;
+    Ok(shown)
+}
+
+fn push_version(shown: &mut String, version: &VersionItem) -> Result<(), Fail> {
+    push_number(shown, &version.version_id)?;
+    if let Some(labels) = &version.version_stages {
+        push_labels(shown, labels)?;
+    }
+    shown.push_str(",")?;
+    Ok(())
+}
+
+/// The secret, the versions with their labels, and the token of the next page.
+fn versions_text(alloc: Global, reply: &VersionPage) -> Result<String, Fail> {
+    let mut shown = secret_text(alloc, &reply.arn, &reply.name)?;
+    for version in reply.versions.as_slice() {
+        push_version(&mut shown, version)?;
+    }
+    shown.push_str(" ")?;
+    push_next(&mut shown, &reply.next_token)?;
+    Ok(shown)
+}
+
+fn push_error(shown: &mut String, error: &BatchError) -> Result<(), Fail> {
+    shown.push_str(error.secret_id.as_str())?;
+    shown.push_str(" ")?;
+    shown.push_str(error.error_code.as_str())?;
+    shown.push_str(" ")?;
+    shown.push_str(error.message.as_str())?;
+    shown.push_str(", ")?;
+    Ok(())
+}
+
+/// The names with their values, the errors, and the token of the next page.
+fn batch_text(alloc: Global, reply: &SecretBatch) -> Result<String, Fail> {
+    let mut shown = String::new(alloc);
+    for value in reply.secret_values.as_slice() {
+        shown.push_str(value.name.as_str())?;
+        push_given(&mut shown, &value.secret_string)?;
+        shown.push_str(", ")?;
+    }
+    for error in reply.errors.as_slice() {
+        push_error(&mut shown, error)?;
+    }
+    push_next(&mut shown, &reply.next_token)?;
+    Ok(shown)
+}
+
 fn reply_text(alloc: Global, reply: &Reply) -> Result<String, Fail> {
     match reply {
+        Reply::BatchGetSecretValue(reply) => batch_text(alloc, reply),
         Reply::CreateSecret(reply) => created_text(alloc, reply),
+        Reply::DeleteSecret(reply) => deleted_text(alloc, reply),
         Reply::DescribeSecret(reply) => described_text(alloc, reply),
+        Reply::GetRandomPassword(reply) => plain(alloc, reply.random_password.as_str()),
         Reply::GetSecretValue(reply) => got_text(alloc, reply),
+        Reply::ListSecretVersionIds(reply) => versions_text(alloc, reply),
+        Reply::ListSecrets(reply) => page_text(alloc, reply),
         Reply::PutSecretValue(reply) => put_text(alloc, reply),
+        Reply::RestoreSecret(reply) => named_text(alloc, reply),
+        Reply::TagResource => plain(alloc, "tagged"),
+        Reply::UntagResource => plain(alloc, "untagged"),
         Reply::UpdateSecret(reply) => created_text(alloc, reply),
         Reply::UpdateSecretVersionStage(reply) => named_text(alloc, reply),
         _ => plain(alloc, "another reply"),
     }
 }
 
-/// The reply or the refusal. An entry is due where a sign of it stands first.
+/// The reply or the refusal. An entry is due where a sign of it stands first, which is a minus where it drops a secret.
 fn judged_text(alloc: Global, judged: &Judged) -> Result<String, Fail> {
     match judged {
+        Judged::Accept(reply, Some(Change::Drop(_))) => {
+            let reply = reply_text(alloc, reply)?;
+            Ok(format!(in alloc; "- {reply}")?)
+        }
         Judged::Accept(reply, Some(_)) => {
             let reply = reply_text(alloc, reply)?;
             Ok(format!(in alloc; "+ {reply}")?)

@@ -1,5 +1,6 @@
-//! Tables of requests: the row's name, the request, what is answered (an entry is due where a sign of it stands first),
-//! and the labels that it leaves on the first secret, or the moment of it. A semicolon stands between rows.
+//! Tables of requests: the row's name, the request, what is answered (an entry is due where a sign of it stands first,
+//! a minus where it drops a secret), and the labels that it leaves on the first secret, or the moment of it. A
+//! semicolon stands between rows.
 ghost use Rattle.std.specs.Prelude.{◌≡◌, IfSome, None};
 ghost use Rattle.sm_forms.specs.Forms.{forms_of};
 ghost use Rattle.sm_judging.specs.Judged.{IfChange};
@@ -10,6 +11,7 @@ ghost use Rattle.sm_table.specs.Sweep.{sweep};
 use crate::asked::{column, request};
 use crate::rows::{secret, table_of};
 use crate::shown::{number, plain, show_once};
+use sm_base::moment::LAST_READING;
 use sm_core::judging::judge_exactly;
 use sm_core::{Judged, forms, judge};
 use sm_model::{Change, Moment, Person, Request, SecretRow, Text, need};
@@ -146,6 +148,126 @@ the secret before the label | move a:b . . . | form of SecretId | AWSCURRENT=1;
 an empty label | move n . . . | form of VersionStage | AWSCURRENT=1;
 neither a target nor a source | move n blue . . | form of MoveToVersionId | AWSCURRENT=1";
 
+/// Secrets that are deleted and restored.
+const DELETIONS: &str = "a secret | create app v 1 | + app-ABCDEF app 1 | AWSCURRENT=1;
+a window of a day too few | delete app 6 | form of RecoveryWindowInDays | AWSCURRENT=1;
+a window of a day too many | delete app 31 | form of RecoveryWindowInDays | AWSCURRENT=1;
+a window below zero | delete app -7 | form of RecoveryWindowInDays | AWSCURRENT=1;
+the window before the secret | delete a:b 6 | form of RecoveryWindowInDays | AWSCURRENT=1;
+the secret before a window that is forced | delete a:b 7+force | form of SecretId | AWSCURRENT=1;
+a window that is forced | delete app 7+force | form of ForceDeleteWithoutRecovery | AWSCURRENT=1;
+an absent secret | delete gone 7 | no secret | AWSCURRENT=1;
+a forced deletion of nobody | delete gone force | gone 1700000000 | AWSCURRENT=1;
+a window of seven days | delete app 7 | + app-ABCDEF app 1700604800 | AWSCURRENT=1;
+another window | delete app 30 | scheduled at 1700604800 | AWSCURRENT=1;
+the name of a scheduled secret | create app v 1 | scheduled at 1700604800 | AWSCURRENT=1;
+the date is shown | describe app
+  | app-ABCDEF app 1700000000 1700000000 . . deleted 1700604800 1 AWSCURRENT
+  | AWSCURRENT=1;
+a restoration | restore app | + app-ABCDEF app | AWSCURRENT=1;
+a restoration of what was restored | restore app | + app-ABCDEF app | AWSCURRENT=1;
+a restoration of an absent secret | restore gone | no secret | AWSCURRENT=1;
+a restoration of no name | restore a:b | form of SecretId | AWSCURRENT=1;
+the restored value | get app . . | app-ABCDEF app 1 1700000000 text v AWSCURRENT | AWSCURRENT=1;
+no window | delete app . | + app-ABCDEF app 1702592000 | AWSCURRENT=1;
+a scheduled secret dropped at once | delete app-ABCDEF force | - app-ABCDEF app 1700000000 | none;
+its name is free | create app w 2 | + app-ABCDEF app 2 | none;
+a secret dropped at once | delete app force | - app-ABCDEF app 1700000000 | none";
+
+/// Secrets to which tags are given, and off which they are taken.
+const TAGS: &str = "a secret with two tags | create app . . . . k=v,l=w | + app-ABCDEF app | ;
+a tag more, and another value of one | tag app m=x,k=y | + tagged | ;
+its tags in their places | describe app | app-ABCDEF app 1700000000 1700000000 . . k=y l=w m=x | ;
+tags off, of which one is not there | untag app l,z | + untagged | ;
+the tags that are left | describe app | app-ABCDEF app 1700000000 1700000000 . . k=y m=x | ;
+a tag off that is not there | untag app z | + untagged | ;
+no tags off | untag app . | + untagged | ;
+keys of AWS's own, and twice | untag app aws:x,aws:x | + untagged | ;
+as many keys as may be | untag app k*50 | + untagged | ;
+a key more than may be | untag app k*51 | form of TagKeys | ;
+a key as long as may be | untag app ä*128 | + untagged | ;
+a key of one character too many | untag app ä*129 | form of TagKeys | ;
+an empty key | untag app ä*0 | form of TagKeys | ;
+the secret before the keys | untag a:b k*51 | form of SecretId | ;
+keys off an absent secret | untag gone k | no secret | ;
+a tag of AWS's own | tag app aws:x=v | form of Tags | ;
+a key twice | tag app n=v,n=w | form of Tags | ;
+the secret before the tags | tag a:b aws:x=v | form of SecretId | ;
+tags of an absent secret | tag gone k=v | no secret | ;
+more tags than may be at once | tag app k*51 | limit of 50 Tags | ;
+more tags than may be beside those that are there | tag app k*49 | limit of 50 Tags | ;
+as many tags as may be | tag app k*48 | + tagged | ;
+a tag more than may be | tag app z=v | limit of 50 Tags | ;
+another value where there is no room | tag app m=z | + tagged | ;
+a tag off where there is no room | untag app k*47 | + untagged | ;
+the tags that are there then | describe app | app-ABCDEF app 1700000000 1700000000 . . k=y m=z k47= | ";
+
+/// Pages of secrets and of versions, and batches.
+const LISTS: &str = "a first secret | create a v 1 | + a-ABCDEF a 1 | AWSCURRENT=1;
+a second secret | create b w 1 . . team=x | + b-ABCDEF b 1 | AWSCURRENT=1;
+a third secret | create c x 1 | + c-ABCDEF c 1 | AWSCURRENT=1;
+a page of two | list . 2 | a b next s1 | AWSCURRENT=1;
+the page behind it | list . . s1 | c | AWSCURRENT=1;
+a page in the reverse | list . 2 . desc | c b next s1 | AWSCURRENT=1;
+the page behind that | list . 2 s1 desc | a | AWSCURRENT=1;
+a token with a zero in front | list . . s01 | bad token | AWSCURRENT=1;
+a token of versions | list . . v1 | bad token | AWSCURRENT=1;
+a token past 64 bits | list . . s18446744073709551616 | bad token | AWSCURRENT=1;
+a page of none | list . 0 | form of MaxResults | AWSCURRENT=1;
+a page of too many | list . 101 | form of MaxResults | AWSCURRENT=1;
+another order | list . . . up | form of SortOrder | AWSCURRENT=1;
+the count before the token | list . 0 s01 | form of MaxResults | AWSCURRENT=1;
+the filters before the count | list owner=a 0 | form of Filters | AWSCURRENT=1;
+more filters than may be | list name=+name=+name=+name=+name=+name=+name=+name=+name=+name=+name=
+  | form of Filters
+  | AWSCURRENT=1;
+as many filters as may be | list name=+name=+name=+name=+name=+name=+name=+name=+name=+name= | a b c | AWSCURRENT=1;
+names that do not begin so | list name=!b | a c | AWSCURRENT=1;
+one value of two, and another filter | list name=a,b+name=!a | b | AWSCURRENT=1;
+a tag's key | list tag-key=te | b | AWSCURRENT=1;
+a scheduled secret | delete b 7 | + b-ABCDEF b 1700604800 | AWSCURRENT=1;
+it is not listed | list | a c | AWSCURRENT=1;
+it is listed where that is asked for | list . . . . planned | a b c | AWSCURRENT=1;
+its versions are listed | versions b | b-ABCDEF b 1 AWSCURRENT, | AWSCURRENT=1;
+a second value | put a 2 w . | + a-ABCDEF a 2 AWSCURRENT | AWSCURRENT=2 AWSPREVIOUS=1;
+a third value | put a 3 x . | + a-ABCDEF a 3 AWSCURRENT | AWSCURRENT=3 AWSPREVIOUS=2;
+the versions with labels | versions a
+  | a-ABCDEF a 2 AWSPREVIOUS, 3 AWSCURRENT,
+  | AWSCURRENT=3 AWSPREVIOUS=2;
+a page of all versions | versions a 2 . deprecated
+  | a-ABCDEF a 1, 2 AWSPREVIOUS, next v1
+  | AWSCURRENT=3 AWSPREVIOUS=2;
+the versions behind it | versions a . v1 deprecated | a-ABCDEF a 3 AWSCURRENT, | AWSCURRENT=3 AWSPREVIOUS=2;
+a token of secrets | versions a . s1 | bad token | AWSCURRENT=3 AWSPREVIOUS=2;
+versions of an absent secret | versions z | no secret | AWSCURRENT=3 AWSPREVIOUS=2;
+a batch in its order | batch c,z,a
+  | c x, a x, z ResourceNotFoundException secret not found,
+  | AWSCURRENT=3 AWSPREVIOUS=2;
+a batch of no name | batch a:b
+  | a:b InvalidParameterException SecretId is not in its form,
+  | AWSCURRENT=3 AWSPREVIOUS=2;
+a batch of a scheduled secret | batch b
+  | b InvalidRequestException secret is scheduled for deletion at 1700604800,
+  | AWSCURRENT=3 AWSPREVIOUS=2;
+a batch by filters | batch . name= | a x, c x, | AWSCURRENT=3 AWSPREVIOUS=2;
+a page of a batch | batch . name= 1 | a x, next s0 | AWSCURRENT=3 AWSPREVIOUS=2;
+the batch behind it | batch . name= 1 s0 | c x, | AWSCURRENT=3 AWSPREVIOUS=2;
+neither names nor filters | batch | form of SecretIdList | AWSCURRENT=3 AWSPREVIOUS=2;
+names and filters | batch a name= | form of SecretIdList | AWSCURRENT=3 AWSPREVIOUS=2;
+names and a token | batch a . . s1 | form of MaxResults | AWSCURRENT=3 AWSPREVIOUS=2;
+a batch of too many | batch . name= 21 | form of MaxResults | AWSCURRENT=3 AWSPREVIOUS=2";
+
+/// Passwords of the drawn bytes.
+const PASSWORDS: &str = "a password of digits | password 4 lup . any | 1953 | none;
+a password of each class | password 4 | b9V( | none;
+a password of one class | password 3 lup | 915 | none;
+fewer characters than classes | password 3 | form of PasswordLength | none;
+a length of none | password 0 | form of PasswordLength | none;
+a length of one too many | password 4097 | form of PasswordLength | none;
+no class is left | password 4 lunp | form of ExcludeCharacters | none;
+no character is left | password 4 lup 0123456789 | form of ExcludeCharacters | none;
+a space alone | password 4 lunps | | none";
+
 /// As many labels as a secret may have.
 const LABELS: &str = "a secret | create app v 1 | + app-ABCDEF app 1 | AWSCURRENT=1;
 as many labels as may be | put app 2 w t,s,r,q,p,o,n,m,l,k,j,i,h,g,f,e,d,c,b,a
@@ -179,10 +301,20 @@ a scheduled secret's value | get app . . | scheduled at 9 | 8;
 a value for a scheduled secret | put app 1 v . | scheduled at 9 | 8;
 a label of a scheduled secret | move app blue 1 . | scheduled at 9 | 8;
 an update of a scheduled secret | update app . . d . | scheduled at 9 | 8;
+a scheduled secret with another window | delete app 7 | scheduled at 9 | 8;
+a scheduled secret dropped at once | delete app force | - app-ABCDEF app 8 | 8;
+a scheduled secret restored | restore app | + app-ABCDEF app | 8;
+tags of a scheduled secret | tag app k=v | scheduled at 9 | 8;
+tags off a scheduled secret | untag app k | scheduled at 9 | 8;
 a scheduled secret is shown | describe app | app-ABCDEF app 7 7 . . deleted 9 1 AWSCURRENT 2 AWSPENDING | 8;
 a new secret of a name that is free | create app v 1 | + app-ABCDEF app 1 | 9;
 a secret that is gone | get app . . | no secret | 9;
-a secret that is gone is not shown | describe app | no secret | 9";
+a secret that is gone is not shown | describe app | no secret | 9;
+a secret that is gone is not deleted | delete app 7 | no secret | 9;
+the forced deletion of one that is gone | delete app force | app 9 | 9;
+a secret that is gone is not restored | restore app | no secret | 9;
+a secret that is gone is not tagged | tag app k=v | no secret | 9;
+a secret that is gone has no tags to take off | untag app k | no secret | 9";
 
 /// Secrets that are as they are between any two requests.
 #[derive(Drop)]
@@ -364,6 +496,9 @@ fn judge_there(
     let Some(drawn) = DRAWN.get(..need(request)) else {
         return plain(alloc, "too few random bytes");
     };
+    if moment.0 > LAST_READING {
+        return plain(alloc, "later than a clock can read");
+    }
     show_once(alloc, judge_exactly(alloc, table, moment, drawn, request)?)
 }
 
@@ -397,7 +532,9 @@ fn differences_there(alloc: Global, table: &Table, rows: &str) -> Result<String,
 
 #[test]
 fn answers_requests(rt: HostRuntime) -> Result<(), Fail> {
-    for table in [REQUESTS, DETAILS, FORMS, LABELS] {
+    for table in [
+        REQUESTS, DETAILS, FORMS, DELETIONS, TAGS, LISTS, PASSWORDS, LABELS,
+    ] {
         assert_eq!(rt; differences(rt.alloc(), table)?.as_str(), "");
     }
     Ok(())

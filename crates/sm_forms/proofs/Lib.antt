@@ -1,8 +1,16 @@
 pub mod MemberLemmas
 pub mod TagLemmas
 pub mod CreateSecretLemmas
+pub mod DeleteSecretLemmas
 pub mod GetSecretValueLemmas
 pub mod OfSecretLemmas
 pub mod PutSecretValueLemmas
+pub mod TagResourceLemmas
+pub mod UntagResourceLemmas
 pub mod UpdateSecretLemmas
 pub mod UpdateSecretVersionStageLemmas
+pub mod PagingLemmas
+pub mod BatchGetSecretValueLemmas
+pub mod GetRandomPasswordLemmas
+pub mod ListSecretVersionIdsLemmas
+pub mod ListSecretsLemmas

@@ -1,8 +1,16 @@
 pub mod Members
 pub mod CreateSecret
+pub mod DeleteSecret
 pub mod GetSecretValue
 pub mod OfSecret
 pub mod PutSecretValue
+pub mod TagResource
+pub mod UntagResource
 pub mod UpdateSecret
 pub mod UpdateSecretVersionStage
+pub mod Paging
+pub mod BatchGetSecretValue
+pub mod GetRandomPassword
+pub mod ListSecretVersionIds
+pub mod ListSecrets
 pub mod Forms

@@ -2,13 +2,21 @@
 //! operation has a file of its name.
 #![tactic(auto)]
 
+pub mod batch_get_secret_value;
 pub mod create_secret;
+pub mod delete_secret;
+pub mod get_random_password;
 pub mod get_secret_value;
+pub mod list_secret_version_ids;
+pub mod list_secrets;
 mod members;
 pub mod of_secret;
+pub mod paging;
 pub mod put_secret_value;
 pub mod request_forms;
+pub mod tag_resource;
 mod tags;
+pub mod untag_resource;
 pub mod update_secret;
 pub mod update_secret_version_stage;
 

@@ -59,7 +59,7 @@ fn each_key_once(tags: &[Tag]) -> bool
 
 /// Whether the tags are in their form, all of them together.
 #[tactic(auto, using(crate::proofs::TagLemmas::each_tag_is))]
-fn are_tags(tags: &[Tag]) -> bool
+pub fn are_tags(tags: &[Tag]) -> bool
     ensures { result ≡ are_tags tags.now }
 {
     each_is_tag(tags) && each_key_once(tags)

@@ -13,23 +13,23 @@ use Rattle.sm_json.specs.Operations.{operation_of}
 
 -- the operation is built
 abbrev pub is_built : Operation → Bool
-is_built named.BatchGetSecretValue = false
+is_built named.BatchGetSecretValue = true
 is_built named.CancelRotateSecret = false
 is_built named.CreateSecret = true
 is_built named.DeleteResourcePolicy = false
-is_built named.DeleteSecret = false
+is_built named.DeleteSecret = true
 is_built named.DescribeSecret = true
-is_built named.GetRandomPassword = false
+is_built named.GetRandomPassword = true
 is_built named.GetResourcePolicy = false
 is_built named.GetSecretValue = true
-is_built named.ListSecretVersionIds = false
-is_built named.ListSecrets = false
+is_built named.ListSecretVersionIds = true
+is_built named.ListSecrets = true
 is_built named.PutResourcePolicy = false
 is_built named.PutSecretValue = true
-is_built named.RestoreSecret = false
+is_built named.RestoreSecret = true
 is_built named.RotateSecret = false
-is_built named.TagResource = false
-is_built named.UntagResource = false
+is_built named.TagResource = true
+is_built named.UntagResource = true
 is_built named.UpdateSecret = true
 is_built named.UpdateSecretVersionStage = true
 is_built named.ValidateResourcePolicy = false

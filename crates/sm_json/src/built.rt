@@ -24,10 +24,18 @@ fn is_built(operation: Operation) -> bool
 {
     matches!(
         operation,
-        Operation::CreateSecret
+        Operation::BatchGetSecretValue
+            | Operation::CreateSecret
+            | Operation::DeleteSecret
             | Operation::DescribeSecret
+            | Operation::GetRandomPassword
             | Operation::GetSecretValue
+            | Operation::ListSecretVersionIds
+            | Operation::ListSecrets
             | Operation::PutSecretValue
+            | Operation::RestoreSecret
+            | Operation::TagResource
+            | Operation::UntagResource
             | Operation::UpdateSecret
             | Operation::UpdateSecretVersionStage
     )

@@ -8,6 +8,8 @@ use sm_server::Status;
 use std::process::Abort;
 use std::test::Fail;
 
+const DELETE: &str = "DeleteSecret";
+
 const MOVE: &str = "UpdateSecretVersionStage";
 
 const APP_NAMED: &str =
@@ -278,7 +280,7 @@ const MEMBERS: [Exchange; 14] = [
         r#"{"Message":"SecretBinary is missing or of another type","__type":"SerializationException"}"#,
     ),
     (
-        "DeleteSecret",
+        "RotateSecret",
         r#"{"SecretId":"n"}"#,
         BAD,
         r#"{"Message":"not built","__type":"SerializationException"}"#,
@@ -339,6 +341,89 @@ const MEMBERS: [Exchange; 14] = [
     ),
 ];
 
+/// A secret that is tagged, scheduled for deletion, restored, and deleted at once.
+const UPKEEP: [Exchange; 10] = [
+    (CREATE, APP, OK, APP_CREATED),
+    (
+        "TagResource",
+        r#"{"SecretId":"db/app","Tags":[{"Key":"k","Value":"v"}]}"#,
+        OK,
+        "",
+    ),
+    (
+        "UntagResource",
+        r#"{"SecretId":"db/app","TagKeys":["k"]}"#,
+        OK,
+        "",
+    ),
+    (
+        DELETE,
+        r#"{"SecretId":"db/app","RecoveryWindowInDays":7}"#,
+        OK,
+        "{\"ARN\":\"arn:aws:secretsmanager:us-east-1:000000000000:secret:db/app-ABCDEF\",\"DeletionDate\":1700604800,\
+            \"Name\":\"db/app\"}",
+    ),
+    (
+        GET,
+        GET_APP,
+        BAD,
+        r#"{"Message":"secret is scheduled for deletion at 1700604800","__type":"InvalidRequestException"}"#,
+    ),
+    ("RestoreSecret", GET_APP, OK, APP_NAMED),
+    (GET, GET_APP, OK, FIRST_VALUE),
+    (
+        DELETE,
+        r#"{"SecretId":"db/app","ForceDeleteWithoutRecovery":true}"#,
+        OK,
+        "{\"ARN\":\"arn:aws:secretsmanager:us-east-1:000000000000:secret:db/app-ABCDEF\",\"DeletionDate\":1700000000,\
+            \"Name\":\"db/app\"}",
+    ),
+    (
+        DELETE,
+        r#"{"SecretId":"db/app","ForceDeleteWithoutRecovery":true}"#,
+        OK,
+        r#"{"DeletionDate":1700000000,"Name":"db/app"}"#,
+    ),
+    (GET, GET_APP, BAD, NOT_FOUND),
+];
+
+/// A password of the first drawn bytes, a page, and a batch of a secret and of one that is not there.
+const LISTS: [Exchange; 5] = [
+    (
+        "GetRandomPassword",
+        "{\"PasswordLength\":4,\"ExcludeLowercase\":true,\"ExcludeUppercase\":true,\"ExcludePunctuation\":true,\
+            \"RequireEachIncludedType\":false}",
+        OK,
+        r#"{"RandomPassword":"1953"}"#,
+    ),
+    ("ListSecrets", "", OK, r#"{"SecretList":[]}"#),
+    (
+        CREATE,
+        r#"{"Name":"n","SecretString":"v","ClientRequestToken":"11111111-1111-4111-8111-111111111111"}"#,
+        OK,
+        "{\"ARN\":\"arn:aws:secretsmanager:us-east-1:000000000000:secret:n-QRSTUV\",\"Name\":\"n\",\
+            \"VersionId\":\"11111111-1111-4111-8111-111111111111\"}",
+    ),
+    (
+        "ListSecretVersionIds",
+        r#"{"SecretId":"n"}"#,
+        OK,
+        "{\"ARN\":\"arn:aws:secretsmanager:us-east-1:000000000000:secret:n-QRSTUV\",\"Name\":\"n\",\"Versions\":[\
+            {\"CreatedDate\":1700000000,\"VersionId\":\"11111111-1111-4111-8111-111111111111\",\
+            \"VersionStages\":[\"AWSCURRENT\"]}]}",
+    ),
+    (
+        "BatchGetSecretValue",
+        r#"{"SecretIdList":["n","z"]}"#,
+        OK,
+        "{\"Errors\":[{\"ErrorCode\":\"ResourceNotFoundException\",\"Message\":\"secret not found\",\
+            \"SecretId\":\"z\"}],\"SecretValues\":[\
+            {\"ARN\":\"arn:aws:secretsmanager:us-east-1:000000000000:secret:n-QRSTUV\",\"CreatedDate\":1700000000,\
+            \"Name\":\"n\",\"SecretString\":\"v\",\"VersionId\":\"11111111-1111-4111-8111-111111111111\",\
+            \"VersionStages\":[\"AWSCURRENT\"]}]}",
+    ),
+];
+
 /// Tokens that aren't given are drawn.
 const DRAWN: [Exchange; 2] = [
     (
@@ -380,7 +465,7 @@ fn converse(
 
 #[test]
 fn answers_conversations(rt: HostRuntime) -> Result<(), Fail> {
-    let conversations: [&[Exchange]; 9] = [
+    let conversations: [&[Exchange]; 11] = [
         &TWICE,
         &OTHER_VALUES,
         &EMPTY,
@@ -389,6 +474,8 @@ fn answers_conversations(rt: HostRuntime) -> Result<(), Fail> {
         &NOT_THERE,
         &LABELS,
         &MEMBERS,
+        &UPKEEP,
+        &LISTS,
         &DRAWN,
     ];
     for exchanges in conversations {

@@ -1,0 +1,5 @@
+pub mod Pages
+pub mod BatchGetSecretValue
+pub mod GetRandomPassword
+pub mod ListSecretVersionIds
+pub mod ListSecrets

@@ -1,0 +1,4 @@
+pub mod DeleteSecret
+pub mod RestoreSecret
+pub mod TagResource
+pub mod UntagResource
