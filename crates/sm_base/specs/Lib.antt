@@ -8,3 +8,4 @@ pub mod Parts
 pub mod Reading
 pub mod SecretId
 pub mod Spelling
+pub mod Texts

@@ -4,24 +4,35 @@ ghost use Rattle.std.specs.Str.{is_utf8};
 
 use crate::memory::{Copied, NoMemory};
 use std::alloc::Global;
-use std::borrow::CowStr;
 use std::marker::Model;
 use std::str;
+use std::sync::ArcStr;
+
+/// Where a text lies.
+#[derive(Drop)]
+enum Kept {
+    /// The program's own.
+    Fixed(&'static str),
+    Owned(String),
+    /// With its copies.
+    Shared(ArcStr),
+}
 
 /// UTF-8 text, which contracts see as the list of its bytes. A text that the program itself has, such as the
-/// name of a member, takes no memory.
+/// name of a member, takes no memory. Copies of a copy share its bytes, so that only the first copy of a text is one of
+/// its bytes.
 #[derive(Drop)]
 pub struct Text {
-    kept: CowStr<'static>,
+    kept: Kept,
 }
 
 impl Model for Text {
     ghost use Rattle.std.specs.Prelude.{List, ℕ};
-    ghost use Rattle.std.specs.Cow.{cow_str_bytes};
+    ghost use Rattle.sm_base.specs.Texts.{kept_bytes};
 
     ghost Value = { List ℕ };
 
-    ghost view = { λ t. cow_str_bytes t.kept };
+    ghost view = { λ t. kept_bytes t.kept };
 }
 
 impl Text {
@@ -30,7 +41,7 @@ impl Text {
         ensures { result ≡ string_bytes string }
     {
         Text {
-            kept: CowStr::Owned(string),
+            kept: Kept::Owned(string),
         }
     }
 
@@ -39,7 +50,7 @@ impl Text {
         ensures { result ≡ text.now }
     {
         Text {
-            kept: CowStr::Borrowed(text),
+            kept: Kept::Fixed(text),
         }
     }
 
@@ -62,32 +73,39 @@ impl Text {
         }
     }
 
-    /// The text as a string. It takes memory only for a text of the program's own.
+    /// The text as a string. It takes memory only for a text of the program's own and for one that was copied.
     pub fn into_string(self, alloc: Global) -> Result<String, NoMemory>
         ensures { IfOk result (λ s. string_bytes s ≡ self) }
     {
-        let Text { kept } = self;
-        Ok(kept.into_owned(alloc)?)
+        match self.kept {
+            Kept::Owned(string) => Ok(string),
+            Kept::Fixed(text) => Ok(String::from_str(alloc, text)?),
+            Kept::Shared(text) => Ok(String::from_str(alloc, text.as_str())?),
+        }
     }
 
     pub fn as_str(&self) -> &str
         ensures { result.now ≡ self.now }
     {
-        self.kept.as_str()
+        match &self.kept {
+            Kept::Fixed(text) => text,
+            Kept::Owned(string) => string.as_str(),
+            Kept::Shared(text) => text.as_str(),
+        }
     }
 
     pub fn as_bytes(&self) -> &[u8]
         ensures value { result.now ≡ self.now }
         ensures utf8 { IsUtf8 result.now }
     {
-        self.kept.as_str().as_bytes()
+        self.as_str().as_bytes()
     }
 
     /// How many bytes it has.
     pub fn len(&self) -> usize
         ensures { result ≡ length self.now }
     {
-        self.kept.as_str().len()
+        self.as_str().len()
     }
 
     pub fn is_empty(&self) -> bool
@@ -106,10 +124,12 @@ impl Text {
 
 impl Copied for Text {
     fn copy(&self, alloc: Global) -> Result<Text, NoMemory> {
-        match &self.kept {
-            CowStr::Borrowed(text) => Ok(Text::fixed(text)),
-            CowStr::Owned(string) => Text::from_str(alloc, string.as_str()),
-        }
+        let kept = match &self.kept {
+            Kept::Fixed(text) => Kept::Fixed(text),
+            Kept::Owned(string) => Kept::Shared(ArcStr::from_str(alloc, string.as_str())?),
+            Kept::Shared(text) => Kept::Shared(text.clone()?),
+        };
+        Ok(Text { kept })
     }
 }
 
