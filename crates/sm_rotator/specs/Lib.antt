@@ -1,3 +1,5 @@
 pub mod Steps
 pub mod Asked
 pub mod Absent
+pub mod Same
+pub mod Script

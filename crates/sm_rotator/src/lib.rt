@@ -3,8 +3,12 @@
 
 pub mod absent;
 pub mod rotator;
+pub mod script;
+pub mod verdict;
 pub mod work;
 
 pub use absent::NoRotator;
 pub use rotator::{Asked, Rotator};
+pub use script::ScriptRotator;
+pub use verdict::Verdict;
 pub use work::Work;
