@@ -1,2 +1,4 @@
 pub mod SameLemmas
 pub mod ScriptLemmas
+pub mod FloatLemmas
+pub mod LocalLemmas

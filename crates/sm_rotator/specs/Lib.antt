@@ -3,3 +3,4 @@ pub mod Asked
 pub mod Absent
 pub mod Same
 pub mod Script
+pub mod Local

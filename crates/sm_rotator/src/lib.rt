@@ -2,12 +2,15 @@
 #![tactic(auto)]
 
 pub mod absent;
+mod floats;
+pub mod local;
 pub mod rotator;
 pub mod script;
 pub mod verdict;
 pub mod work;
 
 pub use absent::NoRotator;
+pub use local::LocalRotator;
 pub use rotator::{Asked, Rotator};
 pub use script::ScriptRotator;
 pub use verdict::Verdict;
