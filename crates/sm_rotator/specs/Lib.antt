@@ -4,3 +4,4 @@ pub mod Absent
 pub mod Same
 pub mod Script
 pub mod Local
+pub mod Link

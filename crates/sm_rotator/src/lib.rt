@@ -3,6 +3,8 @@
 
 pub mod absent;
 mod floats;
+mod line;
+pub mod link;
 pub mod local;
 pub mod rotator;
 pub mod script;
@@ -10,6 +12,7 @@ pub mod verdict;
 pub mod work;
 
 pub use absent::NoRotator;
+pub use link::LinkRotator;
 pub use local::LocalRotator;
 pub use rotator::{Asked, Rotator};
 pub use script::ScriptRotator;
