@@ -58,22 +58,23 @@ members_append (e ∷ es) fs = by (has_float (view e.1)) (members_append es fs)
     by true rest = refl
     by false rest = rest
 
--- an object stays whole with a text more
-put_plain : (name text : List ℕ) (members : Members) → members_have_float members ≡ false
-    → members_have_float (put name (string text) members) ≡ false
-put_plain name text no_members all = refl
-put_plain name text (member n v members) all =
-    at_its_place (has_float v) (slice_cmp nat_cmp name n) refl all (put_plain name text members)
+-- an object stays whole with a whole member more
+pub put_plain : (name : List ℕ) (value : Data) (members : Members) → has_float value ≡ false
+    → members_have_float members ≡ false → members_have_float (put name value members) ≡ false
+put_plain name value no_members plain all = neither (has_float value) false plain refl
+put_plain name value (member n v members) plain all =
+    at_its_place (has_float v) (slice_cmp nat_cmp name n) refl all (put_plain name value members plain)
   where
     at_its_place : (f : Bool) (o : Ordering) → has_float v ≡ f → (f || members_have_float members) ≡ false
-        → (members_have_float members ≡ false → members_have_float (put name (string text) members) ≡ false)
-        → members_have_float (match_ordering o (member name (string text) (member n v members))
-        (member n (string text) members) (member n v (put name (string text) members))) ≡ false
+        → (members_have_float members ≡ false → members_have_float (put name value members) ≡ false)
+        → members_have_float (match_ordering o (member name value (member n v members)) (member n value members)
+        (member n v (put name value members))) ≡ false
     at_its_place true o is h more = absurd (let e = h in cc)
-    at_its_place false Less is h more = neither (has_float v) (members_have_float members) is h
-    at_its_place false Equal is h more = h
-    at_its_place false Greater is h more =
-        neither (has_float v) (members_have_float (put name (string text) members)) is (more h)
+    at_its_place false Less is h more = neither (has_float value) (has_float v || members_have_float members) plain
+        (neither (has_float v) (members_have_float members) is h)
+    at_its_place false Equal is h more = neither (has_float value) (members_have_float members) plain h
+    at_its_place false Greater is h more = neither (has_float v) (members_have_float (put name value members)) is
+        (more h)
 
 with_other_plain : (password : List ℕ) (json : Data) → has_float json ≡ false
     → has_float (with_other password json) ≡ false
@@ -82,7 +83,7 @@ with_other_plain password (boolean b) h = h
 with_other_plain password (number n) h = h
 with_other_plain password (string s) h = h
 with_other_plain password (array items) h = h
-with_other_plain password (object members) h = put_plain password_name password members h
+with_other_plain password (object members) h = put_plain password_name (string password) members refl h
 
 pub other_plain : (password : List ℕ) (json other : Data) → other ≡ with_other password json
     → has_float json ≡ false → has_float other ≡ false

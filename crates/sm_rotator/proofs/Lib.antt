@@ -2,3 +2,4 @@ pub mod SameLemmas
 pub mod ScriptLemmas
 pub mod FloatLemmas
 pub mod LocalLemmas
+pub mod LineLemmas

@@ -5,3 +5,4 @@ pub mod Same
 pub mod Script
 pub mod Local
 pub mod Link
+pub mod Line

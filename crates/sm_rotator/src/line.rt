@@ -1,6 +1,10 @@
 //! The lines of a rotator behind an address: the step that is asked for, and the answer.
-ghost use Rattle.std.specs.Prelude.{◌≡◌, false, IfOk, IfSome};
+ghost use Rattle.std.specs.Prelude.{◌≡◌, false, IfOk, IfSome, OnOk, option_map};
 ghost use Rattle.sm_rotator.specs.Absent.{is_failed};
+ghost use Rattle.serde_json.specs.Data.{string, object, no_members, put};
+ghost use Rattle.serde_json.specs.View.{view, members_view};
+ghost use Rattle.serde_json.specs.Written.{members_have_float, compact_text};
+ghost use Rattle.sm_rotator.specs.Line.{step_name, value_json, put_if, asked_members, line_of};
 
 use crate::work::Work;
 use base64::DecodeAllocError;
@@ -10,7 +14,10 @@ use sm_model::{Answer, Bytes, NoMemory, Stage, Text, Value};
 use std::alloc::Global;
 
 /// The name of a step, as in a Lambda rotation function's event.
-fn step_name(stage: Stage) -> &'static str {
+#[tactic(auto, unfolding(crate::specs::Line::step_name))]
+fn step_name(stage: Stage) -> &'static str
+    ensures { result.now ≡ step_name stage }
+{
     match stage {
         Stage::Create => "createSecret",
         Stage::Set => "setSecret",
@@ -20,24 +27,36 @@ fn step_name(stage: Stage) -> &'static str {
 }
 
 /// A text as JSON.
-fn text_json(alloc: Global, text: &str) -> Result<Json, NoMemory> {
+fn text_json(alloc: Global, text: &str) -> Result<Json, NoMemory>
+    ensures { IfOk result (λ json. view json ≡ string text.now) }
+{
     Ok(Json::String(String::from_str(alloc, text)?))
 }
 
-/// A value as an object with SecretString or SecretBinary.
-fn value_json(alloc: Global, value: &Value) -> Result<Json, NoMemory> {
+/// An object with one member.
+fn one_member(alloc: Global, name: &str, value: Json) -> Result<Json, NoMemory>
+    ensures { IfOk result (λ json. view json ≡ object (put name.now (view value) no_members)) }
+{
     let mut members = Map::new(alloc);
+    put(&mut members, alloc, name, value)?;
+    Ok(Json::Object(members))
+}
+
+/// A value as an object with SecretString or SecretBinary.
+#[tactic(auto, unfolding(crate::specs::Line::value_json))]
+fn value_json(alloc: Global, value: &Value) -> Result<Json, NoMemory>
+    ensures { IfOk result (λ json. view json ≡ value_json value.now) }
+{
     match value {
         Value::Text(text) => {
             let text = text_json(alloc, text.as_str())?;
-            put(&mut members, alloc, "SecretString", text)?;
+            one_member(alloc, "SecretString", text)
         }
         Value::Bytes(bytes) => {
             let text = Json::String(STANDARD.encode(alloc, bytes.as_slice())?);
-            put(&mut members, alloc, "SecretBinary", text)?;
+            one_member(alloc, "SecretBinary", text)
         }
     }
-    Ok(Json::Object(members))
 }
 
 /// Puts a value as a member, where there is one.
@@ -46,16 +65,25 @@ fn put_value(
     members: &mut Map<String, Json>,
     name: &str,
     value: &Option<Value>,
-) -> Result<(), NoMemory> {
-    if let Some(value) = value {
-        let value = value_json(alloc, value)?;
-        put(members, alloc, name, value)?;
+) -> Result<(), NoMemory>
+    ensures { OnOk result (members_view members.new.entries
+        ≡ put_if name.now (option_map value_json value.now) (members_view members.old.entries)) }
+{
+    match value {
+        Some(value) => {
+            let value = value_json(alloc, value)?;
+            put(members, alloc, name, value)?;
+            Ok(())
+        }
+        None => Ok(()),
     }
-    Ok(())
 }
 
-/// The line that asks for a step, with its end.
-pub(crate) fn line_of(alloc: Global, work: &Work) -> Result<Vec<u8>, NoMemory> {
+/// The members that ask for a step.
+#[tactic(auto, unfolding(crate::specs::Line::asked_members))]
+fn asked_members(alloc: Global, work: &Work) -> Result<Map<String, Json>, NoMemory>
+    ensures { IfOk result (λ members. members_view members.entries ≡ asked_members work.now) }
+{
     let mut members = Map::new(alloc);
     let token = text_json(alloc, work.at.token.as_text().as_str())?;
     put(&mut members, alloc, "ClientRequestToken", token)?;
@@ -65,7 +93,24 @@ pub(crate) fn line_of(alloc: Global, work: &Work) -> Result<Vec<u8>, NoMemory> {
     put(&mut members, alloc, "SecretId", arn)?;
     let step = text_json(alloc, step_name(work.at.stage))?;
     put(&mut members, alloc, "Step", step)?;
-    let mut line = Json::Object(members).to_vec(alloc)?;
+    Ok(members)
+}
+
+/// The text of an object with these members, in which all numbers are whole.
+fn object_text(alloc: Global, members: Map<String, Json>) -> Result<Vec<u8>, NoMemory>
+    requires { members_have_float (members_view members.entries) ≡ false }
+    ensures { IfOk result (λ text. text.items ≡ compact_text (object (members_view members.entries))) }
+{
+    Ok(Json::Object(members).to_vec(alloc)?)
+}
+
+/// The line that asks for a step, with its end.
+#[tactic(auto, using(crate::proofs::LineLemmas::asked_plain))]
+pub(crate) fn line_of(alloc: Global, work: &Work) -> Result<Vec<u8>, NoMemory>
+    ensures { IfOk result (λ line. line.items ≡ line_of work.now) }
+{
+    let members = asked_members(alloc, work)?;
+    let mut line = object_text(alloc, members)?;
     line.push(b'\n')?;
     Ok(line)
 }
