@@ -40,7 +40,8 @@ due_begins_there : (row : SecretRow) (token : List ℕ) (moment : Moment) → is
 due_begins_there row token moment due =
     let whole = and_parts (is_due row moment) (not (has_version row.versions token)) due in
     let room = and_parts _ (not (is_full row)) whole.0 in
-    let free = and_parts _ (is_free_or_held_by (holder row.labels aws_pending) (holder row.labels aws_current)) room.0 in
+    let free =
+    and_parts _ (is_free_or_held_by (holder row.labels aws_pending) (holder row.labels aws_current)) room.0 in
     let there = and_parts _ (is_some (holder row.labels aws_current)) free.0 in
     let new = not_true (has_version row.versions token) whole.1 in
     rw (no_rotation (version_of row.versions token) (sym (has_version_is_some row.versions token) ∙ new))

@@ -81,7 +81,8 @@ current_pushed : (vs : List VersionRow) (w : VersionRow) (held : Option (List �
 current_pushed vs w None there named before = absurd (cc)
 current_pushed vs w (Some h) there named before =
     let here : has_version vs h ≡ true = named h refl in
-    let valued : has_value vs h ≡ true = subst (λ (b : Bool). (b || has_value vs h) ≡ true) (not_none vs h here) before in
+    let valued : has_value vs h ≡ true =
+    subst (λ (b : Bool). (b || has_value vs h) ≡ true) (not_none vs h here) before in
     ap is_some (value_of_push vs w h ∙ ap (λ b. cond b (value_of vs h) (cond (same_text w.id h) w.value None)) here)
     ∙ valued
 

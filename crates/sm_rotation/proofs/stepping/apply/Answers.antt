@@ -24,5 +24,6 @@ returns-in-Ok-clause-sound c = λ sound.
 pub returns-in-Ok-clause-vouched : goal.returns-in-Ok-clause-vouched
 returns-in-Ok-clause-vouched c = λ replies h accepts.
     let row = c.args.row.now in
-    after_apply (λ (r : SecretRow). RowVouched replies r) (is_done c.in-Ok.applied) row _ c.args.answer.now c.args.moment
-    (applied_vouched replies row c.args.answer.now c.args.moment c.requires.current_kept h accepts) c.in-Ok.ensures.row h
+    after_apply (λ (r : SecretRow). RowVouched replies r) (is_done c.in-Ok.applied) row _ c.args.answer.now
+    c.args.moment (applied_vouched replies row c.args.answer.now c.args.moment c.requires.current_kept h accepts)
+    c.in-Ok.ensures.row h
