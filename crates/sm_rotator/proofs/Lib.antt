@@ -1,0 +1,5 @@
+pub mod SameLemmas
+pub mod ScriptLemmas
+pub mod FloatLemmas
+pub mod LocalLemmas
+pub mod LineLemmas

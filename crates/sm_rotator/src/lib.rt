@@ -2,9 +2,19 @@
 #![tactic(auto)]
 
 pub mod absent;
+mod floats;
+mod line;
+pub mod link;
+pub mod local;
 pub mod rotator;
+pub mod script;
+pub mod verdict;
 pub mod work;
 
 pub use absent::NoRotator;
+pub use link::LinkRotator;
+pub use local::LocalRotator;
 pub use rotator::{Asked, Rotator};
+pub use script::ScriptRotator;
+pub use verdict::Verdict;
 pub use work::Work;

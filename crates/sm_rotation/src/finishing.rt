@@ -1,0 +1,58 @@
+//! The end of a rotation.
+ghost use Rattle.std.specs.Prelude.{◌≡◌, ◌≤◌, IfOk, OnOk, OnErr};
+ghost use Rattle.std.specs.List.{position};
+ghost use Rattle.sm_base.specs.declared.moment.TheConstants.{LAST_READING};
+ghost use Rattle.sm_versions.specs.Texts.{same_text};
+ghost use Rattle.sm_rotation.specs.Step.{marked, finished_labels, finished};
+
+use sm_dates::next_rotation;
+use sm_model::{Copied, Job, List, Moment, NoMemory, Pair, SecretRow, Token, VersionRow};
+use sm_versions::labels::{current, is_same_id, pending};
+use sm_versions::placing::{place, remove};
+use std::alloc::Global;
+use std::mem;
+
+/// The place of the version with this id.
+fn position_of(versions: &[VersionRow], id: &Token) -> Option<usize>
+    ensures { result ≡ position (λ v. same_text v.id id.now) versions.now }
+{
+    versions
+        .iter()
+        .position(|version| is_same_id(&version.id, id))
+}
+
+/// Remembers in the version with this id the attempt at which it was tested.
+fn mark(versions: &mut Vec<VersionRow>, id: &Token, tested: Option<u32>)
+    ensures { versions.new.items ≡ marked versions.old.items id.now tested }
+{
+    if let Some(i) = position_of(versions.as_slice(), id) {
+        versions[i].rotated = tested;
+    }
+}
+
+/// The pairs with AWSCURRENT placed on the version, and without AWSPENDING.
+fn finished_labels(alloc: Global, pairs: &List<Pair>, id: &Token) -> Result<List<Pair>, NoMemory>
+    ensures { IfOk result (λ labels. labels ≡ finished_labels pairs.now id.now) }
+{
+    let mut labels = pairs.copy(alloc)?.into_vec();
+    place(alloc, &mut labels, &current(), id)?;
+    remove(&mut labels, &pending());
+    Ok(List::new(labels))
+}
+
+/// Ends the rotation: its version is the current one.
+pub fn finish(alloc: Global, row: &mut SecretRow, job: &Job, moment: Moment) -> Result<(), NoMemory>
+    requires { moment.0 ≤ LAST_READING }
+    ensures done { OnOk result (row.new ≡ finished row.old job.now moment) }
+    ensures err { OnErr result (row.new ≡ row.old) }
+{
+    let labels = finished_labels(alloc, &row.labels, &job.token)?;
+    let mut versions = mem::replace(&mut row.versions, List::empty(alloc)).into_vec();
+    mark(&mut versions, &job.token, job.tested);
+    row.versions = List::new(versions);
+    row.labels = labels;
+    row.rotation.next = next_rotation(&row.rotation, moment);
+    row.rotation.last = Some(moment);
+    row.job = None;
+    Ok(())
+}
