@@ -1,12 +1,14 @@
 -- What text is a policy, and the first fault of one that is none.
 -- IAM User Guide: "Grammar of the IAM JSON policy language"; AWS Secrets Manager API Reference, PutResourcePolicy
 -- (MalformedPolicyDocumentException).
-use Rattle.std.specs.Prelude.{ℕ, ◌+◌, Bool, true, false, if◌then◌else◌, List, [], ◌∷◌, codes, Option, Some, None, option_and_then, unwrap_or, Result, Ok, Err}
+use Rattle.std.specs.Prelude.{ℕ, ◌+◌, Bool, true, false, ◌&&◌, nat_le, if◌then◌else◌, List, [], ◌∷◌, length, codes, chars, Option, Some, None, option_and_then, unwrap_or, Result, Ok, Err}
 use Rattle.std.specs.Str.{is_utf8}
 use Rattle.serde_json.specs.Data as shapes
 use Rattle.serde_json.specs.Data.{Data}
 use Rattle.serde_json.specs.Find.{as_array, as_object}
 use Rattle.serde_json.specs.Read.{read}
+use Rattle.sm_model.specs.Bounds.{has_at_most}
+use Rattle.sm_model.specs.declared.limits.TheConstants.{POLICY_LIMIT}
 use Rattle.sm_policy.specs.declared.document.PolicyRefused.{PolicyRefused}
 use Rattle.sm_policy.specs.declared.document.PolicyRefused.TheVariants.{Malformed, Memory}
 use Rattle.sm_policy.specs.declared.member.Member.{Member}
@@ -129,3 +131,20 @@ abbrev pub told : Result Policy PolicyRefused → Option (Result Policy Flaw)
 told (Ok policy) = Some (Ok policy)
 told (Err (Malformed number name)) = Some (Err (number, name))
 told (Err Memory) = None
+
+-- there is a policy
+abbrev pub is_read_policy : Result Policy Flaw → Bool
+is_read_policy (Ok policy) = true
+is_read_policy (Err flaw) = false
+
+-- the text is a policy
+unfoldable pub is_policy : List ℕ → Bool
+is_policy text = is_read_policy (policy_of text)
+
+-- a policy's text has 1 to 20,480 characters
+abbrev pub has_policy_length : List ℕ → Bool
+has_policy_length text = nat_le 1 (length (chars text)) && has_at_most POLICY_LIMIT text
+
+-- the text may be the resource policy of a secret
+unfoldable pub is_resource_policy : List ℕ → Bool
+is_resource_policy text = has_policy_length text && is_policy text

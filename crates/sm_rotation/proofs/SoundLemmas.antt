@@ -65,6 +65,7 @@ parts_fit row p f fit = record {
   tag_count = f.tag_count;
   tags = f.tags;
   tag_once = f.tag_once;
+  policy = f.policy;
   version_count = fit.count;
   versions = fit.versions;
   labels = fit.labels;

@@ -51,6 +51,7 @@ revised_sound deletion tags row date are sound =
         tag_count = are.count;
         tags = are.each;
         tag_once = are.once;
+        policy = f.policy;
         version_count = f.version_count;
         versions = f.versions;
         labels = f.labels;

@@ -117,6 +117,7 @@ redescribed_sound call row fit sound =
         tag_count = f.tag_count;
         tags = f.tags;
         tag_once = f.tag_once;
+        policy = f.policy;
         version_count = f.version_count;
         versions = f.versions;
         labels = f.labels;

@@ -1,5 +1,5 @@
 -- What holds of one secret between any two changes, all of it: the labels and versions, and that each text, value,
--- number and date fits.
+-- number, date and policy fits.
 -- AWS Secrets Manager User Guide: "AWS Secrets Manager quotas"; API Reference: SecretListEntry (ARN).
 use Rattle.std.specs.Prelude.{ℕ, ◌≤◌, Bool, true, ◌&&◌, nat_eq, List, [], ◌∷◌, ◌++◌, length, drop, codes, IsTrue}
 use Rattle.std.specs.List.{starts_with}
@@ -11,6 +11,7 @@ use Rattle.sm_model.specs.declared.rows.VersionRow.{VersionRow}
 use Rattle.sm_model.specs.declared.rows.Job.{Job}
 use Rattle.sm_model.specs.declared.rows.Rotation.{Rotation}
 use Rattle.sm_model.specs.declared.rows.SecretRow.{SecretRow}
+use Rattle.sm_policy.specs.Documents.{is_resource_policy}
 use Rattle.sm_model.specs.Bounds.{fits, is_description, is_small, is_tag, is_attempt, are_days, is_date, is_rotation_date}
 use Rattle.sm_versions.specs.Texts.{once}
 use Rattle.sm_versions.specs.Labels.{own_count}
@@ -61,6 +62,7 @@ pub record RowFits (row : SecretRow) : Type 0 where
   pub tag_count : length row.tags ≤ TAGS_LIMIT
   pub tags : IsTrue (each_tag row.tags)
   pub tag_once : IsTrue (once (tag_keys row.tags))
+  pub policy : IsTrue (fits is_resource_policy row.policy)
   pub version_count : length row.versions ≤ VERSIONS_LIMIT
   pub versions : IsTrue (each_version row.versions)
   pub labels : own_count row.labels ≤ LABELS_LIMIT
