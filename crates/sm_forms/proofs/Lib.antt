@@ -14,3 +14,7 @@ pub mod BatchGetSecretValueLemmas
 pub mod GetRandomPasswordLemmas
 pub mod ListSecretVersionIdsLemmas
 pub mod ListSecretsLemmas
+pub mod PolicyLemmas
+pub mod PutResourcePolicyLemmas
+pub mod RotateSecretLemmas
+pub mod ValidateResourcePolicyLemmas

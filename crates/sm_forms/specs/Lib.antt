@@ -13,4 +13,8 @@ pub mod BatchGetSecretValue
 pub mod GetRandomPassword
 pub mod ListSecretVersionIds
 pub mod ListSecrets
+pub mod Policies
+pub mod PutResourcePolicy
+pub mod RotateSecret
+pub mod ValidateResourcePolicy
 pub mod Forms

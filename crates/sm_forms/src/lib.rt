@@ -12,12 +12,16 @@ pub mod list_secrets;
 mod members;
 pub mod of_secret;
 pub mod paging;
+mod policies;
+pub mod put_resource_policy;
 pub mod put_secret_value;
 pub mod request_forms;
+pub mod rotate_secret;
 pub mod tag_resource;
 mod tags;
 pub mod untag_resource;
 pub mod update_secret;
 pub mod update_secret_version_stage;
+pub mod validate_resource_policy;
 
 pub use request_forms::forms;

@@ -1,0 +1,20 @@
+-- What it says of a policy's text that its form and its reading pass.
+use Rattle.std.proofs.Common.{◌≡◌, ◌⊎◌, inl, inr, List, ℕ, Bool, true, ◌&&◌, Option, Some, None, Result, Ok, Err, refl}
+use Rattle.std.specs.Prelude.{IsTrue}
+use Rattle.std.proofs.lemmas.Bool.{and_from}
+use Rattle.sm_model.specs.declared.why.Why.{Why}
+use Rattle.sm_model.specs.declared.why.Why.TheVariants.{Memory}
+use Rattle.sm_policy.specs.declared.policy.Policy.{Policy}
+use Rattle.sm_policy.specs.Documents.{Flaw, policy_of, is_policy, is_read_policy, has_policy_length, is_resource_policy}
+use Rattle.sm_forms.specs.Policies.{policy_form, flaw_in, policy_flaw}
+use Rattle.sm_forms.proofs.MemberLemmas.{passes}
+
+no_flaw : (read : Result Policy Flaw) → flaw_in read ≡ None → is_read_policy read ≡ true
+no_flaw (Ok policy) h = refl
+no_flaw (Err flaw) h = cc
+
+-- a text that passes both may be the resource policy of a secret
+pub policy_passes : (text : List ℕ) → policy_form text ≡ None → policy_flaw text ≡ None → IsTrue (is_resource_policy text)
+policy_passes text form flaw =
+    and_from (has_policy_length text) (is_policy text) (passes (has_policy_length text) _ form)
+    (no_flaw (policy_of text) flaw)
