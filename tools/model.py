@@ -2,12 +2,13 @@
 
 It is written from the rules of the product (docs/RULES.md, docs/USING.md) alone, in another language and shape than the program and its
 specifications: a dictionary of versions and a list of labels for each secret, exceptions for refusals, Python's own JSON. It knows one account, a
-clock that always reads 1700000000, and random bytes that count up from 0.
+clock that always reads 1700000000, random bytes that count up from 0, and the rotator that changes the password in a JSON text.
 """
 
 import base64
 import binascii
 import collections
+import datetime
 import json
 import re
 import string
@@ -17,6 +18,8 @@ import entries
 
 NOW = entries.MOMENT
 MESSAGE_LIMIT = 1000
+# How many steps of rotations are made at most after a message.
+TURN_LIMIT = 100
 HEAD_LIMIT = 16384
 FIELD_LIMIT = 64
 BODY_LIMIT = 524288
@@ -51,12 +54,10 @@ MEMBERS = {
     "ValidateResourcePolicy": "ResourcePolicy* text, SecretId text",
 }
 
-BUILT = {"CreateSecret", "DeleteSecret", "DescribeSecret", "GetSecretValue", "PutSecretValue", "RestoreSecret", "TagResource", "UntagResource"}
-BUILT |= {"UpdateSecret", "UpdateSecretVersionStage", "BatchGetSecretValue", "GetRandomPassword", "ListSecretVersionIds", "ListSecrets"}
 # Truth values that are true where they are absent.
 TRUE_IF_ABSENT = {"RequireEachIncludedType", "RotateImmediately"}
 # What works on a secret that is scheduled for deletion, beside a forced deletion.
-ON_SCHEDULED = {"DescribeSecret", "ListSecretVersionIds", "RestoreSecret"}
+ON_SCHEDULED = {"DescribeSecret", "GetResourcePolicy", "ListSecretVersionIds", "RestoreSecret", "ValidateResourcePolicy"}
 
 NAME = re.compile(r"[A-Za-z0-9/_+=.@-]{1,512}")
 ARN = re.compile(r"arn:aws:secretsmanager:[a-z0-9-]{1,32}:[0-9]{12}:secret:[A-Za-z0-9/_+=.@-]{1,519}")
@@ -78,7 +79,9 @@ ERRORS = {
     "AWSCURRENT can be moved but not removed": "InvalidParameterException",
     "NextToken is not in its form": "InvalidNextTokenException",
     "body is not a JSON object": "SerializationException",
-    "not built": "SerializationException",
+    "no credential": "AccessDeniedException",
+    "no statement allows": "AccessDeniedException",
+    "secret has no current value": "InvalidRequestException",
     "secret not found": "ResourceNotFoundException",
     "unknown operation": "UnknownOperationException",
     "version and label differ": "InvalidRequestException",
@@ -98,7 +101,7 @@ def bad_form(name):
     return Refusal("InvalidParameterException", f"{name} is not in its form", "_ is not in its form")
 
 
-# Every kind of refusal that the operations built so far can give.
+# Every kind of refusal that the operations can give.
 KINDS = set(ERRORS) | {
     "_ is missing or of another type",
     "_ is not in its form",
@@ -110,6 +113,13 @@ KINDS = set(ERRORS) | {
     "limit of 20 labels",
     "limit of 50 tags",
     "limit of 1000 versions",
+    "version _ has no value",
+    "version _ exists",
+    "AWSPENDING is held by _",
+    "statement _: _",
+    "statement _ is public",
+    "denied by statement _",
+    "unknown key _",
     "http: body too long",
     "http: chunked",
     "http: head",
@@ -182,8 +192,13 @@ FORMS = {
     "Name": lambda text: bool(NAME.fullmatch(text)),
     "PasswordLength": lambda length: 1 <= length <= 4096,
     "RecoveryWindowInDays": lambda days: 7 <= days <= 30,
+    "BlockPublicPolicy": is_truth,
     "RemoveFromVersionId": is_token,
     "RequireEachIncludedType": is_truth,
+    "ResourcePolicy": lambda text: 1 <= len(text) <= 20480,
+    "RotateImmediately": is_truth,
+    "RotationLambdaARN": is_description,
+    "RotationRules": lambda rules: rules.days is None or 1 <= rules.days <= 1000,
     "SecretBinary": is_value,
     "SecretId": is_secret_id,
     "SecretIdList": lambda ids: 1 <= len(ids) <= 20,
@@ -294,11 +309,14 @@ def read_filter(value):
     return inner(value, "Key", of_type(str)), inner(value, "Values", read_list(of_type(str)))
 
 
+Rules = collections.namedtuple("Rules", "days")
+
+
 def read_rules(value):
-    inner(value, "AutomaticallyAfterDays", read_integer, 0)
+    days = inner(value, "AutomaticallyAfterDays", lambda days: [read_integer(days)], [])
     if value.get("Duration") is not None or value.get("ScheduleExpression") is not None:
         raise LeftOut
-    return value
+    return Rules(*days or [None])
 
 
 def read_regions(value):
@@ -337,12 +355,8 @@ def read_member(given, name, kind):
 
 
 def members_of(operation, body):
-    if operation not in MEMBERS:
-        raise refusal("unknown operation")
     given = object_of(body)
     members = [pair for member in MEMBERS[operation].split(", ") for pair in read_member(given, *member.split(" "))]
-    if operation not in BUILT:
-        raise refusal("not built")
     return {name: value for name, value in members if name != "AddReplicaRegions"}
 
 
@@ -360,6 +374,8 @@ def needed(operation, members):
     if operation == "GetRandomPassword":
         length = members.get("PasswordLength", 32)
         return 4 * length if 1 <= length <= 4096 else 0
+    if operation == "RotateSecret":
+        return 16 if without_token and members.get("RotateImmediately", True) else 0
     return 16 if operation == "PutSecretValue" and without_token else 0
 
 
@@ -400,6 +416,8 @@ def test_forms(operation, members):
         raise bad_form("ForceDeleteWithoutRecovery")
     if operation == "UpdateSecretVersionStage" and not {"MoveToVersionId", "RemoveFromVersionId"} & members.keys():
         raise bad_form("MoveToVersionId")
+    if operation == "PutResourcePolicy":
+        policy_of(members["ResourcePolicy"])
 
 
 def classes_of(members):
@@ -425,6 +443,268 @@ def password(members, drawn):
 
 def drawn_token(drawn):
     return str(uuid.UUID(bytes=bytes(drawn), version=4))
+
+
+# ---- policies
+
+STATEMENT_MEMBERS = ("Action", "Condition", "Effect", "Principal", "Resource", "Sid")
+OPERATORS = ("StringEquals", "StringLike", "StringNotEquals")
+PERSON_ARN = re.compile(r"arn:aws:iam::[0-9]{12}:[!-~]{1,128}")
+KEY_OF_TAG = "secretsmanager:ResourceTag/"
+KEYS = {"secretsmanager:Name", "secretsmanager:SecretId", "secretsmanager:VersionId", "secretsmanager:VersionStage"}
+
+
+class NoPart(Exception):
+    """A part of a policy is not in its form."""
+
+
+def part_that(fits):
+    if not fits:
+        raise NoPart
+
+
+def texts_in(value):
+    """A text, or a list of at least one, as a list."""
+    texts = value if isinstance(value, list) else [value]
+    part_that(texts and all(isinstance(text, str) for text in texts))
+    return texts
+
+
+def patterns_in(value):
+    patterns = texts_in(value)
+    part_that(all(patterns))
+    return patterns
+
+
+def principals_in(value):
+    if value == "*":
+        return ["*"]
+    part_that(isinstance(value, dict) and list(value) == ["AWS"])
+    principals = texts_in(value["AWS"])
+    part_that(all(it == "*" or re.fullmatch("[0-9]{12}", it) or PERSON_ARN.fullmatch(it) for it in principals))
+    return principals
+
+
+def condition_in(value):
+    """Operators, keys and texts."""
+    part_that(isinstance(value, dict) and all(name in OPERATORS and isinstance(tests, dict) for name, tests in value.items()))
+    tests = [(name, key, texts_in(texts)) for name, found in value.items() for key, texts in found.items()]
+    part_that(all(key in KEYS or key.startswith(KEY_OF_TAG) and key != KEY_OF_TAG for _, key, _ in tests))
+    return tests
+
+
+def malformed(number, name):
+    return Refusal("MalformedPolicyDocumentException", f"statement {number}: {name}", "statement _: _")
+
+
+def check_members(number, value, known):
+    unknown = sorted(value.keys() - set(known), key=str.encode)
+    if unknown:
+        raise malformed(number, unknown[0])
+
+
+def text_in(value):
+    part_that(isinstance(value, str))
+    return value
+
+
+def effect_in(value):
+    part_that(value in ("Allow", "Deny"))
+    return value
+
+
+# The members of a statement in the order in which they are tested, and whether they have to be there.
+PARTS = [
+    ("Sid", text_in, False),
+    ("Effect", effect_in, True),
+    ("Principal", principals_in, True),
+    ("Action", patterns_in, True),
+    ("Resource", patterns_in, True),
+    ("Condition", condition_in, False),
+]
+
+
+def statement_of(number, value):
+    if not isinstance(value, dict):
+        raise malformed(number, "Statement")
+    check_members(number, value, STATEMENT_MEMBERS)
+    statement = {"HasCondition": bool(value.get("Condition"))}
+    for name, read, wanted in PARTS:
+        try:
+            part_that(name in value or not wanted)
+            statement[name] = read(value[name]) if name in value else []
+        except NoPart:
+            raise malformed(number, name)
+    return statement
+
+
+def policy_of(text):
+    """The statements of a policy's text."""
+    try:
+        document = read_json(text.encode())
+    except (ValueError, RecursionError):
+        raise malformed(0, "policy")
+    if not isinstance(document, dict):
+        raise malformed(0, "policy")
+    check_members(0, document, ("Id", "Statement", "Version"))
+    if document.get("Version") != "2012-10-17":
+        raise malformed(0, "Version")
+    if not isinstance(document.get("Id", ""), str):
+        raise malformed(0, "Id")
+    statements = document.get("Statement")
+    statements = [statements] if isinstance(statements, dict) else statements
+    if not isinstance(statements, list) or not statements:
+        raise malformed(0, "Statement")
+    return [statement_of(number, value) for number, value in enumerate(statements, 1)]
+
+
+def public_statement(statements):
+    """The number of the first statement that allows everybody something, or None."""
+    public = (
+        number for number, it in enumerate(statements, 1)
+        if it["Effect"] == "Allow" and "*" in it["Principal"] and not it["HasCondition"]
+    )
+    return next(public, None)
+
+
+def is_public(number):
+    return Refusal("PublicPolicyException", f"statement {number} is public", "statement _ is public")
+
+
+def is_like(text, pattern):
+    """Whether a pattern with `*` and `?` matches a text: a walk over all ways at once."""
+    places = {0}
+    for letter in pattern:
+        if letter == "*":
+            places = set(range(min(places), len(text) + 1)) if places else places
+        else:
+            places = {at + 1 for at in places if at < len(text) and letter in ("?", text[at])}
+    return len(text) in places
+
+
+def lowered(text):
+    return "".join(letter.lower() if letter.isascii() else letter for letter in text)
+
+
+class Question:
+    """What a person asks of a secret: the action, and what the request says of the secret and of its version."""
+
+    def __init__(self, person, operation, secret, members):
+        self.person, self.action, self.secret = person, f"secretsmanager:{operation}", secret
+        self.values = {"secretsmanager:Name": secret.name, "secretsmanager:SecretId": members["SecretId"]}
+        if operation in ("GetSecretValue", "UpdateSecretVersionStage"):
+            self.values |= {f"secretsmanager:{name}": members[name] for name in ("VersionId", "VersionStage") if name in members}
+        if operation == "GetSecretValue" and not {"VersionId", "VersionStage"} & members.keys():
+            self.values["secretsmanager:VersionStage"] = "AWSCURRENT"
+        self.values |= {KEY_OF_TAG + key: value for key, value in secret.tags}
+
+    def names(self, principal):
+        account = self.person.arn[13:25]
+        return principal in ("*", account, f"arn:aws:iam::{account}:root", self.person.arn)
+
+    def meets(self, operator, key, texts):
+        value = self.values.get(key)
+        if operator == "StringNotEquals":
+            return value not in texts
+        if operator == "StringEquals":
+            return value in texts
+        return value is not None and any(is_like(value, text) for text in texts)
+
+    def is_matched(self, statement):
+        return (
+            any(map(self.names, statement["Principal"]))
+            and any(is_like(lowered(self.action), lowered(pattern)) for pattern in statement["Action"])
+            and any(is_like(self.secret.arn, pattern) for pattern in statement["Resource"])
+            and all(self.meets(*test) for test in statement["Condition"])
+        )
+
+
+def admit(person, operation, secret, members):
+    statements = policy_of(secret.policy) if secret is not None and secret.policy is not None else []
+    question = Question(person, operation, secret, members) if statements else None
+    matching = [(number, it["Effect"]) for number, it in enumerate(statements, 1) if question.is_matched(it)]
+    denying = [number for number, effect in matching if effect == "Deny"]
+    if denying:
+        raise Refusal("AccessDeniedException", f"denied by statement {denying[0]}", "denied by statement _")
+    if not person.is_full and not matching:
+        raise refusal("no statement allows")
+
+
+# ---- people
+
+Person = collections.namedtuple("Person", "key is_full arn")
+ROOT = Person("", True, "arn:aws:iam::000000000000:root")
+LINE = re.compile(rb"([A-Za-z0-9_]{1,128}) (full|guest) (arn:aws:iam::[0-9]{12}:[!-~]{1,128})")
+CREDENTIAL = re.compile(rb"([A-Za-z0-9_]{1,128})/")
+
+
+class BadLine(Exception):
+    """A line of a people text breaks its grammar."""
+
+
+class People:
+    """Who may ask. With an empty text everybody is the account's root."""
+
+    def __init__(self, text):
+        self.is_open = not text
+        self.persons = {}
+        for number, line in enumerate(text.split(b"\n"), 1):
+            if not line or line.startswith(b"#"):
+                continue
+            found = LINE.fullmatch(line)
+            if not found or found[1] in self.persons:
+                raise BadLine(number)
+            self.persons[found[1]] = Person(found[1].decode(), found[2] == b"full", found[3].decode())
+
+    def caller(self, header):
+        if self.is_open:
+            return ROOT
+        _, found, rest = (header or b"").partition(b"Credential=")
+        key = CREDENTIAL.match(rest)
+        if not found or not key:
+            raise refusal("no credential")
+        if key[1] not in self.persons:
+            raise Refusal("AccessDeniedException", f"unknown key {key[1].decode()}", "unknown key _")
+        return self.persons[key[1]]
+
+
+# ---- rotation
+
+STAGES = ("createSecret", "setSecret", "testSecret", "finishSecret")
+Job = collections.namedtuple("Job", "token stage attempt retry_at")
+
+
+def object_with_password(value):
+    """The object that a value is a text of, with a text as its password and with whole numbers alone; or None."""
+    try:
+        found = read_json(value.encode()) if isinstance(value, str) else None
+    except (ValueError, RecursionError):
+        return None
+    is_one = isinstance(found, dict) and isinstance(found.get("password"), str) and are_whole(found)
+    return found if is_one else None
+
+
+def are_whole(value):
+    if isinstance(value, dict):
+        return all(map(are_whole, value.values()))
+    if isinstance(value, list):
+        return all(map(are_whole, value))
+    if isinstance(value, int) and not isinstance(value, bool):
+        return -(2**63) <= value < 2**64
+    return not isinstance(value, float)
+
+
+def rotate_locally(job, current, pending):
+    """What the local rotator answers: a value, or whether the step was done."""
+    if job.stage == "createSecret":
+        found = object_with_password(current)
+        if found is None:
+            return False
+        return json.dumps(found | {"password": f"rotated-{job.token}"}, separators=(",", ":"), ensure_ascii=False, sort_keys=True)
+    if job.stage == "finishSecret":
+        return True
+    found = object_with_password(pending)
+    return found is not None and (job.stage == "setSecret" or len(found["password"]) >= 8)
 
 
 # ---- secrets
@@ -468,9 +748,16 @@ class Secret:
         self.arn = arn
         self.tags = tags
         self.said = {}
+        # The value of each version, or None where a rotation has made it and not filled it.
         self.versions = {}
+        self.of_rotation = set()
         self.labels = []
         self.deletion = None
+        self.policy = None
+        self.is_rotated = False
+        self.days = None
+        self.next_rotation = None
+        self.job = None
 
     def holder(self, label):
         return next((version for held, version in self.labels if held == label), None)
@@ -496,6 +783,41 @@ class Secret:
             self.labels = before
             raise limit_of(20, "labels")
 
+    def settle(self):
+        """A job stays while its version waits to become the current one; one whose version has a value is past createSecret."""
+        job = self.job
+        if job is None:
+            return
+        waits = job.token in self.versions and self.holder("AWSPENDING") == job.token and self.holder("AWSCURRENT") != job.token
+        if self.deletion is not None or not waits:
+            self.job = None
+        elif job.stage == "createSecret" and self.versions[job.token] is not None:
+            self.job = job._replace(stage="setSecret", attempt=1)
+
+    def current_value(self):
+        return self.versions.get(self.holder("AWSCURRENT"))
+
+    def report(self, answer):
+        """Does what an answer to the job's step leads to: a value, whether the step was done, or None where it failed."""
+        job = self.job
+        if job.stage == "createSecret" and isinstance(answer, str):
+            self.versions[job.token] = answer
+        elif answer is not True or job.stage == "createSecret":
+            again = job._replace(attempt=job.attempt + 1, retry_at=NOW + 60 * job.attempt)
+            self.job = again if job.attempt < 5 else None
+            return
+        if job.stage == "finishSecret":
+            self.place("AWSCURRENT", job.token)
+            self.labels = self.without("AWSPENDING")
+            self.said["LastRotatedDate"] = NOW
+            self.next_rotation = self.following_rotation()
+            self.job = None
+        else:
+            self.job = Job(job.token, STAGES[STAGES.index(job.stage) + 1], 1, NOW)
+
+    def following_rotation(self):
+        return None if self.days is None else NOW + 86400 * self.days
+
     def say(self, members):
         """Keeps what is given of a description and a KMS key id."""
         self.said |= {name: members[name] for name in ("Description", "KmsKeyId") if name in members}
@@ -507,7 +829,9 @@ class Secret:
 class Account:
     """One account, which answers one message after the other. It counts what it reached: (operation, how it was answered)."""
 
-    def __init__(self):
+    def __init__(self, people=b""):
+        self.people = People(people)
+        self.claimed = set()
         self.secrets = []
         self.made = 0
         self.drawn = 0
@@ -516,8 +840,9 @@ class Account:
         self.entries = []
 
     def restart(self):
-        """The random bytes of a run begin anew."""
+        """The random bytes of a run begin anew, and the steps of rotations that were under way may be asked again."""
         self.drawn = 0
+        self.claimed = set()
 
     def draw(self, count):
         drawn = [(self.drawn + place) % 256 for place in range(count)]
@@ -531,18 +856,51 @@ class Account:
         short = [secret for secret in self.secrets if secret.arn[:-7] == secret_id]
         return next(iter(whole + short), None)
 
-    def answer(self, operation, body):
+    def turn(self):
+        """One step of the first rotation that is ready, and whether there was one."""
+        for secret in self.secrets:
+            job = secret.job
+            if job is None or job.retry_at > NOW or (secret.arn, job) in self.claimed:
+                continue
+            self.claimed.add((secret.arn, job))
+            answer = rotate_locally(job, secret.current_value(), secret.versions[job.token])
+            if isinstance(answer, str) and not is_value(answer):
+                answer = None
+            secret.report(answer)
+            secret.settle()
+            self.entries.append(entry_of_step(secret, job, answer))
+            self.reached["turn", f"{job.stage} {job.attempt}"] += 1
+            return True
+        return False
+
+    def answer(self, person, operation, body):
         members = members_of(operation, body)
         drawn = self.draw(needed(operation, members))
         test_forms(operation, members)
+        self.admit(person, operation, members)
+        reply = self.act(person, operation, members, drawn)
+        for secret in self.secrets:
+            secret.settle()
+        return reply
+
+    def admit(self, person, operation, members):
+        if operation == "BatchGetSecretValue":
+            if "Filters" in members:
+                admit(person, "ListSecrets", None, members)
+        else:
+            admit(person, operation, self.find(members["SecretId"]) if "SecretId" in members else None, members)
+
+    def act(self, person, operation, members, drawn):
         if operation == "CreateSecret":
-            return self.create(members, drawn)
+            return self.create(person, members, drawn)
         if operation == "GetRandomPassword":
             return password(members, drawn)
         if operation == "ListSecrets":
             return self.list(members)
         if operation == "BatchGetSecretValue":
-            return self.batch(members)
+            return self.batch(person, members)
+        if operation == "ValidateResourcePolicy":
+            return self.validate(members)
         forced = members.get("ForceDeleteWithoutRecovery", False)
         if forced and self.find(members["SecretId"]) is None:
             return {"DeletionDate": NOW, "Name": members["SecretId"]}
@@ -553,7 +911,7 @@ class Account:
         if forced:
             self.secrets.remove(secret)
         if is_new:
-            self.entries.append(entry_of(operation, members, drawn))
+            self.entries.append(entry_of(person, operation, members, drawn))
         return reply
 
     def named(self, operation, secret_id, forced=False):
@@ -583,7 +941,19 @@ class Account:
             it["SecretVersionsToStages"] = it.pop("VersionIdsToStages")
         return {"SecretList": shown} | following
 
-    def batch(self, members):
+    def validate(self, members):
+        if "SecretId" in members and self.find(members["SecretId"]) is None:
+            raise refusal("secret not found")
+        errors = []
+        try:
+            public = public_statement(policy_of(members["ResourcePolicy"]))
+            if public is not None:
+                errors.append({"CheckName": "PublicAccess", "ErrorMessage": is_public(public).message})
+        except Refusal as flaw:
+            errors.append({"CheckName": "Syntax", "ErrorMessage": flaw.message})
+        return {"PolicyValidationPassed": not errors, "ValidationErrors": errors}
+
+    def batch(self, person, members):
         ids, following = members.get("SecretIdList"), {}
         if ids is None:
             secrets, following = self.listed("BatchGetSecretValue", members)
@@ -592,12 +962,13 @@ class Account:
         for it in ids:
             try:
                 test_forms("GetSecretValue", {"SecretId": it})
+                admit(person, "GetSecretValue", self.find(it), {"SecretId": it})
                 values.append(get(self.named("GetSecretValue", it), {}))
             except Refusal as refused:
                 errors.append({"ErrorCode": refused.error, "Message": refused.message, "SecretId": it})
         return {"Errors": errors, "SecretValues": values} | following
 
-    def create(self, members, drawn):
+    def create(self, person, members, drawn):
         value = value_in(members)
         token = members.get("ClientRequestToken") or (drawn_token(drawn[6:]) if value is not None else None)
         secret = next((secret for secret in self.secrets if secret.name == members["Name"]), None)
@@ -610,7 +981,7 @@ class Account:
             self.made += 1
             secret.say(members)
             self.secrets.append(secret)
-            self.entries.append(entry_of("CreateSecret", members, drawn))
+            self.entries.append(entry_of(person, "CreateSecret", members, drawn))
             if value is not None:
                 secret.versions[token] = value
                 secret.place("AWSCURRENT", token)
@@ -625,16 +996,28 @@ class Account:
 SPELLED = {
     "bytes": entries.octets,
     "integer": entries.number,
+    "rules": lambda rules: entries.option(None if rules.days is None else entries.number(rules.days)),
     "tags": lambda tags: entries.items(*(entries.tag(key, value) for key, value in tags)),
     "text": entries.text,
     "texts": lambda texts: entries.items(*map(entries.text, texts)),
 }
-# The acts of the operations that are built, by their number in a journal.
+# The acts of the operations that change something, by their number in a journal.
 ACTS = {"CreateSecret": 1, "PutSecretValue": 2, "UpdateSecret": 3, "DeleteSecret": 4, "RestoreSecret": 5, "UpdateSecretVersionStage": 6}
-ACTS |= {"TagResource": 7, "UntagResource": 8}
+ACTS |= {"TagResource": 7, "UntagResource": 8, "PutResourcePolicy": 9, "DeleteResourcePolicy": 10, "RotateSecret": 11, "CancelRotateSecret": 12}
+REPORTED = 14
 
 
-def entry_of(operation, members, drawn):
+def entry_of_step(secret, job, answer):
+    """The entry of an answer to a step of a rotation."""
+    if isinstance(answer, str):
+        spelled = b"\1\1" + entries.text(answer)
+    else:
+        spelled = b"\2" if answer else b"\4" if answer is None else b"\3"
+    step = bytes([STAGES.index(job.stage) + 1, job.attempt])
+    return entries.entry(REPORTED, entries.text(secret.arn), entries.text(job.token), step, spelled)
+
+
+def entry_of(person, operation, members, drawn):
     """The entry of an accepted request: its members in the order of their names, truth values as they count, others that may be absent as options."""
     fields = []
     for member in MEMBERS[operation].split(", "):
@@ -647,7 +1030,7 @@ def entry_of(operation, members, drawn):
             fields.append(SPELLED[kind](members[name.rstrip("*")]))
         else:
             fields.append(entries.option(SPELLED[kind](members[name]) if name in members else None))
-    return entries.entry(ACTS[operation], *fields, drawn=bytes(drawn))
+    return entries.entry(ACTS[operation], *fields, caller=person.key, drawn=bytes(drawn))
 
 
 def get(secret, members):
@@ -660,6 +1043,8 @@ def get(secret, members):
         raise refusal("version and label differ")
     version = version or secret.holder(label)
     value = secret.versions[version]
+    if value is None:
+        raise refusal("version not found")
     shown = {"SecretString": value} if isinstance(value, str) else {"SecretBinary": base64.b64encode(value).decode()}
     shown |= {"CreatedDate": NOW, "VersionId": version}
     return secret.named() | shown | {"VersionStages": secret.labels_of(version)}
@@ -667,9 +1052,13 @@ def get(secret, members):
 
 def describe(secret, members):
     staged = {version: secret.labels_of(version) for version in secret.versions if secret.labels_of(version)}
-    shown = {"CreatedDate": NOW, "LastChangedDate": NOW, "RotationEnabled": False, "VersionIdsToStages": staged}
+    shown = {"CreatedDate": NOW, "LastChangedDate": NOW, "RotationEnabled": secret.is_rotated, "VersionIdsToStages": staged}
     if secret.deletion is not None:
         shown["DeletedDate"] = secret.deletion
+    if secret.next_rotation is not None:
+        shown["NextRotationDate"] = secret.next_rotation
+    if secret.days is not None:
+        shown["RotationRules"] = {"AutomaticallyAfterDays": secret.days}
     return secret.named() | secret.said | shown | {"Tags": [{"Key": key, "Value": value} for key, value in secret.tags]}
 
 
@@ -687,11 +1076,11 @@ def list_versions(secret, members):
 
 def add_value(secret, token, value, labels):
     """Puts a value under a token, and says whether it was not there before."""
-    if token in secret.versions:
+    if secret.versions.get(token) is not None:
         if secret.versions[token] != value:
             raise Refusal("ResourceExistsException", f"version {token} has another value", "version _ has another value")
         return False
-    if len(secret.versions) >= 1000:
+    if token not in secret.versions and len(secret.versions) >= 1000:
         raise limit_of(1000, "versions")
     secret.place_all(labels, token)
     secret.versions[token] = value
@@ -756,6 +1145,8 @@ def move(secret, members, drawn):
         kind = "label is held by _" if holder else "label is held by no version"
         raise Refusal("InvalidParameterException", f"label is held by {holder or 'no version'}", kind)
     if target is not None:
+        if label == "AWSCURRENT" and secret.versions[target] is None:
+            raise Refusal("InvalidRequestException", f"version {target} has no value", "version _ has no value")
         secret.place_all([label], target)
     elif label == "AWSCURRENT":
         raise refusal("AWSCURRENT can be moved but not removed")
@@ -764,11 +1155,72 @@ def move(secret, members, drawn):
     return secret.named(), True
 
 
+def get_policy(secret, members):
+    return secret.named() | ({} if secret.policy is None else {"ResourcePolicy": secret.policy})
+
+
+def put_policy(secret, members, drawn):
+    public = public_statement(policy_of(members["ResourcePolicy"]))
+    if public is not None and members.get("BlockPublicPolicy"):
+        raise is_public(public)
+    secret.policy = members["ResourcePolicy"]
+    return secret.named(), True
+
+
+def delete_policy(secret, members, drawn):
+    secret.policy = None
+    return secret.named(), True
+
+
+def rotate(secret, members, drawn):
+    """The reply, and whether anything changed."""
+    is_immediate = members.get("RotateImmediately", True)
+    token = members.get("ClientRequestToken") or (drawn_token(drawn) if is_immediate else None)
+    if is_immediate:
+        if token in secret.of_rotation:
+            return secret.named() | {"VersionId": token}, False
+        test_start(secret, token)
+        secret.versions[token] = None
+        secret.of_rotation.add(token)
+        secret.place("AWSPENDING", token)
+        secret.job = Job(token, STAGES[0], 1, NOW)
+    secret.is_rotated = True
+    if "RotationRules" in members:
+        secret.days = members["RotationRules"].days
+    secret.said |= {name: members[name] for name in ("RotationLambdaARN",) if name in members}
+    if not is_immediate:
+        secret.next_rotation = secret.following_rotation()
+    return secret.named() | ({"VersionId": token} if is_immediate else {}), True
+
+
+def test_start(secret, token):
+    """A rotation can start: a version is current, none other waits, and one may be added under the token."""
+    current, pending = secret.holder("AWSCURRENT"), secret.holder("AWSPENDING")
+    if current is None:
+        raise refusal("secret has no current value")
+    if pending not in (None, current):
+        raise Refusal("InvalidRequestException", f"AWSPENDING is held by {pending}", "AWSPENDING is held by _")
+    if token in secret.versions:
+        raise Refusal("ResourceExistsException", f"version {token} exists", "version _ exists")
+    if len(secret.versions) >= 1000:
+        raise limit_of(1000, "versions")
+
+
+def cancel(secret, members, drawn):
+    dropped = {} if secret.job is None else {"VersionId": secret.job.token}
+    secret.is_rotated, secret.next_rotation, secret.job = False, None, None
+    return secret.named() | dropped, True
+
+
 # What the operations answer that only read a secret.
-READS = {"DescribeSecret": describe, "GetSecretValue": get, "ListSecretVersionIds": list_versions}
+READS = {"DescribeSecret": describe, "GetResourcePolicy": get_policy, "GetSecretValue": get, "ListSecretVersionIds": list_versions}
 # What the operations do that change a secret: the reply, and whether anything changed.
 CHANGES = {
+    "CancelRotateSecret": cancel,
+    "DeleteResourcePolicy": delete_policy,
     "DeleteSecret": delete,
+    "PutResourcePolicy": put_policy,
+    "RotateSecret": rotate,
     "PutSecretValue": put,
     "RestoreSecret": restore,
     "TagResource": tag,
@@ -872,7 +1324,10 @@ def reply(account, message):
     operation = None
     try:
         operation = message.operation()
-        shown = account.answer(operation, message.body)
+        if operation not in MEMBERS:
+            raise refusal("unknown operation")
+        person = account.people.caller(message.first(b"authorization"))
+        shown = account.answer(person, operation, message.body)
         account.reached[operation, "accepted"] += 1
         return framed("200 OK", shown)
     except Refusal as refused:
@@ -894,5 +1349,23 @@ def run(stream, account):
             account.reached[None, bad.kind] += 1
             return 11, output + framed(bad.status, {"Message": bad.kind, "__type": "SerializationException"})
         output += reply(account, message)
+        turns = 0
+        while turns < TURN_LIMIT and account.turn():
+            turns += 1
         at, is_closed = message.behind, message.is_closing
     return 12, output
+
+
+def date_of(moment):
+    return datetime.datetime.fromtimestamp(moment, datetime.timezone.utc).strftime("%Y-%m-%d")
+
+
+def summary(account):
+    """What mode check says of an account."""
+    secrets = account.secrets
+    lines = [f"secrets {len(secrets)} versions {sum(len(it.versions) for it in secrets)} entries {len(account.entries)}"]
+    for it in secrets:
+        state = "live" if it.deletion is None else f"until {date_of(it.deletion)}"
+        job = "idle" if it.job is None else f"{it.job.stage} {it.job.attempt}"
+        lines.append(f"{it.name} {date_of(NOW)} versions {len(it.versions)} labels {len(it.labels)} {state} {job}")
+    return "".join(line + "\n" for line in lines).encode()

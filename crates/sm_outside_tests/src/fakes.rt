@@ -1,6 +1,6 @@
 //! A system that fails.
 use std::io::{Error, ErrorKind, Read, Write};
-use std::net::{Ipv4Addr, OpenListener, SocketAddr, SocketAddrV4};
+use std::net::{Ipv4Addr, OpenListener, OpenStream, SocketAddr, SocketAddrV4};
 use std::random::RandomSource;
 use std::sync::atomic::{AtomicU64, Ordering};
 use std::time::Duration;
@@ -96,6 +96,9 @@ pub struct FlakyStream {
     reader: FlakyReader,
     writer: FlakyWriter,
 }
+
+/// It has no settings.
+impl OpenStream for FlakyStream {}
 
 impl Read for FlakyStream {
     fn read(&mut self, buf: &mut [u8]) -> io::Result<usize> {

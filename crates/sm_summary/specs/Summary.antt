@@ -1,0 +1,35 @@
+-- The summary of an account: how many secrets, versions and entries it has, and then a line for each secret, in order
+-- of creation. Secrets whose deletion date is reached are left out.
+use Rattle.std.specs.Prelude.{◌≡◌, ℕ, ◌+◌, List, [], ◌∷◌, ◌++◌, length, codes, decimal, string_bytes}
+use Rattle.sm_base.specs.declared.moment.Moment.{Moment}
+use Rattle.sm_model.specs.declared.rows.Rows.{Rows}
+use Rattle.sm_model.specs.declared.rows.SecretRow.{SecretRow}
+use Rattle.sm_table.specs.Sweep.{swept}
+use Rattle.sm_summary.specs.declared.summary.Shown.{Shown}
+use Rattle.sm_summary.specs.Lines.{AreLines}
+
+-- how many versions the secrets have together
+abbrev pub version_count : List SecretRow → ℕ
+version_count [] = 0
+version_count (row ∷ rows) = length row.versions + version_count rows
+
+-- the first line
+abbrev pub totals : ℕ → ℕ → ℕ → List ℕ
+totals secrets versions entries =
+    codes "secrets " ++ (decimal secrets ++ (codes " versions " ++ (decimal versions
+    ++ (codes " entries " ++ (decimal entries ++ codes "\n")))))
+
+-- what is said of these secrets, and of so many entries
+abbrev pub IsSummaryOf : List SecretRow → ℕ → List ℕ → Type 0
+IsSummaryOf rows entries text = (lines : List ℕ) × AreLines rows lines
+    × (text ≡ totals (length rows) (version_count rows) entries ++ lines)
+
+-- the summary of the secrets that are still there at the moment
+abbrev pub IsSummary : Rows → Moment → ℕ → List ℕ → Type 0
+IsSummary rows moment entries text = IsSummaryOf (swept rows.secrets moment) entries text
+
+-- what was shown of some secrets
+pub record IsShown (rows : List SecretRow) (shown : Shown) : Type 0 where
+  pub secrets : shown.secrets ≡ length rows
+  pub versions : shown.versions ≡ version_count rows
+  pub lines : AreLines rows (string_bytes shown.lines)
