@@ -10,7 +10,7 @@ use Rattle.sm_model.specs.declared.rows.SecretRow.{SecretRow}
 use Rattle.sm_versions.specs.Sound.{RowSound}
 use Rattle.sm_table.specs.Sound.{EachSound}
 use Rattle.sm_table.specs.Sweep.{is_gone, swept}
-use Rattle.sm_summary.specs.declared.summary.Shown.{Shown}
+use Rattle.sm_summary.specs.declared.walk.Shown.{Shown}
 use Rattle.sm_summary.specs.Lines.{IsLine, AreLines}
 use Rattle.sm_summary.specs.Summary.{version_count, IsShown, IsSummaryOf, totals}
 use Rattle.sm_summary.proofs.LineLemmas.{same_lines}

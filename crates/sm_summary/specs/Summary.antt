@@ -5,7 +5,7 @@ use Rattle.sm_base.specs.declared.moment.Moment.{Moment}
 use Rattle.sm_model.specs.declared.rows.Rows.{Rows}
 use Rattle.sm_model.specs.declared.rows.SecretRow.{SecretRow}
 use Rattle.sm_table.specs.Sweep.{swept}
-use Rattle.sm_summary.specs.declared.summary.Shown.{Shown}
+use Rattle.sm_summary.specs.declared.walk.Shown.{Shown}
 use Rattle.sm_summary.specs.Lines.{AreLines}
 
 -- how many versions the secrets have together

@@ -2,6 +2,6 @@
 #![tactic(auto)]
 
 mod line;
-pub mod summary;
+pub mod walk;
 
-pub use summary::summary;
+pub use walk::summary;
