@@ -15,7 +15,7 @@ no_flaw (Err flaw) h = cc
 
 -- a text that passes both may be the resource policy of a secret
 pub policy_passes : (t : List ℕ) → policy_form t ≡ None → policy_flaw t ≡ None → IsTrue (is_resource_policy t)
-  unfolding is_policy is_resource_policy
+unfolding is_policy is_resource_policy
 policy_passes t form flaw =
     and_from (has_policy_length t) (is_policy t) (passes (has_policy_length t) _ form)
     (no_flaw (policy_of t) flaw)

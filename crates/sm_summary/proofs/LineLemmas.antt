@@ -6,6 +6,17 @@ use Rattle.sm_dates.specs.Days.{IsDateOf}
 use Rattle.sm_dates.proofs.DayLemmas.{one_date}
 use Rattle.sm_summary.specs.Lines.{IsState, IsLine, AreLines, line_with}
 
+-- until a date
+pub until_date : (deletion : Moment) (date : List ℕ) → IsDateOf deletion date
+    → IsState (Some deletion) (codes "until " ++ date)
+until_date deletion date is = (date, is, refl)
+
+-- the line with these parts
+pub line_is : (row : SecretRow) (made state : List ℕ) → IsDateOf row.created made → IsState row.deletion state
+    → IsLine row (line_with row made state)
+line_is row made state is_made is_state =
+    record { made = made; state = state; is_made = is_made; is_state = is_state; is = refl }
+
 one_state : (deletion : Option Moment) (a b : List ℕ) → IsState deletion a → IsState deletion b → a ≡ b
 one_state None a b x y = x ∙ sym y
 one_state (Some deletion) a b x y =

@@ -1,5 +1,5 @@
 -- A walk over secrets that shows those that are still there.
-use Rattle.std.proofs.Common.{◌≡◌, ℕ, ◌+◌, ◌*◌, ◌≤◌, ◌<◌, Bool, true, false, cond, List, [], ◌∷◌, ◌++◌, length, take, Some, refl, sym, ap, ◌∙◌, arith, string_bytes}
+use Rattle.std.proofs.Common.{◌≡◌, ℕ, zero, suc, subst, ◌+◌, ◌*◌, ◌≤◌, ◌<◌, Bool, true, false, cond, List, [], ◌∷◌, ◌++◌, length, take, Some, refl, sym, ap, ◌∙◌, arith, string_bytes}
 use Rattle.std.specs.List.{slice_get}
 use Rattle.std.proofs.lemmas.List.{length-append, append_assoc, append-nil}
 use Rattle.std.proofs.lemmas.Grind.{take_at_read}
@@ -28,7 +28,7 @@ count_push : (rows : List SecretRow) (row : SecretRow)
 count_push [] row = omega arith
 count_push (r ∷ rs) row = omega (arith, count_push rs row)
 
-pub shown_push : (rows : List SecretRow) (row : SecretRow) (old new : Shown) (line : List ℕ) → IsShown rows old
+shown_push : (rows : List SecretRow) (row : SecretRow) (old new : Shown) (line : List ℕ) → IsShown rows old
     → IsLine row line → new.secrets ≡ old.secrets + 1 → new.versions ≡ old.versions + length row.versions
     → string_bytes new.lines ≡ string_bytes old.lines ++ line → IsShown (rows ++ row ∷ []) new
 shown_push rows row old new line is one secrets versions lines = record {
@@ -36,6 +36,14 @@ shown_push rows row old new line is one secrets versions lines = record {
   versions = versions ∙ rw is.versions (sym (count_push rows row));
   lines = rw lines (lines_push rows row (string_bytes old.lines) line is.lines one);
 }
+
+-- what is shown with one secret more
+pub shown_with : (row : SecretRow) (old new : Shown) (line : List ℕ) → IsLine row line
+    → new.secrets ≡ old.secrets + 1 → new.versions ≡ old.versions + length row.versions
+    → string_bytes new.lines ≡ string_bytes old.lines ++ line → (before : List SecretRow) → IsShown before old
+    → IsShown (before ++ row ∷ []) new
+shown_with row old new line one secrets versions lines before is =
+    shown_push before row old new line is one secrets versions lines
 
 -- ---- the walk
 
@@ -82,7 +90,7 @@ passed_more rows place row moment shown at gone is =
 pub sound_at : (rows : List SecretRow) (place : ℕ) (row : SecretRow) → EachSound rows → slice_get rows place ≡ Some row
     → RowSound row
 sound_at [] place row each at = absurd (cc)
-sound_at (r ∷ rs) 0 row each at = let same : Some r ≡ Some row = at in subst RowSound (cc) each.0
+sound_at (r ∷ rs) zero row each at = let same : Some r ≡ Some row = at in subst RowSound (cc) each.0
 sound_at (r ∷ rs) (suc place) row each at = sound_at rs place row each.1 at
 
 -- ---- the whole

@@ -30,6 +30,7 @@ fn job_text(alloc: Global, job: &Option<Job>) -> Result<String, NoMemory>
 }
 
 /// That a secret is live, or until which date it is kept.
+#[tactic(auto, using(crate::proofs::LineLemmas::until_date))]
 fn state_text(alloc: Global, deletion: Option<Moment>) -> Result<String, NoMemory>
     requires { IsTrue (fits is_date deletion) }
     ensures { IfOk result (λ text. IsState deletion (string_bytes text)) }
@@ -44,6 +45,7 @@ fn state_text(alloc: Global, deletion: Option<Moment>) -> Result<String, NoMemor
 }
 
 /// The line of a secret.
+#[tactic(auto, using(crate::proofs::LineLemmas::line_is))]
 pub fn line(alloc: Global, row: &SecretRow) -> Result<String, NoMemory>
     requires { RowSound row.now }
     ensures { IfOk result (λ line. IsLine row.now (string_bytes line)) }

@@ -1,5 +1,5 @@
 //! The summary of an account.
-ghost use Rattle.std.specs.Prelude.{◌≡◌, ◌≤◌, ◌*◌, ◌++◌, ◌∷◌, [], List, ℕ, IfOk, OnOk, length, slice_get, Some, string_bytes};
+ghost use Rattle.std.specs.Prelude.{◌≡◌, ◌≤◌, ◌<◌, ◌*◌, ◌++◌, ◌∷◌, [], List, ℕ, IfOk, OnOk, length, slice_get, Some, string_bytes};
 ghost use Rattle.sm_model.specs.declared.limits.TheConstants.{SECRETS_LIMIT, VERSIONS_LIMIT};
 ghost use Rattle.sm_model.specs.declared.rows.SecretRow.{SecretRow as rows};
 ghost use Rattle.sm_summary.specs.Summary.{IsShown, IsSummary, totals};
@@ -53,6 +53,7 @@ fn with_totals(alloc: Global, shown: &Shown, entries: u64) -> Result<String, NoM
 }
 
 /// What is shown of the secrets that are still there at the moment.
+#[tactic(auto, using(crate::proofs::WalkLemmas::shown_more, crate::proofs::WalkLemmas::passed_more))]
 fn show_rows(alloc: Global, table: &Table, moment: Moment) -> Result<Shown, NoMemory>
     requires { Sound table.now }
     ensures { IfOk result (IsShown (swept table.now.secrets moment)) }
@@ -72,6 +73,7 @@ fn show_rows(alloc: Global, table: &Table, moment: Moment) -> Result<Shown, NoMe
 }
 
 /// The row at a place.
+#[tactic(auto, using(crate::proofs::WalkLemmas::sound_at))]
 fn row_at(table: &Table, place: usize) -> &SecretRow
     requires within { place < length table.now.secrets }
     requires sound { Sound table.now }
@@ -95,6 +97,7 @@ fn is_gone(row: &SecretRow, moment: Moment) -> bool
 }
 
 /// Shows one secret more.
+#[tactic(auto, using(crate::proofs::WalkLemmas::shown_with))]
 fn show_row(alloc: Global, shown: &mut Shown, row: &SecretRow) -> Result<(), NoMemory>
     requires sound { RowSound row.now }
     requires secrets { shown.old.secrets ≤ SECRETS_LIMIT }
