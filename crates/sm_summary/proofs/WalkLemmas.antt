@@ -1,7 +1,7 @@
 -- A walk over secrets that shows those that are still there.
 use Rattle.std.proofs.Common.{◌≡◌, ℕ, zero, suc, subst, ◌+◌, ◌*◌, ◌≤◌, ◌<◌, Bool, true, false, cond, List, [], ◌∷◌, ◌++◌, length, take, Some, refl, sym, ap, ◌∙◌, arith, string_bytes}
 use Rattle.std.specs.List.{slice_get}
-use Rattle.std.proofs.lemmas.List.{length-append, append_assoc, append-nil}
+use Rattle.std.proofs.lemmas.List.{length-append, append_assoc, append-nil, take_all}
 use Rattle.std.proofs.lemmas.Grind.{take_at_read}
 use Rattle.std.proofs.lemmas.Option.{slice_get_within, get_or_from_slice_get}
 use Rattle.sm_base.specs.declared.moment.Moment.{Moment}
@@ -12,7 +12,7 @@ use Rattle.sm_table.specs.Sound.{EachSound}
 use Rattle.sm_table.specs.Sweep.{is_gone, swept}
 use Rattle.sm_summary.specs.declared.walk.Shown.{Shown}
 use Rattle.sm_summary.specs.Lines.{IsLine, AreLines}
-use Rattle.sm_summary.specs.Summary.{version_count, IsShown, IsSummaryOf, totals}
+use Rattle.sm_summary.specs.Summary.{version_count, IsShown, IsSummaryOf, totals, with_row}
 use Rattle.sm_summary.proofs.LineLemmas.{same_lines}
 
 -- ---- one secret more
@@ -73,17 +73,17 @@ next_taken rows place row at =
     (take_at_read rows place row (slice_get_within rows place row at)).1
     ∙ ap (λ r. take place rows ++ r ∷ []) (get_or_from_slice_get rows place row row at)
 
-pub shown_more : (rows : List SecretRow) (place : ℕ) (row : SecretRow) (moment : Moment) (shown : Shown)
-    → slice_get rows place ≡ Some row → is_gone row moment ≡ false
-    → IsShown (swept (take place rows) moment ++ row ∷ []) shown → IsShown (swept (take (place + 1) rows) moment) shown
-shown_more rows place row moment shown at there is =
-    rw (next_taken rows place row at) (rw (swept_push (take place rows) row moment) (rw there is))
+-- the next secret of the walk
+pub shown_next : (rows : List SecretRow) (place : ℕ) (row : SecretRow) (moment : Moment) (shown : Shown)
+    → slice_get rows place ≡ Some row → IsShown (with_row (swept (take place rows) moment) row moment) shown
+    → IsShown (swept (take (place + 1) rows) moment) shown
+shown_next rows place row moment shown at is =
+    rw (next_taken rows place row at) (rw (swept_push (take place rows) row moment) is)
 
-pub passed_more : (rows : List SecretRow) (place : ℕ) (row : SecretRow) (moment : Moment) (shown : Shown)
-    → slice_get rows place ≡ Some row → is_gone row moment ≡ true
-    → IsShown (swept (take place rows) moment) shown → IsShown (swept (take (place + 1) rows) moment) shown
-passed_more rows place row moment shown at gone is =
-    rw (next_taken rows place row at) (rw (swept_push (take place rows) row moment) (rw gone is))
+-- the end of the walk
+pub shown_all : (rows : List SecretRow) (place : ℕ) (moment : Moment) (shown : Shown) → length rows ≤ place
+    → IsShown (swept (take place rows) moment) shown → IsShown (swept rows moment) shown
+shown_all rows place moment shown end is = subst (λ taken. IsShown (swept taken moment) shown) (take_all place rows end) is
 
 -- ---- what holds of each secret
 

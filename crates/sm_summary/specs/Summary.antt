@@ -1,10 +1,10 @@
 -- The summary of an account: how many secrets, versions and entries it has, and then a line for each secret, in order
 -- of creation. Secrets whose deletion date is reached are left out.
-use Rattle.std.specs.Prelude.{◌≡◌, ℕ, ◌+◌, List, [], ◌∷◌, ◌++◌, length, codes, decimal, string_bytes}
+use Rattle.std.specs.Prelude.{◌≡◌, ℕ, ◌+◌, if◌then◌else◌, List, [], ◌∷◌, ◌++◌, length, codes, decimal, string_bytes}
 use Rattle.sm_base.specs.declared.moment.Moment.{Moment}
 use Rattle.sm_model.specs.declared.rows.Rows.{Rows}
 use Rattle.sm_model.specs.declared.rows.SecretRow.{SecretRow}
-use Rattle.sm_table.specs.Sweep.{swept}
+use Rattle.sm_table.specs.Sweep.{is_gone, swept}
 use Rattle.sm_summary.specs.declared.walk.Shown.{Shown}
 use Rattle.sm_summary.specs.Lines.{AreLines}
 
@@ -27,6 +27,10 @@ IsSummaryOf rows entries text = (lines : List ℕ) × AreLines rows lines
 -- the summary of the secrets that are still there at the moment
 abbrev pub IsSummary : Rows → Moment → ℕ → List ℕ → Type 0
 IsSummary rows moment entries text = IsSummaryOf (swept rows.secrets moment) entries text
+
+-- these secrets, and one more where it is still there at the moment
+abbrev pub with_row : List SecretRow → SecretRow → Moment → List SecretRow
+with_row rows row moment = if is_gone row moment then rows else rows ++ row ∷ []
 
 -- what was shown of some secrets
 pub record IsShown (rows : List SecretRow) (shown : Shown) : Type 0 where

@@ -1,8 +1,8 @@
 //! The summary of an account.
-ghost use Rattle.std.specs.Prelude.{◌≡◌, ◌≤◌, ◌<◌, ◌*◌, ◌++◌, ◌∷◌, [], List, ℕ, IfOk, OnOk, length, slice_get, Some, string_bytes};
+ghost use Rattle.std.specs.Prelude.{◌≡◌, ◌≤◌, ◌<◌, ◌+◌, ◌*◌, ◌++◌, ◌∷◌, [], List, ℕ, IfOk, OnOk, length, slice_get, Some, string_bytes};
 ghost use Rattle.sm_model.specs.declared.limits.TheConstants.{SECRETS_LIMIT, VERSIONS_LIMIT};
 ghost use Rattle.sm_model.specs.declared.rows.SecretRow.{SecretRow as rows};
-ghost use Rattle.sm_summary.specs.Summary.{IsShown, IsSummary, totals};
+ghost use Rattle.sm_summary.specs.Summary.{IsShown, IsSummary, totals, with_row};
 ghost use Rattle.sm_table.specs.Sound.{Sound};
 ghost use Rattle.sm_table.specs.Sweep.{is_gone, swept};
 ghost use Rattle.sm_versions.specs.Sound.{RowSound};
@@ -22,12 +22,7 @@ pub struct Shown {
 
 /// The summary of the secrets that are still there at a moment, and of so many entries: a line with how much there is,
 /// and then a line for each secret in order of creation.
-pub fn summary(
-    alloc: Global,
-    table: &Table,
-    moment: Moment,
-    entries: u64,
-) -> Result<Text, NoMemory>
+pub fn summary(alloc: Global, table: &Table, moment: Moment, entries: u64) -> Result<Text, NoMemory>
     requires { Sound table.now }
     ensures summary { IfOk result (IsSummary table.now moment entries) }
 
@@ -46,14 +41,11 @@ fn with_totals(alloc: Global, shown: &Shown, entries: u64) -> Result<String, NoM
 {
     Ok(format!(in alloc;
         "secrets {} versions {} entries {entries}\n{}",
-        shown.secrets,
-        shown.versions,
-        shown.lines
+        shown.secrets, shown.versions, shown.lines
     )?)
 }
 
 /// What is shown of the secrets that are still there at the moment.
-#[tactic(auto, using(crate::proofs::WalkLemmas::shown_more, crate::proofs::WalkLemmas::passed_more))]
 fn show_rows(alloc: Global, table: &Table, moment: Moment) -> Result<Shown, NoMemory>
     requires { Sound table.now }
     ensures { IfOk result (IsShown (swept table.now.secrets moment)) }
@@ -64,10 +56,7 @@ fn show_rows(alloc: Global, table: &Table, moment: Moment) -> Result<Shown, NoMe
         lines: String::new(alloc),
     };
     for place in 0..table.count() {
-        let row = row_at(table, place);
-        if !is_gone(row, moment) {
-            show_row(alloc, &mut shown, row)?;
-        }
+        show_if_there(alloc, &mut shown, row_at(table, place), moment)?;
     }
     Ok(shown)
 }
@@ -96,13 +85,37 @@ fn is_gone(row: &SecretRow, moment: Moment) -> bool
     }
 }
 
+/// Shows one secret more, where it is still there at the moment.
+fn show_if_there(
+    alloc: Global,
+    shown: &mut Shown,
+    row: &SecretRow,
+    moment: Moment,
+) -> Result<(), NoMemory>
+    requires sound { RowSound row.now }
+    requires secrets { shown.old.secrets ≤ SECRETS_LIMIT }
+    requires versions { shown.old.versions ≤ VERSIONS_LIMIT * SECRETS_LIMIT }
+    ensures shown { OnOk result ((before : List rows) → IsShown before shown.old
+        → IsShown (with_row before row.now moment) shown.new) }
+    ensures secrets { OnOk result (shown.new.secrets ≤ shown.old.secrets + 1) }
+    ensures versions { OnOk result (shown.new.versions ≤ shown.old.versions + VERSIONS_LIMIT) }
+{
+    if is_gone(row, moment) {
+        return Ok(());
+    }
+    show_row(alloc, shown, row)
+}
+
 /// Shows one secret more.
 #[tactic(auto, using(crate::proofs::WalkLemmas::shown_with))]
 fn show_row(alloc: Global, shown: &mut Shown, row: &SecretRow) -> Result<(), NoMemory>
     requires sound { RowSound row.now }
     requires secrets { shown.old.secrets ≤ SECRETS_LIMIT }
     requires versions { shown.old.versions ≤ VERSIONS_LIMIT * SECRETS_LIMIT }
-    ensures { OnOk result ((before : List rows) → IsShown before shown.old → IsShown (before ++ row.now ∷ []) shown.new) }
+    ensures shown { OnOk result ((before : List rows) → IsShown before shown.old
+        → IsShown (before ++ row.now ∷ []) shown.new) }
+    ensures secrets { OnOk result (shown.new.secrets ≡ shown.old.secrets + 1) }
+    ensures versions { OnOk result (shown.new.versions ≤ shown.old.versions + VERSIONS_LIMIT) }
 {
     let line = line(alloc, row)?;
     shown.lines.push_str(line.as_str())?;
