@@ -21,9 +21,16 @@ enum Kept {
 /// UTF-8 text, which contracts see as the list of its bytes. A text that the program itself has, such as the
 /// name of a member, takes no memory. Copies of a copy share its bytes, so that only the first copy of a text is one of
 /// its bytes.
-#[derive(Drop)]
 pub struct Text {
     kept: Kept,
+}
+
+/// Where a text lies is looked at here alone: who lets a text go makes one call.
+impl Drop for Text {
+    fn drop(self) {
+        let Text { kept } = self;
+        drop(kept);
+    }
 }
 
 impl Model for Text {
@@ -77,7 +84,8 @@ impl Text {
     pub fn into_string(self, alloc: Global) -> Result<String, NoMemory>
         ensures { IfOk result (λ s. string_bytes s ≡ self) }
     {
-        match self.kept {
+        let Text { kept } = self;
+        match kept {
             Kept::Owned(string) => Ok(string),
             Kept::Fixed(text) => Ok(String::from_str(alloc, text)?),
             Kept::Shared(text) => Ok(String::from_str(alloc, text.as_str())?),
