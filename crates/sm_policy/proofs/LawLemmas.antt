@@ -172,10 +172,10 @@ allow_is_undenied policy question h =
 
 pub decision_admits : DecisionAdmits
 decision_admits policy question =
-    sym (ap (λ b. not b && (question.person.now.full || list_any (allows question) policy.statements))
+    sym (ap (λ b. not b && (question.person.full || list_any (allows question) policy.statements))
     (number_is (denies question) 0 policy.statements))
     ∙ sym (ap
-    (λ b. not (is_some (first_number (denies question) 0 policy.statements)) && (question.person.now.full || b))
+    (λ b. not (is_some (first_number (denies question) 0 policy.statements)) && (question.person.full || b))
     (number_is (allows question) 0 policy.statements))
     ∙ goes (first_number (denies question) 0 policy.statements) (first_number (allows question) 0 policy.statements)
-    question.person.now.full
+    question.person.full

@@ -5,6 +5,7 @@
 use Rattle.std.specs.Prelude.{ℕ, ◌+◌, ◌-◌, ◌^◌, min, Bool, true, false, not, ◌&&◌, ◌||◌, if◌then◌else◌, List, [], ◌∷◌, ◌++◌, take, drop, codes, nat_eq, chars, Option, Some, None, option_map, is_none}
 use Rattle.std.specs.List.{list_any, list_all}
 use Rattle.std.specs.Cmp.Lexicographic.{pointwise}
+use Rattle.sm_model.specs.declared.person.Person.{Person}
 use Rattle.sm_model.specs.declared.rows.SecretRow.{SecretRow}
 use Rattle.sm_model.specs.declared.value.Tag.{Tag}
 use Rattle.sm_policy.specs.declared.pattern.Case.TheVariants.{Exact, Folded}
@@ -25,6 +26,25 @@ use Rattle.sm_policy.specs.declared.question.Decision.{Decision}
 use Rattle.sm_policy.specs.declared.question.Decision.TheVariants as decisions
 use Rattle.sm_policy.specs.declared.question.Question.{Question}
 use Rattle.sm_policy.specs.Patterns.{letters, wild}
+
+-- what is asked, in plain values: may this person do this with this secret?
+pub record PlainQuestion : Type 0 where
+  pub person : Person
+  pub action : List ℕ
+  pub row : SecretRow
+  pub secret_id : List ℕ
+  pub version_id : Option (List ℕ)
+  pub version_stage : Option (List ℕ)
+
+abbrev pub plain_question : Question → PlainQuestion
+plain_question question = record {
+  person = question.person.now;
+  action = question.action.now;
+  row = question.row.now;
+  secret_id = question.secret_id.now;
+  version_id = option_map (λ t. t.now) question.version_id;
+  version_stage = option_map (λ t. t.now) question.version_stage;
+}
 
 -- both texts have the same bytes
 unfoldable pub same_text : List ℕ → List ℕ → Bool
@@ -62,12 +82,12 @@ tag_value [] key = None
 tag_value (tag ∷ tags) key = if same_text tag.key key then Some tag.value else tag_value tags key
 
 -- the value of a key in a question
-abbrev pub value_of : Key → Question → Option (List ℕ)
-value_of keys.VersionStage question = option_map (λ t. t.now) question.version_stage
-value_of keys.VersionId question = option_map (λ t. t.now) question.version_id
-value_of keys.Name question = Some question.row.now.name
-value_of keys.SecretId question = Some question.secret_id.now
-value_of (keys.ResourceTag key) question = tag_value question.row.now.tags key
+abbrev pub value_of : Key → PlainQuestion → Option (List ℕ)
+value_of keys.VersionStage question = question.version_stage
+value_of keys.VersionId question = question.version_id
+value_of keys.Name question = Some question.row.name
+value_of keys.SecretId question = Some question.secret_id
+value_of (keys.ResourceTag key) question = tag_value question.row.tags key
 
 -- a value that is there equals one of the texts
 abbrev pub equals_one : List (List ℕ) → List ℕ → Bool
@@ -87,22 +107,22 @@ operator_holds StringLike texts None = false
 operator_holds StringLike texts (Some value) = like_one texts value
 
 -- a key's test
-abbrev pub test_holds : Question → Operator → Test → Bool
+abbrev pub test_holds : PlainQuestion → Operator → Test → Bool
 test_holds question operator test = operator_holds operator test.values (value_of test.key question)
 
 -- every key of every operator holds
-abbrev pub block_holds : Question → Block → Bool
+abbrev pub block_holds : PlainQuestion → Block → Bool
 block_holds question block = list_all (test_holds question block.operator) block.tests
 
-abbrev pub condition_holds : Question → Condition → Bool
+abbrev pub condition_holds : PlainQuestion → Condition → Bool
 condition_holds question condition = list_all (block_holds question) condition.0
 
 -- a statement matches by its four parts
-unfoldable pub matches : Question → Statement → Bool
+unfoldable pub matches : PlainQuestion → Statement → Bool
 matches question statement =
-    list_any (is_for question.person.now.arn) statement.principals.0
-    && list_any (is_action question.action.now) statement.actions
-    && list_any (is_like question.row.now.arn) statement.resources
+    list_any (is_for question.person.arn) statement.principals.0
+    && list_any (is_action question.action) statement.actions
+    && list_any (is_like question.row.arn) statement.resources
     && condition_holds question statement.condition
 
 abbrev pub is_deny : Effect → Bool
@@ -110,10 +130,10 @@ is_deny Allow = false
 is_deny Deny = true
 
 -- a statement that denies, or that allows, and matches
-abbrev pub denies : Question → Statement → Bool
+abbrev pub denies : PlainQuestion → Statement → Bool
 denies question statement = is_deny statement.effect && matches question statement
 
-abbrev pub allows : Question → Statement → Bool
+abbrev pub allows : PlainQuestion → Statement → Bool
 allows question statement = not (is_deny statement.effect) && matches question statement
 
 -- the number of the first statement that passes, where those before it are so many
@@ -127,14 +147,14 @@ decided (Some n) allowed = decisions.Deny n
 decided None (Some n) = decisions.Allow n
 decided None None = decisions.Silent
 
-abbrev pub decision : Policy → Question → Decision
+abbrev pub decision : Policy → PlainQuestion → Decision
 decision policy question = decided (first_number (denies question) 0 policy.statements)
     (first_number (allows question) 0 policy.statements)
 
 -- the person may do it: no statement denies it, and the person is full or some statement allows it
-abbrev pub admitted : Policy → Question → Bool
+abbrev pub admitted : Policy → PlainQuestion → Bool
 admitted policy question = not (list_any (denies question) policy.statements)
-    && (question.person.now.full || list_any (allows question) policy.statements)
+    && (question.person.full || list_any (allows question) policy.statements)
 
 -- a statement that allows everybody something, whatever is asked
 abbrev pub is_everybody : Principal → Bool

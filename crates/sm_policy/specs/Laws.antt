@@ -5,8 +5,7 @@ use Rattle.std.specs.List.{list_any}
 use Rattle.sm_policy.specs.declared.policy.Policy.{Policy}
 use Rattle.sm_policy.specs.declared.question.Decision.{Decision}
 use Rattle.sm_policy.specs.declared.question.Decision.TheVariants.{Allow, Deny, Silent}
-use Rattle.sm_policy.specs.declared.question.Question.{Question}
-use Rattle.sm_policy.specs.Decisions.{denies, allows, decision, admitted}
+use Rattle.sm_policy.specs.Decisions.{PlainQuestion, denies, allows, decision, admitted}
 use Rattle.sm_policy.specs.Patterns.{Wild, wild}
 
 -- the test is the relation
@@ -35,15 +34,15 @@ may_go Silent full = full
 
 -- a denial is answered exactly where some statement that denies matches
 abbrev pub DenyWins : Type 0
-DenyWins = (policy : Policy) (question : Question)
+DenyWins = (policy : Policy) (question : PlainQuestion)
     → is_denial (decision policy question) ≡ list_any (denies question) policy.statements
 
 -- an allowance is answered only where no statement denies, and some allows
 abbrev pub AllowIsUndenied : Type 0
-AllowIsUndenied = (policy : Policy) (question : Question) → is_allowance (decision policy question) ≡ true
+AllowIsUndenied = (policy : Policy) (question : PlainQuestion) → is_allowance (decision policy question) ≡ true
     → (list_any (denies question) policy.statements ≡ false) × (list_any (allows question) policy.statements ≡ true)
 
 -- a person may do what the decision comes to
 abbrev pub DecisionAdmits : Type 0
-DecisionAdmits = (policy : Policy) (question : Question)
-    → admitted policy question ≡ may_go (decision policy question) question.person.now.full
+DecisionAdmits = (policy : Policy) (question : PlainQuestion)
+    → admitted policy question ≡ may_go (decision policy question) question.person.full

@@ -1,7 +1,7 @@
 //! Whether a policy allows what is asked (IAM User Guide, "Policy evaluation logic").
 ghost use Rattle.std.specs.Prelude.{◌≡◌, ◌++◌, option_map};
 ghost use Rattle.std.specs.List.{list_any};
-ghost use Rattle.sm_policy.specs.Decisions.{same_text, counted, account_in, root_of, is_for, is_like, is_action, tag_value, value_of, equals_one, like_one, test_holds, block_holds, condition_holds, matches, denies, allows, first_number, decision, is_everybody, is_open, public_number};
+ghost use Rattle.sm_policy.specs.Decisions.{plain_question, same_text, counted, account_in, root_of, is_for, is_like, is_action, tag_value, value_of, equals_one, like_one, test_holds, block_holds, condition_holds, matches, denies, allows, first_number, decision, is_everybody, is_open, public_number};
 
 use crate::pattern::{Case, is_match};
 use crate::policy::{
@@ -121,7 +121,7 @@ fn tag_value<'a>(tags: &'a [Tag], key: &[u8]) -> Option<&'a [u8]>
 
 /// The value of a key in a question.
 fn value_of<'a>(key: &Key, question: &Question<'a>) -> Option<&'a [u8]>
-    ensures { option_map (λ t. t.now) result ≡ value_of key.now question.now }
+    ensures { option_map (λ t. t.now) result ≡ value_of key.now (plain_question question.now) }
 {
     match key {
         Key::VersionStage => question.version_stage,
@@ -148,7 +148,7 @@ fn like_one(texts: &[Text], value: &[u8]) -> bool
 
 /// Whether a key's test holds. StringNotEquals holds also where there is no value.
 fn test_holds(question: &Question<'_>, operator: Operator, test: &Test) -> bool
-    ensures { result ≡ test_holds question.now operator test.now }
+    ensures { result ≡ test_holds (plain_question question.now) operator test.now }
 {
     let texts = test.values.as_slice();
     match value_of(&test.key, question) {
@@ -162,7 +162,7 @@ fn test_holds(question: &Question<'_>, operator: Operator, test: &Test) -> bool
 }
 
 fn block_holds(question: &Question<'_>, block: &Block) -> bool
-    ensures { result ≡ block_holds question.now block.now }
+    ensures { result ≡ block_holds (plain_question question.now) block.now }
 {
     let operator = block.operator;
     block
@@ -173,7 +173,7 @@ fn block_holds(question: &Question<'_>, block: &Block) -> bool
 }
 
 fn condition_holds(question: &Question<'_>, condition: &Condition) -> bool
-    ensures { result ≡ condition_holds question.now condition.now }
+    ensures { result ≡ condition_holds (plain_question question.now) condition.now }
 {
     condition
         .0
@@ -207,7 +207,7 @@ fn is_like_one(text: &[u8], patterns: &[Pattern]) -> bool
 /// Whether a statement matches by its principal, its action, its resource and its condition.
 #[tactic(auto, unfolding(crate::specs::Decisions::matches))]
 fn matches(question: &Question<'_>, statement: &Statement) -> bool
-    ensures { result ≡ matches question.now statement.now }
+    ensures { result ≡ matches (plain_question question.now) statement.now }
 {
     is_for_one(question.person.arn.as_bytes(), &statement.principals)
         && is_action_of_one(question.action, statement.actions.as_slice())
@@ -219,13 +219,13 @@ fn matches(question: &Question<'_>, statement: &Statement) -> bool
 }
 
 fn denies(question: &Question<'_>, statement: &Statement) -> bool
-    ensures { result ≡ denies question.now statement.now }
+    ensures { result ≡ denies (plain_question question.now) statement.now }
 {
     statement.effect == Effect::Deny && matches(question, statement)
 }
 
 fn allows(question: &Question<'_>, statement: &Statement) -> bool
-    ensures { result ≡ allows question.now statement.now }
+    ensures { result ≡ allows (plain_question question.now) statement.now }
 {
     statement.effect == Effect::Allow && matches(question, statement)
 }
@@ -253,7 +253,7 @@ fn has_everybody(principals: &Principals) -> bool
 /// The number of the first statement that denies the question.
 #[tactic(auto, using(crate::proofs::DecisionLemmas::number_here, crate::proofs::DecisionLemmas::number_later, crate::proofs::DecisionLemmas::number_none))]
 fn first_denial(question: &Question<'_>, statements: &[Statement]) -> Option<u32>
-    ensures { result ≡ first_number (denies question.now) 0 statements.now }
+    ensures { result ≡ first_number (denies (plain_question question.now)) 0 statements.now }
 {
     for (place, statement) in statements.iter().enumerate() {
         if denies(question, statement) {
@@ -266,7 +266,7 @@ fn first_denial(question: &Question<'_>, statements: &[Statement]) -> Option<u32
 /// The number of the first statement that allows the question.
 #[tactic(auto, using(crate::proofs::DecisionLemmas::number_here, crate::proofs::DecisionLemmas::number_later, crate::proofs::DecisionLemmas::number_none))]
 fn first_allowance(question: &Question<'_>, statements: &[Statement]) -> Option<u32>
-    ensures { result ≡ first_number (allows question.now) 0 statements.now }
+    ensures { result ≡ first_number (allows (plain_question question.now)) 0 statements.now }
 {
     for (place, statement) in statements.iter().enumerate() {
         if allows(question, statement) {
@@ -279,7 +279,7 @@ fn first_allowance(question: &Question<'_>, statements: &[Statement]) -> Option<
 impl Policy {
     /// What the policy says: the first statement that denies, or else the first that allows. It takes no memory.
     pub fn decide(&self, question: &Question<'_>) -> Decision
-        ensures { result ≡ decision self.now question.now }
+        ensures { result ≡ decision self.now (plain_question question.now) }
     {
         let statements = self.statements.as_slice();
         match first_denial(question, statements) {

@@ -1,0 +1,86 @@
+-- What a request asks of the policy of the secret that it names.
+-- Service Authorization Reference, "Actions, resources, and condition keys for AWS Secrets Manager"; AWS Secrets
+-- Manager API Reference, GetSecretValue (VersionId, VersionStage) and BatchGetSecretValue.
+use Rattle.std.specs.Prelude.{ℕ, Bool, false, is_some, List, codes, Option, Some, None, option_map}
+use Rattle.sm_model.specs.declared.request.GetSecretValue.{GetSecretValue}
+use Rattle.sm_model.specs.declared.request.Request.{Request}
+use Rattle.sm_model.specs.declared.request.Request.TheVariants as requests
+use Rattle.sm_model.specs.declared.request.UpdateSecretVersionStage.{UpdateSecretVersionStage}
+use Rattle.sm_model.specs.declared.request.ValidateResourcePolicy.{ValidateResourcePolicy}
+use Rattle.sm_versions.specs.Texts.{aws_current}
+use Rattle.sm_access.specs.declared.wishes.Wish.{Wish}
+
+-- an action on a secret, and which version and label of it the request names
+pub record PlainWish : Type 0 where
+  pub action : List ℕ
+  pub secret_id : List ℕ
+  pub version_id : Option (List ℕ)
+  pub version_stage : Option (List ℕ)
+
+abbrev pub plain_wish : Wish → PlainWish
+plain_wish wish = record {
+  action = wish.action.now;
+  secret_id = wish.secret_id.now;
+  version_id = option_map (λ t. t.now) wish.version_id;
+  version_stage = option_map (λ t. t.now) wish.version_stage;
+}
+
+-- an action on a secret, of which no version and no label is named
+abbrev pub wish_on : List ℕ → List ℕ → PlainWish
+wish_on action id = record { action = action; secret_id = id; version_id = None; version_stage = None }
+
+-- a GetSecretValue that names neither a version nor a label asks for AWSCURRENT
+abbrev pub label_asked : Option (List ℕ) → Option (List ℕ) → Option (List ℕ)
+label_asked version (Some label) = Some label
+label_asked (Some id) None = None
+label_asked None None = Some aws_current
+
+abbrev pub get_wish : GetSecretValue → PlainWish
+get_wish get = record {
+  action = codes "secretsmanager:GetSecretValue";
+  secret_id = get.secret_id;
+  version_id = get.version_id;
+  version_stage = label_asked get.version_id get.version_stage;
+}
+
+-- an UpdateSecretVersionStage names its label
+abbrev pub move_wish : UpdateSecretVersionStage → PlainWish
+move_wish update = record {
+  action = codes "secretsmanager:UpdateSecretVersionStage";
+  secret_id = update.secret_id;
+  version_id = None;
+  version_stage = Some update.version_stage;
+}
+
+-- a ValidateResourcePolicy may name a secret
+abbrev pub validation_wish : ValidateResourcePolicy → Option PlainWish
+validation_wish validate = option_map (wish_on (codes "secretsmanager:ValidateResourcePolicy")) validate.secret_id
+
+-- what a request asks, where it names a secret
+abbrev pub wish_of : Request → Option PlainWish
+wish_of (requests.BatchGetSecretValue batch) = None
+wish_of (requests.CancelRotateSecret cancel) = Some (wish_on (codes "secretsmanager:CancelRotateSecret") cancel.secret_id)
+wish_of (requests.CreateSecret create) = None
+wish_of (requests.DeleteResourcePolicy delete) =
+    Some (wish_on (codes "secretsmanager:DeleteResourcePolicy") delete.secret_id)
+wish_of (requests.DeleteSecret delete) = Some (wish_on (codes "secretsmanager:DeleteSecret") delete.secret_id)
+wish_of (requests.DescribeSecret describe) = Some (wish_on (codes "secretsmanager:DescribeSecret") describe.secret_id)
+wish_of (requests.GetRandomPassword get) = None
+wish_of (requests.GetResourcePolicy get) = Some (wish_on (codes "secretsmanager:GetResourcePolicy") get.secret_id)
+wish_of (requests.GetSecretValue get) = Some (get_wish get)
+wish_of (requests.ListSecretVersionIds list) = Some (wish_on (codes "secretsmanager:ListSecretVersionIds") list.secret_id)
+wish_of (requests.ListSecrets list) = None
+wish_of (requests.PutResourcePolicy put) = Some (wish_on (codes "secretsmanager:PutResourcePolicy") put.secret_id)
+wish_of (requests.PutSecretValue put) = Some (wish_on (codes "secretsmanager:PutSecretValue") put.secret_id)
+wish_of (requests.RestoreSecret restore) = Some (wish_on (codes "secretsmanager:RestoreSecret") restore.secret_id)
+wish_of (requests.RotateSecret rotate) = Some (wish_on (codes "secretsmanager:RotateSecret") rotate.secret_id)
+wish_of (requests.TagResource tag) = Some (wish_on (codes "secretsmanager:TagResource") tag.secret_id)
+wish_of (requests.UntagResource untag) = Some (wish_on (codes "secretsmanager:UntagResource") untag.secret_id)
+wish_of (requests.UpdateSecret update) = Some (wish_on (codes "secretsmanager:UpdateSecret") update.secret_id)
+wish_of (requests.UpdateSecretVersionStage update) = Some (move_wish update)
+wish_of (requests.ValidateResourcePolicy validate) = validation_wish validate
+
+-- a batch by SecretIds asks nothing for itself: each of its secrets is asked for alone
+abbrev pub asks_nothing : Request → Bool
+asks_nothing (requests.BatchGetSecretValue batch) = is_some batch.secret_id_list
+asks_nothing _ = false

@@ -1,0 +1,151 @@
+//! Whether a person may make a request (AWS Secrets Manager User Guide, "Resource-based policies"; IAM User Guide,
+//! "Policy evaluation logic").
+ghost use Rattle.std.specs.Prelude.{◌≡◌, IfOk, Some, option_copied};
+ghost use Rattle.sm_base.specs.Outcomes.{OrMemory};
+ghost use Rattle.sm_policy.specs.Decisions.{plain_question};
+ghost use Rattle.sm_policy.specs.Documents.{policy_of};
+ghost use Rattle.sm_access.specs.Admission.{admitted_told, by_person, by_decision, by_reading, by_policy, question_of, on_row, secret_named, admission_of_wish, admission};
+ghost use Rattle.sm_access.specs.Wishes.{plain_wish, get_wish};
+
+use crate::wishes::{Wish, asks_nothing, get_wish, wish_of};
+use sm_model::{
+    GetSecretValue, Moment, NoMemory, Person, ReadRefused, Request, SecretId, SecretRow, Text,
+};
+use sm_policy::{Decision, Policy, PolicyRefused, Question};
+use sm_table::Table;
+use std::alloc::Global;
+
+/// Whether a person may make a request.
+#[derive(Drop)]
+pub enum Admitted {
+    Ok,
+    /// This statement of the secret's policy denies it, counted from 1, or none allows it.
+    Denied(Option<u32>),
+    Memory,
+}
+
+/// Whether the person may make the request at the moment, by the policy of the secret that it names.
+pub fn admit(
+    alloc: Global,
+    table: &Table,
+    person: &Person,
+    moment: Moment,
+    request: &Request,
+) -> Admitted
+    ensures { OrMemory (admitted_told result) (admission table.now person.now moment request.now) }
+{
+    if asks_nothing(request) {
+        return Admitted::Ok;
+    }
+    match wish_of(request) {
+        Some(wish) => admit_wish(alloc, table, person, moment, &wish),
+        None => by_person(person),
+    }
+}
+
+/// The same of a GetSecretValue.
+pub fn admit_get(
+    alloc: Global,
+    table: &Table,
+    person: &Person,
+    moment: Moment,
+    get: &GetSecretValue,
+) -> Admitted
+    ensures { OrMemory (admitted_told result)
+        (admission table.now person.now moment (Request.GetSecretValue get.now)) }
+{
+    admit_wish(alloc, table, person, moment, &get_wish(get))
+}
+
+/// Whether the person may do what is asked of the secret that is named. One that is not there has no statements.
+fn admit_wish(
+    alloc: Global,
+    table: &Table,
+    person: &Person,
+    moment: Moment,
+    wish: &Wish<'_>,
+) -> Admitted
+    ensures { OrMemory (admitted_told result)
+        (admission_of_wish table.now person.now moment (plain_wish wish.now)) }
+{
+    match secret_named(alloc, table, moment, wish.secret_id) {
+        Ok(Some(row)) => on_row(alloc, person, row, wish),
+        Ok(None) => by_person(person),
+        Err(NoMemory) => Admitted::Memory,
+    }
+}
+
+/// The row of the secret that a text names. One that is no SecretId names none.
+fn secret_named<'a>(
+    alloc: Global,
+    table: &'a Table,
+    moment: Moment,
+    text: &Text,
+) -> Result<Option<&'a SecretRow>, NoMemory>
+    ensures { IfOk result (λ row. option_copied row ≡ secret_named table.now moment text.now) }
+{
+    match SecretId::read(alloc, text.as_bytes()) {
+        Ok(id) => Ok(table.find(&id, moment)),
+        Err(ReadRefused::Spelling(_)) => Ok(None),
+        Err(ReadRefused::Memory) => Err(NoMemory),
+    }
+}
+
+/// Whether the person may do what is asked of the secret of this row.
+fn on_row<'a>(alloc: Global, person: &'a Person, row: &'a SecretRow, wish: &'a Wish<'a>) -> Admitted
+    ensures { OrMemory (admitted_told result)
+        (by_policy row.now.policy (question_of person.now row.now (plain_wish wish.now))) }
+{
+    let question = Question {
+        person,
+        action: wish.action.as_bytes(),
+        row,
+        secret_id: wish.secret_id.as_bytes(),
+        version_id: wish.version_id,
+        version_stage: wish.version_stage,
+    };
+    by_policy(alloc, &row.policy, &question)
+}
+
+/// What a policy says. A secret without one has no statements.
+fn by_policy(alloc: Global, policy: &Option<Text>, question: &Question<'_>) -> Admitted
+    ensures { OrMemory (admitted_told result) (by_policy policy.now (plain_question question.now)) }
+{
+    match policy {
+        Some(text) => by_text(alloc, text, question),
+        None => by_person(question.person),
+    }
+}
+
+/// What the text of a policy says. One that is no policy, which no secret keeps, would allow nobody anything.
+fn by_text(alloc: Global, text: &Text, question: &Question<'_>) -> Admitted
+    ensures { OrMemory (admitted_told result) (by_reading (policy_of text.now) (plain_question question.now)) }
+{
+    match Policy::read(alloc, text.as_bytes()) {
+        Ok(policy) => by_decision(policy.decide(question), question.person),
+        Err(PolicyRefused::Malformed(_, _)) => Admitted::Denied(None),
+        Err(PolicyRefused::Memory) => Admitted::Memory,
+    }
+}
+
+/// What a decision comes to for a person.
+fn by_decision(decision: Decision, person: &Person) -> Admitted
+    ensures { admitted_told result ≡ Some (by_decision decision person.now) }
+{
+    match decision {
+        Decision::Allow(_) => Admitted::Ok,
+        Decision::Deny(statement) => Admitted::Denied(Some(statement)),
+        Decision::Silent => by_person(person),
+    }
+}
+
+/// Where no statement says anything a person who is full may do all, and a guest nothing.
+fn by_person(person: &Person) -> Admitted
+    ensures { admitted_told result ≡ Some (by_person person.now) }
+{
+    if person.full {
+        Admitted::Ok
+    } else {
+        Admitted::Denied(None)
+    }
+}

@@ -1,0 +1,9 @@
+//! Whether a person may make a request: what the request asks of the policy of the secret that it names, and what the
+//! policy says to it.
+#![tactic(auto)]
+
+pub mod admission;
+pub mod laws;
+pub mod wishes;
+
+pub use admission::{Admitted, admit, admit_get};

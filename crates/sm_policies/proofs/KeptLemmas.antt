@@ -1,0 +1,63 @@
+-- A secret with another policy, or without one: it stays sound where the policy may be a secret's.
+use Rattle.std.proofs.Common.{◌≡◌, ℕ, List, Option, Some, IsTrue, refl}
+use Rattle.std.proofs.lemmas.Option.{IfSome_then}
+use Rattle.sm_base.specs.declared.moment.Moment.{Moment}
+use Rattle.sm_base.specs.declared.secret_id.SecretId.{SecretId}
+use Rattle.sm_model.specs.declared.entry.Change.TheVariants as changes
+use Rattle.sm_model.specs.declared.rows.Job.{Job}
+use Rattle.sm_model.specs.declared.rows.Rows.{Rows}
+use Rattle.sm_model.specs.declared.rows.SecretRow.{SecretRow}
+use Rattle.sm_model.specs.Bounds.{fits, is_date}
+use Rattle.sm_policy.specs.Documents.{is_resource_policy}
+use Rattle.sm_versions.specs.Kept.{JobFits}
+use Rattle.sm_versions.specs.Sound.{UnsettledSound}
+use Rattle.sm_table.specs.Found.{found}
+use Rattle.sm_table.specs.Sound.{Sound}
+use Rattle.sm_judging.specs.Secrets.{finished_row}
+use Rattle.sm_judging.proofs.ChangeLemmas.{OnRow, found_row_sound, found_change}
+use Rattle.sm_policies.specs.Kept.{with_policy}
+
+with_policy_job : (policy : Option (List ℕ)) (row : SecretRow) (job : Job) → JobFits row job
+    → JobFits (with_policy policy row) job
+with_policy_job policy row job h = record { first = h.first; last = h.last; tested = h.tested; valued = h.valued }
+
+with_policy_sound : (policy : Option (List ℕ)) (row : SecretRow) → IsTrue (fits is_resource_policy policy)
+    → UnsettledSound row → UnsettledSound (with_policy policy row)
+with_policy_sound policy row is sound =
+    let v = sound.kept.versions in
+    let f = sound.fits in
+    record {
+      kept = record {
+        versions = record { once = v.once; named = v.named; ids = v.ids; serials = v.serials; current = v.current };
+        job = IfSome_then row.job sound.kept.job (λ job. with_policy_job policy row job);
+      };
+      fits = record {
+        arn = f.arn;
+        description = f.description;
+        kms = f.kms;
+        tag_count = f.tag_count;
+        tags = f.tags;
+        tag_once = f.tag_once;
+        policy = is;
+        version_count = f.version_count;
+        versions = f.versions;
+        labels = f.labels;
+        created = f.created;
+        changed = f.changed;
+        deletion = f.deletion;
+        rotation = f.rotation;
+        job = f.job;
+      };
+    }
+
+-- the row that was found, with this policy in place of its own
+pub keeps_policy : (rows : Rows) (moment : Moment) (id : SecretId) (policy : Option (List ℕ)) (row : SecretRow)
+    → Sound rows → IsTrue (is_date moment) → IsTrue (fits is_resource_policy policy) → found rows moment id ≡ Some row
+    → OnRow rows moment id (with_policy policy) (changes.Replace (finished_row (with_policy policy row) moment))
+keeps_policy rows moment id policy row sound date is e =
+    found_change rows moment id (with_policy policy) row sound date e (record {
+      serial = refl;
+      name = refl;
+      arn = refl;
+      sound = with_policy_sound policy row is (found_row_sound rows moment id row sound e);
+    })

@@ -1,0 +1,5 @@
+pub mod KeptLemmas
+pub mod GetResourcePolicyLemmas
+pub mod PutResourcePolicyLemmas
+pub mod DeleteResourcePolicyLemmas
+pub mod ValidateResourcePolicyLemmas

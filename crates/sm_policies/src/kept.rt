@@ -1,0 +1,32 @@
+//! The policy that a secret keeps, and the reply that names the secret.
+ghost use Rattle.std.specs.Prelude.{◌≡◌, IfOk};
+ghost use Rattle.sm_judging.specs.Secrets.{finished_row};
+ghost use Rattle.sm_policies.specs.Kept.{named, with_policy};
+
+use sm_base::copy_two;
+use sm_judging::row_change::finish;
+use sm_model::{Copied, Moment, NamedSecret, NoMemory, SecretRow, Text};
+use std::alloc::Global;
+
+/// A copy of the row that keeps this policy, or none.
+pub(crate) fn keep(
+    alloc: Global,
+    row: &SecretRow,
+    moment: Moment,
+    policy: Option<Text>,
+) -> Result<SecretRow, NoMemory>
+    ensures { IfOk result (λ after. after ≡ finished_row (with_policy policy row.now) moment) }
+{
+    let mut after = row.copy(alloc)?;
+    after.policy = policy;
+    finish(&mut after, moment);
+    Ok(after)
+}
+
+/// The reply that names the secret.
+pub(crate) fn named(alloc: Global, row: &SecretRow) -> Result<NamedSecret, NoMemory>
+    ensures { IfOk result (λ reply. reply ≡ named row.now) }
+{
+    let (arn, name) = copy_two(alloc, row.arn.as_text(), row.name.as_text())?;
+    Ok(NamedSecret { arn, name })
+}
