@@ -1,9 +1,11 @@
 -- Judging BatchGetSecretValue: how each secret is answered, that it is not refused, and that it changes nothing.
-use Rattle.std.proofs.Common.{◌≡◌, ℕ, ◌+◌, ◌<◌, Bool, true, false, cond, List, [], ◌∷◌, ◌++◌, length, take, get_or, Option, Some, None, is_none, is_some, refl, sym, ap, subst, ◌∙◌, arith}
+use Rattle.std.proofs.Common.{◌≡◌, ℕ, ◌+◌, ◌<◌, Bool, true, false, cond, List, [], ◌∷◌, ◌++◌, length, take, get_or, Option, Some, None, is_none, is_some, Result, Ok, Err, IfOk, refl, sym, ap, subst, ◌∙◌, arith}
 use Rattle.std.proofs.lemmas.List.{take_more, append_assoc, append-nil}
+use Rattle.sm_base.specs.declared.memory.NoMemory.{NoMemory}
 use Rattle.sm_base.specs.declared.moment.Moment.{Moment}
 use Rattle.sm_model.specs.declared.entry.Change.{Change}
 use Rattle.sm_model.specs.declared.request.BatchGetSecretValue.{BatchGetSecretValue}
+use Rattle.sm_model.specs.declared.request.GetSecretValue.{GetSecretValue}
 use Rattle.sm_model.specs.declared.rows.Rows.{Rows}
 use Rattle.sm_judging.specs.Judged.{refusal_told, IfAccepted, IfChange}
 use Rattle.sm_model.specs.declared.reply.GotSecret.{GotSecret}
@@ -14,12 +16,11 @@ use Rattle.sm_model.specs.declared.why.Why.TheVariants.{NoVersion}
 use Rattle.sm_base.specs.SecretId.{secret_id}
 use Rattle.sm_versions.specs.Find.{Lookup, here, nowhere, apart, lookup}
 use Rattle.sm_table.specs.Found.{found}
-use Rattle.sm_forms.specs.GetSecretValue.{get_forms}
 use Rattle.sm_judging.specs.declared.judged.Judged.{Judged}
 use Rattle.sm_judging.specs.declared.judged.Judged.TheVariants.{Accept, Refuse}
 use Rattle.sm_judging.specs.Secrets.{unless_scheduled, on_secret}
-use Rattle.sm_values.specs.GetSecretValue.{got_secret, get_call, get_found, get_on}
-use Rattle.sm_lists.specs.BatchGetSecretValue.{alone, no_question, unless_refused, answered, IsAnswer, value_in, error_in, values_of, errors_of, batch_judgement, batch_refusal}
+use Rattle.sm_values.specs.GetSecretValue.{got_secret, get_call, get_found, get_on, get_judgement}
+use Rattle.sm_lists.specs.BatchGetSecretValue.{IsAnswer, value_in, error_in, values_of, errors_of, batch_judgement, batch_refusal}
 
 -- ---- a GetSecretValue is answered by a value or refused
 
@@ -43,19 +44,15 @@ on_secret_answer : (found : Option SecretRow) (judge : SecretRow → Judged) →
 on_secret_answer None judge each = tt
 on_secret_answer (Some row) judge each = unscheduled_answer row.deletion (judge row) (each row)
 
-refused_answer : (why : Option Why) (judged : Judged) → IsAnswer judged → IsAnswer (unless_refused why judged)
-refused_answer None judged answer = answer
-refused_answer (Some why) judged answer = tt
+got_answer : (rows : Rows) (moment : Moment) (get : GetSecretValue) → IsAnswer (get_judgement rows moment get)
+got_answer rows moment get =
+    on_secret_answer (found rows moment (secret_id get.secret_id)) (λ row. get_on row (get_call get))
+    (λ row. found_answer row (lookup row get.version_id get.version_stage))
 
-answered_is : (rows : Rows) (moment : Moment) (id : List ℕ) → IsAnswer (answered no_question rows moment id)
-answered_is rows moment id =
-    refused_answer (get_forms (alone id)) _
-    (on_secret_answer (found rows moment (secret_id id)) (λ row. get_on row (get_call (alone id)))
-    (λ row. found_answer row (lookup row None None)))
-
-pub is_answer : (judged : Judged) (rows : Rows) (moment : Moment) (id : List ℕ)
-    → judged ≡ answered no_question rows moment id → IsAnswer judged
-is_answer judged rows moment id same = subst IsAnswer (sym same) (answered_is rows moment id)
+pub get_answer : (result : Result Judged NoMemory) (rows : Rows) (moment : Moment) (get : GetSecretValue)
+    → IfOk result (λ judged. judged ≡ get_judgement rows moment get) → IfOk result IsAnswer
+get_answer (Ok judged) rows moment get same = subst IsAnswer (sym same) (got_answer rows moment get)
+get_answer (Err e) rows moment get same = tt
 
 -- ---- one secret more
 
@@ -97,14 +94,14 @@ errors_more answer ids i id judged under is same =
 
 -- ---- the batch
 
-pub batch_refuses : (rows : Rows) (moment : Moment) (batch : BatchGetSecretValue)
-    → refusal_told (batch_judgement rows moment batch) ≡ Some (batch_refusal rows moment batch)
-batch_refuses rows moment batch = refl
+pub batch_refuses : (question : List ℕ → Option Why) (rows : Rows) (moment : Moment) (batch : BatchGetSecretValue)
+    → refusal_told (batch_judgement question rows moment batch) ≡ Some (batch_refusal rows moment batch)
+batch_refuses question rows moment batch = refl
 
-pub batch_reads : (rows : Rows) (moment : Moment) (batch : BatchGetSecretValue)
-    → IfAccepted (batch_judgement rows moment batch) (λ change. is_none change ≡ true)
-batch_reads rows moment batch = refl
+pub batch_reads : (question : List ℕ → Option Why) (rows : Rows) (moment : Moment) (batch : BatchGetSecretValue)
+    → IfAccepted (batch_judgement question rows moment batch) (λ change. is_none change ≡ true)
+batch_reads question rows moment batch = refl
 
-pub batch_change : (rows : Rows) (moment : Moment) (batch : BatchGetSecretValue) (P : Change → Type 0)
-    → IfChange (batch_judgement rows moment batch) P
-batch_change rows moment batch P = tt
+pub batch_change : (question : List ℕ → Option Why) (rows : Rows) (moment : Moment) (batch : BatchGetSecretValue)
+    (P : Change → Type 0) → IfChange (batch_judgement question rows moment batch) P
+batch_change question rows moment batch P = tt

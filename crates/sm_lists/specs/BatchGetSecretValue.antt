@@ -2,6 +2,7 @@
 -- AWS Secrets Manager API Reference, BatchGetSecretValue.
 use Rattle.std.specs.Prelude.{ℕ, false, List, [], ◌∷◌, ◌++◌, map, Option, Some, None, ⊤}
 use Rattle.sm_base.specs.declared.moment.Moment.{Moment}
+use Rattle.sm_model.specs.declared.person.Person.{Person}
 use Rattle.sm_model.specs.declared.reply.BatchError.{BatchError}
 use Rattle.sm_model.specs.declared.reply.GotSecret.{GotSecret}
 use Rattle.sm_model.specs.declared.reply.Reply.{Reply}
@@ -9,10 +10,13 @@ use Rattle.sm_model.specs.declared.reply.Reply.TheVariants as replies
 use Rattle.sm_model.specs.declared.reply.SecretBatch.{SecretBatch}
 use Rattle.sm_model.specs.declared.request.BatchGetSecretValue.{BatchGetSecretValue}
 use Rattle.sm_model.specs.declared.request.GetSecretValue.{GetSecretValue}
+use Rattle.sm_model.specs.declared.request.Request.TheVariants as requests
 use Rattle.sm_model.specs.declared.rows.Rows.{Rows}
 use Rattle.sm_model.specs.declared.rows.SecretRow.{SecretRow}
 use Rattle.sm_model.specs.declared.why.Why.{Why}
+use Rattle.sm_model.specs.declared.why.Why.TheVariants.{Denied}
 use Rattle.sm_model.specs.Causes.{error_of, message_of}
+use Rattle.sm_access.specs.Admission.{admission}
 use Rattle.sm_listing.specs.declared.asks.PageAsk.{PageAsk}
 use Rattle.sm_forms.specs.declared.paging.TheConstants.{BATCH_LIMIT}
 use Rattle.sm_forms.specs.GetSecretValue.{get_forms}
@@ -27,7 +31,16 @@ use Rattle.sm_lists.specs.Pages.{page_size, filters_given, listed, page_rows}
 abbrev pub alone : List ℕ → GetSecretValue
 alone id = record { secret_id = id; version_id = None; version_stage = None }
 
--- the question whether the person may have the secret's value, by its SecretId: none is asked, and none is refused
+-- the refusal of a request that is denied
+abbrev pub denial : Option (Option ℕ) → Option Why
+denial None = None
+denial (Some statement) = Some (Denied statement)
+
+-- the question whether the person may have the value of the secret with this SecretId: that of its GetSecretValue
+abbrev pub value_question : Rows → Person → Moment → List ℕ → Option Why
+value_question rows person moment id = denial (admission rows person moment (requests.GetSecretValue (alone id)))
+
+-- where nobody asks, none is refused
 abbrev pub no_question : List ℕ → Option Why
 no_question id = None
 
@@ -35,11 +48,15 @@ abbrev pub unless_refused : Option Why → Judged → Judged
 unless_refused None judged = judged
 unless_refused (Some why) judged = Refuse why
 
--- what that GetSecretValue is answered: its forms come first, then the question, and then its own judgement
+-- what that GetSecretValue is answered: its forms come first, then a question, and then its own judgement
 abbrev pub answered : (List ℕ → Option Why) → Rows → Moment → List ℕ → Judged
 answered question rows moment id =
     unless_refused (get_forms (alone id))
     (unless_refused (question id) (get_judgement rows moment (alone id)))
+
+-- and the same to a person
+abbrev pub answered_to : Person → Rows → Moment → List ℕ → Judged
+answered_to person rows moment id = answered (value_question rows person moment) rows moment id
 
 -- a GetSecretValue is answered by a value or refused, and in no other way
 abbrev pub IsValue : Reply → Type 0
@@ -113,9 +130,10 @@ abbrev pub secret_batch : (List ℕ → Judged) → Rows → Moment → PageAsk 
 secret_batch answer rows moment ask (Some ids) = batch_of answer None ids
 secret_batch answer rows moment ask None = page_batch answer rows moment ask
 
-abbrev pub batch_judgement : Rows → Moment → BatchGetSecretValue → Judged
-batch_judgement rows moment batch =
-    Accept (replies.BatchGetSecretValue (secret_batch (answered no_question rows moment) rows moment (batch_ask batch)
+-- this question is asked of each secret
+abbrev pub batch_judgement : (List ℕ → Option Why) → Rows → Moment → BatchGetSecretValue → Judged
+batch_judgement question rows moment batch =
+    Accept (replies.BatchGetSecretValue (secret_batch (answered question rows moment) rows moment (batch_ask batch)
     batch.secret_id_list)) None
 
 -- no test comes behind the forms: a secret that is refused stands in the reply

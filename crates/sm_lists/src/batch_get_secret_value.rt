@@ -1,40 +1,47 @@
 //! Judging BatchGetSecretValue (AWS Secrets Manager API Reference, BatchGetSecretValue).
 ghost use Rattle.std.specs.Prelude.{◌≡◌, ◌++◌, IfOk, OnOk, None, map};
+ghost use Rattle.sm_access.specs.Admission.{admission};
 ghost use Rattle.sm_forms.specs.BatchGetSecretValue.{batch_forms};
+ghost use Rattle.sm_forms.specs.GetSecretValue.{get_forms};
 ghost use Rattle.sm_listing.specs.Pages.{ordered};
-ghost use Rattle.sm_lists.specs.BatchGetSecretValue.{alone, no_question, answered, IsValue, IsAnswer, value_shown, value_in, error_in, batch_of, batch_ask, row_arn, page_batch, secret_batch, batch_judgement};
+ghost use Rattle.sm_lists.specs.BatchGetSecretValue.{alone, denial, value_question, unless_refused, answered_to, IsValue, IsAnswer, value_shown, value_in, error_in, batch_of, batch_ask, row_arn, page_batch, secret_batch, batch_judgement};
 ghost use Rattle.sm_lists.specs.Pages.{IsPageAsk, picked, row_serial, page_rows, first_listed};
 ghost use Rattle.sm_model.specs.Causes.{error_of, message_of};
+ghost use Rattle.sm_model.specs.declared.request.Request.TheVariants as requests;
 ghost use Rattle.sm_table.specs.Sound.{Sound};
+ghost use Rattle.sm_values.specs.GetSecretValue.{get_judgement};
 
 use crate::pages::{filters_given, is_next, listed, page_size, row_at};
+use sm_access::{Admitted, admit_get};
 use sm_forms::get_secret_value::get_forms;
 use sm_forms::paging::BATCH_LIMIT;
 use sm_judging::Judged;
 use sm_listing::{Listed, PageAsk};
 use sm_model::{
     BatchError, BatchGetSecretValue, Copied, GetSecretValue, GotSecret, List, Moment, NoMemory,
-    Reply, RowList, SecretBatch, Text, Why,
+    Person, Reply, RowList, SecretBatch, Text, Why,
 };
 use sm_table::Table;
 use sm_values::get_secret_value::judge_get;
 use std::alloc::Global;
 
-/// Judges a BatchGetSecretValue.
+/// Judges a BatchGetSecretValue of a person.
 pub fn judge_batch(
     alloc: Global,
     table: &Table,
+    person: &Person,
     moment: Moment,
     batch: &BatchGetSecretValue,
 ) -> Result<Judged, NoMemory>
     requires { batch_forms batch.now ≡ None }
-    ensures judged { IfOk result (λ judged. judged ≡ batch_judgement table.now moment batch.now) }
+    ensures judged { IfOk result (λ judged. judged
+        ≡ batch_judgement (value_question table.now person.now moment) table.now moment batch.now) }
 
     // What filters name are the first of the rows that are listed behind the token.
     ensures rows { Sound table.now
         → page_rows table.now moment (batch_ask batch.now) ≡ first_listed table.now moment (batch_ask batch.now) }
 {
-    let reply = secret_batch(alloc, table, moment, batch)?;
+    let reply = secret_batch(alloc, table, person, moment, batch)?;
     Ok(Judged::Accept(Reply::BatchGetSecretValue(reply), None))
 }
 
@@ -42,19 +49,20 @@ pub fn judge_batch(
 fn secret_batch(
     alloc: Global,
     table: &Table,
+    person: &Person,
     moment: Moment,
     batch: &BatchGetSecretValue,
 ) -> Result<SecretBatch, NoMemory>
     requires { batch_forms batch.now ≡ None }
     ensures { IfOk result (λ reply. reply
-        ≡ secret_batch (answered no_question table.now moment) table.now moment (batch_ask batch.now)
+        ≡ secret_batch (answered_to person.now table.now moment) table.now moment (batch_ask batch.now)
         batch.now.secret_id_list) }
 {
     match &batch.secret_id_list {
-        Some(ids) => batch_of(alloc, table, moment, None, ids.as_slice()),
+        Some(ids) => batch_of(alloc, table, person, moment, None, ids.as_slice()),
         None => {
             let ask = batch_ask(alloc, batch)?;
-            page_batch(alloc, table, moment, &ask)
+            page_batch(alloc, table, person, moment, &ask)
         }
     }
 }
@@ -79,16 +87,17 @@ fn batch_ask(alloc: Global, batch: &BatchGetSecretValue) -> Result<PageAsk, NoMe
 fn page_batch(
     alloc: Global,
     table: &Table,
+    person: &Person,
     moment: Moment,
     ask: &PageAsk,
 ) -> Result<SecretBatch, NoMemory>
     requires { IsPageAsk ask.now }
     ensures { IfOk result (λ reply. reply
-        ≡ page_batch (answered no_question table.now moment) table.now moment ask.now) }
+        ≡ page_batch (answered_to person.now table.now moment) table.now moment ask.now) }
 {
     let Listed { serials, next } = listed(alloc, table, moment, ask)?;
     let ids = arns(alloc, table, ask.descending, serials.as_slice())?;
-    batch_of(alloc, table, moment, next, ids.as_slice())
+    batch_of(alloc, table, person, moment, next, ids.as_slice())
 }
 
 /// The ARNs of the secrets with these serials, which come in the order of the walk.
@@ -118,17 +127,18 @@ fn arns(
 fn batch_of(
     alloc: Global,
     table: &Table,
+    person: &Person,
     moment: Moment,
     next_token: Option<Text>,
     ids: &[Text],
 ) -> Result<SecretBatch, NoMemory>
     ensures { IfOk result (λ reply. reply
-        ≡ batch_of (answered no_question table.now moment) next_token ids.now) }
+        ≡ batch_of (answered_to person.now table.now moment) next_token ids.now) }
 {
     let mut errors = List::empty(alloc);
     let mut secret_values = List::empty(alloc);
     for id in ids {
-        let judged = answered(alloc, table, moment, id)?;
+        let judged = answered(alloc, table, person, moment, id)?;
         add(alloc, &mut errors, &mut secret_values, id, judged)?;
     }
     Ok(SecretBatch {
@@ -197,16 +207,42 @@ fn refused(alloc: Global, id: &Text, why: &Why) -> Result<BatchError, NoMemory>
 }
 
 /// What the GetSecretValue that names this SecretId and nothing else is answered.
-#[tactic(auto, using(crate::proofs::BatchGetSecretValueLemmas::is_answer))]
-fn answered(alloc: Global, table: &Table, moment: Moment, id: &Text) -> Result<Judged, NoMemory>
-    ensures judged { IfOk result (λ judged. judged ≡ answered no_question table.now moment id.now) }
+fn answered(
+    alloc: Global,
+    table: &Table,
+    person: &Person,
+    moment: Moment,
+    id: &Text,
+) -> Result<Judged, NoMemory>
+    ensures judged { IfOk result (λ judged. judged ≡ answered_to person.now table.now moment id.now) }
     ensures answer { IfOk result IsAnswer }
 {
     let get = alone(alloc, id)?;
     if let Some(why) = get_forms(&get) {
         return Ok(Judged::Refuse(why));
     }
-    judge_get(alloc, table, moment, &get)
+    admitted(alloc, table, person, moment, &get)
+}
+
+/// What a GetSecretValue of a person is answered, whose forms pass.
+fn admitted(
+    alloc: Global,
+    table: &Table,
+    person: &Person,
+    moment: Moment,
+    get: &GetSecretValue,
+) -> Result<Judged, NoMemory>
+    requires { get_forms get.now ≡ None }
+    ensures judged { IfOk result (λ judged. judged
+        ≡ unless_refused (denial (admission table.now person.now moment (requests.GetSecretValue get.now)))
+        (get_judgement table.now moment get.now)) }
+    ensures answer { IfOk result IsAnswer }
+{
+    match admit_get(alloc, table, person, moment, get) {
+        Admitted::Ok => judge_get(alloc, table, moment, get),
+        Admitted::Denied(statement) => Ok(Judged::Refuse(Why::Denied(statement))),
+        Admitted::Memory => Err(NoMemory),
+    }
 }
 
 /// The GetSecretValue that names this SecretId and nothing else.

@@ -1,12 +1,12 @@
 use Rattle.std.proofs.Common.{◌++◌, refl, sym, ap, ◌∙◌}
 use Rattle.std.proofs.lemmas.List.{take_all}
-use Rattle.sm_lists.specs.BatchGetSecretValue.{no_question, answered, value_in, error_in, values_of, errors_of}
+use Rattle.sm_lists.specs.BatchGetSecretValue.{answered_to, value_in, error_in, values_of, errors_of}
 use Rattle.sm_lists.proofs.BatchGetSecretValueLemmas.{values_more, errors_more}
 use Rattle.sm_lists.proofs.batch_get_secret_value.batch_of.Goals as goal
 
 pub loop-id-preserved : goal.loop-id-preserved
 loop-id-preserved c =
-    let answer = answered no_question c.args.table.now c.args.moment in
+    let answer = answered_to c.args.person.now c.args.table.now c.args.moment in
     let ids = c.args.ids.now in
     let id = c.id-item.result in
     let is = c.in_ok-judged.ensures.judged in (
@@ -23,7 +23,8 @@ loop-id-preserved c =
 
 pub returns : goal.returns
 returns c =
+    let answer = answered_to c.args.person.now c.args.table.now c.args.moment in
     let all = take_all c.loop-id.id-index c.args.ids.now c.loop-id-test.false in
-    let errors = c.loop-id.invariant.0 ∙ ap (errors_of (answered no_question c.args.table.now c.args.moment)) all in
-    let values = c.loop-id.invariant.1 ∙ ap (values_of (answered no_question c.args.table.now c.args.moment)) all in
+    let errors = c.loop-id.invariant.0 ∙ ap (errors_of answer) all in
+    let values = c.loop-id.invariant.1 ∙ ap (values_of answer) all in
     rw (errors, values, c.loop-id.invariant.2) refl
