@@ -37,6 +37,8 @@ use Rattle.sm_policies.proofs.DeleteResourcePolicyLemmas.{delete_policy_refuses,
 use Rattle.sm_policies.proofs.GetResourcePolicyLemmas.{get_policy_refuses, get_policy_reads, get_policy_change}
 use Rattle.sm_policies.proofs.PutResourcePolicyLemmas.{put_policy_refuses, put_policy_changes, put_policy_change}
 use Rattle.sm_policies.proofs.ValidateResourcePolicyLemmas.{validate_refuses, validate_reads, validate_change}
+use Rattle.sm_rotations.proofs.CancelRotateSecretLemmas.{cancel_refuses, cancel_changes, cancel_change}
+use Rattle.sm_rotations.proofs.RotateSecretLemmas.{rotate_refuses, rotate_repeats, rotate_change}
 use Rattle.sm_upkeep.specs.DeleteSecret.{delete_judgement, deletes_nobody}
 use Rattle.sm_upkeep.proofs.DeleteSecretLemmas.{delete_refuses, delete_changes, delete_change}
 use Rattle.sm_upkeep.proofs.RestoreSecretLemmas.{restore_refuses, restore_changes, restore_change}
@@ -63,11 +65,11 @@ is_refused question rows moment drawn (requests.TagResource tag) = tag_refuses r
 is_refused question rows moment drawn (requests.UntagResource untag) = untag_refuses rows moment untag
 is_refused question rows moment drawn (requests.UpdateSecret update) = update_refuses rows moment drawn update
 is_refused question rows moment drawn (requests.UpdateSecretVersionStage update) = move_refuses rows moment update
-is_refused question rows moment drawn (requests.CancelRotateSecret r) = refl
+is_refused question rows moment drawn (requests.CancelRotateSecret cancel) = cancel_refuses rows moment cancel
 is_refused question rows moment drawn (requests.DeleteResourcePolicy delete) = delete_policy_refuses rows moment delete
 is_refused question rows moment drawn (requests.GetResourcePolicy get) = get_policy_refuses rows moment get
 is_refused question rows moment drawn (requests.PutResourcePolicy put) = put_policy_refuses rows moment put
-is_refused question rows moment drawn (requests.RotateSecret r) = refl
+is_refused question rows moment drawn (requests.RotateSecret rotate) = rotate_refuses rows moment drawn rotate
 is_refused question rows moment drawn (requests.ValidateResourcePolicy validate) = validate_refuses rows moment validate
 
 -- a deletion has no repeat
@@ -95,15 +97,15 @@ is_unchanged question rows moment drawn (requests.TagResource tag) = tag_changes
 is_unchanged question rows moment drawn (requests.UntagResource untag) = untag_changes rows moment untag
 is_unchanged question rows moment drawn (requests.UpdateSecret update) = update_repeats rows moment drawn update
 is_unchanged question rows moment drawn (requests.UpdateSecretVersionStage update) = move_changes rows moment update
-is_unchanged question rows moment drawn (requests.CancelRotateSecret r) = tt
+is_unchanged question rows moment drawn (requests.CancelRotateSecret cancel) = cancel_changes rows moment cancel
 is_unchanged question rows moment drawn (requests.DeleteResourcePolicy delete) = delete_policy_changes rows moment delete
 is_unchanged question rows moment drawn (requests.GetResourcePolicy get) = get_policy_reads rows moment get
 is_unchanged question rows moment drawn (requests.PutResourcePolicy put) = put_policy_changes rows moment put
-is_unchanged question rows moment drawn (requests.RotateSecret r) = tt
+is_unchanged question rows moment drawn (requests.RotateSecret rotate) = rotate_repeats rows moment drawn rotate
 is_unchanged question rows moment drawn (requests.ValidateResourcePolicy validate) = validate_reads rows moment validate
 
 -- a moment that a clock can give is a date that a secret may keep
-is_kept_date : (moment : Moment) → moment.0 ≤ LAST_READING → IsTrue (is_date moment)
+pub is_kept_date : (moment : Moment) → moment.0 ≤ LAST_READING → IsTrue (is_date moment)
 is_kept_date moment h = grind (arith, nat_tests, h)
 
 least : (create : CreateSecret) (n : ℕ) → n ≡ needed (requests.CreateSecret create)
@@ -141,14 +143,16 @@ change_is_entry question rows moment key drawn (requests.UpdateSecret update) so
     update_change rows moment drawn update sound (is_kept_date moment early) forms
 change_is_entry question rows moment key drawn (requests.UpdateSecretVersionStage update) sound early forms room =
     move_change rows moment update sound (is_kept_date moment early)
-change_is_entry question rows moment key drawn (requests.CancelRotateSecret r) sound early forms room = tt
+change_is_entry question rows moment key drawn (requests.CancelRotateSecret cancel) sound early forms room =
+    cancel_change rows moment cancel sound (is_kept_date moment early)
 change_is_entry question rows moment key drawn (requests.DeleteResourcePolicy delete) sound early forms room =
     delete_policy_change rows moment delete sound (is_kept_date moment early)
 change_is_entry question rows moment key drawn (requests.GetResourcePolicy get) sound early forms room =
     get_policy_change rows moment get _
 change_is_entry question rows moment key drawn (requests.PutResourcePolicy put) sound early forms room =
     put_policy_change rows moment put sound (is_kept_date moment early) forms
-change_is_entry question rows moment key drawn (requests.RotateSecret r) sound early forms room = tt
+change_is_entry question rows moment key drawn (requests.RotateSecret rotate) sound early forms room =
+    rotate_change rows moment drawn rotate sound early (is_kept_date moment early) forms
 change_is_entry question rows moment key drawn (requests.ValidateResourcePolicy validate) sound early forms room =
     validate_change rows moment validate _
 

@@ -7,7 +7,6 @@ use Rattle.sm_model.specs.declared.request.Request.{Request}
 use Rattle.sm_model.specs.declared.request.Request.TheVariants as requests
 use Rattle.sm_model.specs.declared.rows.Rows.{Rows}
 use Rattle.sm_model.specs.declared.why.Why.{Why}
-use Rattle.sm_model.specs.declared.why.Why.TheVariants.{NotBuilt}
 use Rattle.sm_judging.specs.declared.judged.Judged.{Judged}
 use Rattle.sm_judging.specs.declared.judged.Judged.TheVariants.{Refuse}
 use Rattle.sm_values.specs.CreateSecret.{create_judgement, create_refusal, create_repeat}
@@ -24,6 +23,8 @@ use Rattle.sm_policies.specs.DeleteResourcePolicy.{delete_policy_judgement, dele
 use Rattle.sm_policies.specs.GetResourcePolicy.{get_policy_judgement, get_policy_refusal}
 use Rattle.sm_policies.specs.PutResourcePolicy.{put_policy_judgement, put_policy_refusal}
 use Rattle.sm_policies.specs.ValidateResourcePolicy.{validate_judgement, validate_refusal}
+use Rattle.sm_rotations.specs.CancelRotateSecret.{cancel_judgement, cancel_refusal}
+use Rattle.sm_rotations.specs.RotateSecret.{rotate_judgement, rotate_refusal, rotate_repeat}
 use Rattle.sm_upkeep.specs.DeleteSecret.{delete_judgement, delete_refusal, deletes_nobody}
 use Rattle.sm_upkeep.specs.RestoreSecret.{restore_judgement, restore_refusal}
 use Rattle.sm_upkeep.specs.TagResource.{tag_judgement, tag_refusal}
@@ -34,7 +35,7 @@ use Rattle.sm_upkeep.specs.UntagResource.{untag_judgement, untag_refusal}
 abbrev pub judgement_asking : (List ℕ → Option Why) → Rows → Moment → List ℕ → Request → Judged
 judgement_asking question rows moment drawn (requests.BatchGetSecretValue batch) =
     batch_judgement question rows moment batch
-judgement_asking question rows moment drawn (requests.CancelRotateSecret r) = Refuse NotBuilt
+judgement_asking question rows moment drawn (requests.CancelRotateSecret cancel) = cancel_judgement rows moment cancel
 judgement_asking question rows moment drawn (requests.CreateSecret create) = create_judgement rows moment drawn create
 judgement_asking question rows moment drawn (requests.DeleteResourcePolicy delete) =
     delete_policy_judgement rows moment delete
@@ -48,7 +49,7 @@ judgement_asking question rows moment drawn (requests.ListSecrets list) = list_j
 judgement_asking question rows moment drawn (requests.PutResourcePolicy put) = put_policy_judgement rows moment put
 judgement_asking question rows moment drawn (requests.PutSecretValue put) = put_judgement rows moment drawn put
 judgement_asking question rows moment drawn (requests.RestoreSecret restore) = restore_judgement rows moment restore
-judgement_asking question rows moment drawn (requests.RotateSecret r) = Refuse NotBuilt
+judgement_asking question rows moment drawn (requests.RotateSecret rotate) = rotate_judgement rows moment drawn rotate
 judgement_asking question rows moment drawn (requests.TagResource tag) = tag_judgement rows moment tag
 judgement_asking question rows moment drawn (requests.UntagResource untag) = untag_judgement rows moment untag
 judgement_asking question rows moment drawn (requests.UpdateSecret update) = update_judgement rows moment drawn update
@@ -73,7 +74,7 @@ is_batch _ = false
 -- the first test after the forms that fails, by the rows alone
 abbrev pub refusal : Rows → Moment → List ℕ → Request → Option Why
 refusal rows moment drawn (requests.BatchGetSecretValue batch) = batch_refusal rows moment batch
-refusal rows moment drawn (requests.CancelRotateSecret r) = Some NotBuilt
+refusal rows moment drawn (requests.CancelRotateSecret cancel) = cancel_refusal rows moment cancel
 refusal rows moment drawn (requests.CreateSecret create) = create_refusal rows moment drawn create
 refusal rows moment drawn (requests.DeleteResourcePolicy delete) = delete_policy_refusal rows moment delete
 refusal rows moment drawn (requests.DeleteSecret delete) = delete_refusal rows moment delete
@@ -86,7 +87,7 @@ refusal rows moment drawn (requests.ListSecrets list) = list_refusal rows moment
 refusal rows moment drawn (requests.PutResourcePolicy put) = put_policy_refusal rows moment put
 refusal rows moment drawn (requests.PutSecretValue put) = put_refusal rows moment drawn put
 refusal rows moment drawn (requests.RestoreSecret restore) = restore_refusal rows moment restore
-refusal rows moment drawn (requests.RotateSecret r) = Some NotBuilt
+refusal rows moment drawn (requests.RotateSecret rotate) = rotate_refusal rows moment drawn rotate
 refusal rows moment drawn (requests.TagResource tag) = tag_refusal rows moment tag
 refusal rows moment drawn (requests.UntagResource untag) = untag_refusal rows moment untag
 refusal rows moment drawn (requests.UpdateSecret update) = update_refusal rows moment drawn update
@@ -110,7 +111,7 @@ repeat rows moment drawn (requests.ListSecretVersionIds r) = false
 repeat rows moment drawn (requests.ListSecrets r) = false
 repeat rows moment drawn (requests.PutResourcePolicy r) = false
 repeat rows moment drawn (requests.RestoreSecret r) = false
-repeat rows moment drawn (requests.RotateSecret r) = false
+repeat rows moment drawn (requests.RotateSecret rotate) = rotate_repeat rows moment drawn rotate
 repeat rows moment drawn (requests.TagResource r) = false
 repeat rows moment drawn (requests.UntagResource r) = false
 repeat rows moment drawn (requests.UpdateSecretVersionStage r) = false

@@ -1,4 +1,5 @@
 pub mod Judging
 pub mod Effects
 pub mod Histories
+pub mod Vouching
 pub mod Replaying

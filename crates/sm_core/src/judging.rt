@@ -19,11 +19,13 @@ use sm_lists::batch_get_secret_value::judge_batch;
 use sm_lists::get_random_password::judge_password;
 use sm_lists::list_secret_version_ids::judge_versions;
 use sm_lists::list_secrets::judge_list;
-use sm_model::{Moment, NoMemory, Person, Request, Why};
+use sm_model::{Moment, NoMemory, Person, Request};
 use sm_policies::delete_resource_policy::judge_delete_policy;
 use sm_policies::get_resource_policy::judge_get_policy;
 use sm_policies::put_resource_policy::judge_put_policy;
 use sm_policies::validate_resource_policy::judge_validate;
+use sm_rotations::cancel_rotate_secret::judge_cancel;
+use sm_rotations::rotate_secret::judge_rotate;
 use sm_table::Table;
 use sm_upkeep::delete_secret::judge_delete;
 use sm_upkeep::restore_secret::judge_restore;
@@ -123,6 +125,7 @@ pub(crate) fn judge_alone(
 {
     match request {
         Request::BatchGetSecretValue(_) => unreachable!(),
+        Request::CancelRotateSecret(cancel) => judge_cancel(alloc, table, moment, cancel),
         Request::CreateSecret(create) => judge_create(alloc, table, moment, drawn, create),
         Request::DeleteResourcePolicy(delete) => judge_delete_policy(alloc, table, moment, delete),
         Request::DeleteSecret(delete) => judge_delete(alloc, table, moment, delete),
@@ -135,13 +138,11 @@ pub(crate) fn judge_alone(
         Request::PutResourcePolicy(put) => judge_put_policy(alloc, table, moment, put),
         Request::PutSecretValue(put) => judge_put(alloc, table, moment, drawn, put),
         Request::RestoreSecret(restore) => judge_restore(alloc, table, moment, restore),
+        Request::RotateSecret(rotate) => judge_rotate(alloc, table, moment, drawn, rotate),
         Request::TagResource(tag) => judge_tag(alloc, table, moment, tag),
         Request::UntagResource(untag) => judge_untag(alloc, table, moment, untag),
         Request::UpdateSecret(update) => judge_update(alloc, table, moment, drawn, update),
         Request::UpdateSecretVersionStage(update) => judge_move(alloc, table, moment, update),
         Request::ValidateResourcePolicy(validate) => judge_validate(alloc, table, moment, validate),
-        Request::CancelRotateSecret(_) | Request::RotateSecret(_) => {
-            Ok(Judged::Refuse(Why::NotBuilt))
-        }
     }
 }

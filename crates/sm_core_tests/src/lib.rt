@@ -6,6 +6,8 @@ mod access;
 #[cfg(test)]
 mod asked;
 #[cfg(test)]
+mod rotations;
+#[cfg(test)]
 mod rows;
 #[cfg(test)]
 mod shown;

@@ -481,7 +481,7 @@ fn answer_row(alloc: Global, secrets: &mut Secrets, row: &str) -> Result<String,
     answer_once(alloc, secrets, &root(), request(alloc, column(row, 1))?)
 }
 
-fn pairs_text(alloc: Global, row: &SecretRow) -> Result<String, Fail> {
+pub fn pairs_text(alloc: Global, row: &SecretRow) -> Result<String, Fail> {
     let mut shown = String::new(alloc);
     for pair in row.labels.as_slice() {
         shown.push_str(pair.label.as_text().as_str())?;
@@ -544,7 +544,7 @@ fn judge_there(
 }
 
 #[tactic(auto, using(sm_forms::proofs::PolicyLemmas::none_formed))]
-fn answer_there(
+pub fn answer_there(
     alloc: Global,
     table: &Table,
     moment: Moment,
