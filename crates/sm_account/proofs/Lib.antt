@@ -3,9 +3,6 @@ pub mod KeptLemmas
 pub mod MakeLemmas
 pub mod WriteLemmas
 pub mod HandleLemmas
-pub mod FieldSizes
-pub mod RequestSizes
-pub mod SpelledLaws
 pub mod ReplayLemmas
 pub mod OpenLemmas
 pub mod RoomLemmas

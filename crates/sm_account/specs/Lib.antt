@@ -8,7 +8,6 @@ pub mod KeptOnce
 pub mod Writing
 pub mod Making
 pub mod Growing
-pub mod Texts
 pub mod Handling
 pub mod Replaying
 pub mod Values

@@ -12,7 +12,6 @@ mod handling;
 mod making;
 mod opening;
 mod replaying;
-mod spelling;
 pub mod storied;
 mod writing;
 

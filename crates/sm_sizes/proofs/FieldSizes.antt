@@ -1,5 +1,5 @@
 -- How long the fields of entries are, and when they fit.
-use Rattle.std.proofs.Common.{◌≡◌, ℕ, ◌+◌, ◌*◌, ◌^◌, ◌<◌, ◌≤◌, Bool, true, false, not, ◌&&◌, List, [], ◌∷◌, ◌++◌, length, Option, Some, None, IfSome, refl, ap, arith, length-append}
+use Rattle.std.proofs.Common.{◌≡◌, ℕ, ◌+◌, ◌*◌, ◌^◌, ◌<◌, ◌≤◌, Bool, true, false, not, ◌&&◌, List, [], ◌∷◌, ◌++◌, length, Option, Some, None, IfSome, is_some, refl, ap, arith, length-append}
 use Rattle.std.specs.Prelude.{ℤ, pos, negsuc, IsTrue, IsUtf8, nat_eq, nat_lt, nat_le, if◌then◌else◌, codes}
 use Rattle.std.specs.Str.{is_utf8, chars, encode_utf8_all as encodes}
 use Rattle.std.specs.Char.{is_ascii_digit, encode_utf8 as encode}
@@ -10,17 +10,24 @@ use Rattle.std.proofs.lemmas.Str.{is_utf8-from_IsUtf8, IsUtf8-from_is_utf8, enco
 use Rattle.sm_base.specs.Spelling.{is_run, is_name_byte, is_token, is_token_byte, is_name, is_label, is_arn, is_arn_like, is_secret_id, is_region_byte, IsArnOf}
 use Rattle.sm_base.proofs.ArnShapeLemmas.{arn_has_shape}
 use Rattle.sm_base.proofs.LabelLemmas.{label_is_utf8}
-use Rattle.sm_model.specs.Bounds.{has_at_most, is_description, is_tag_key, is_tag, reserved_beginning}
-use Rattle.sm_model.specs.declared.limits.TheConstants.{DESCRIPTION_LIMIT, TAGS_LIMIT, TAG_KEY_LIMIT, TAG_VALUE_LIMIT}
+use Rattle.sm_model.specs.Bounds.{fits, has_at_most, is_attempt, is_description, is_small, is_tag_key, is_tag, reserved_beginning}
+use Rattle.sm_model.specs.declared.limits.TheConstants.{DAYS_LIMIT, DESCRIPTION_LIMIT, POLICY_LIMIT, TAGS_LIMIT, TAG_KEY_LIMIT, TAG_VALUE_LIMIT, VALUE_LIMIT}
+use Rattle.sm_model.specs.declared.request.Rules.{Rules}
+use Rattle.sm_model.specs.declared.rows.Stage.{Stage}
+use Rattle.sm_model.specs.declared.rows.Stage.TheVariants.{Create, Set, Test, Finish}
 use Rattle.sm_model.specs.declared.value.Tag.{Tag}
+use Rattle.sm_model.specs.declared.value.Value.{Value}
+use Rattle.sm_model.specs.declared.value.Value.TheVariants.{Text, Bytes}
+use Rattle.sm_policy.specs.Documents.{has_policy_length, is_policy, is_resource_policy}
 use Rattle.sm_versions.specs.Texts.{once}
 use Rattle.sm_versions.specs.Sound.{tag_keys, each_tag}
 use Rattle.sm_forms.specs.DeleteSecret.{is_window}
 use Rattle.sm_forms.specs.declared.delete_secret.TheConstants.{SHORTEST_WINDOW, LONGEST_WINDOW}
+use Rattle.sm_forms.specs.RotateSecret.{is_period}
 use Rattle.sm_forms.specs.UntagResource.{is_untag_key}
 use Rattle.sm_record.specs.Codec.{optional}
-use Rattle.sm_record.specs.Fields.{count, long, signed, octets, text, truth, listed, tag}
-use Rattle.sm_account.specs.Texts.{TagTexts, EachText}
+use Rattle.sm_record.specs.Fields.{arn, attempt, count, long, signed, octets, rotation_rules, stage, text, token, truth, listed, tag, value}
+use Rattle.sm_sizes.specs.Texts.{TagTexts, EachText, ValueText}
 
 count_size : (n : ℕ) → length (count.spell n) ≡ 4
 unfolding count
@@ -338,3 +345,83 @@ unfolding listed count
 keys_fit keys texts all few =
     and_from (nat_lt (length keys) (2 ^ 32)) (list_all text.fits keys) (grind (arith, nat_tests, few))
     (each_key_fits keys texts all)
+
+-- the ARN of a secret, and the id of a version
+pub arn_field_size : (t : List ℕ) → is_arn t ≡ true → length (arn.spell t) ≤ 604
+unfolding arn
+arn_field_size t is = omega (arith, octets_size t, arn_size t is)
+
+pub arn_field_fits : (t : List ℕ) → is_arn t ≡ true → arn.fits t ≡ true
+unfolding arn
+arn_field_fits t is = and_from (is_arn t) (octets.fits t) is (octets_fits t (omega (arith, arn_size t is)))
+
+pub token_field_size : (t : List ℕ) → is_token t ≡ true → length (token.spell t) ≤ 68
+unfolding token
+token_field_size t is = omega (arith, octets_size t, token_size t is)
+
+pub token_field_fits : (t : List ℕ) → is_token t ≡ true → token.fits t ≡ true
+unfolding token
+token_field_fits t is = and_from (is_token t) (octets.fits t) is (octets_fits t (omega (arith, token_size t is)))
+
+-- a step of a rotation, and an attempt at it
+pub stage_size : (s : Stage) → length (stage.spell s) ≡ 1
+unfolding stage
+stage_size s = refl
+
+pub stage_fits : (s : Stage) → stage.fits s ≡ true
+unfolding stage
+stage_fits Create = refl
+stage_fits Set = refl
+stage_fits Test = refl
+stage_fits Finish = refl
+
+pub attempt_size : (n : ℕ) → length (attempt.spell n) ≡ 1
+unfolding attempt
+attempt_size n = refl
+
+pub attempt_fits : (n : ℕ) → is_attempt n ≡ true → attempt.fits n ≡ true
+unfolding attempt
+attempt_fits n is = ap (λ b. is_some (if b then Some n else None)) is
+
+-- a value
+small : (bytes : List ℕ) → nat_le (length bytes) VALUE_LIMIT ≡ true → length bytes ≤ 65536
+small bytes is = grind (arith, nat_tests, is)
+
+pub value_size : (v : Value) → is_small v ≡ true → length (value.spell v) ≤ 65541
+unfolding value
+value_size (Text bytes) is = omega (arith, text_size bytes, small bytes is)
+value_size (Bytes bytes) is = omega (arith, octets_size bytes, small bytes is)
+
+pub value_fits : (v : Value) → ValueText v → is_small v ≡ true → value.fits v ≡ true
+unfolding value
+value_fits (Text bytes) utf8 is = text_fits bytes utf8 (omega (arith, small bytes is))
+value_fits (Bytes bytes) utf8 is = octets_fits bytes (omega (arith, small bytes is))
+
+-- the text of a policy
+pub policy_size : (t : List ℕ) → IsUtf8 t → IsTrue (is_resource_policy t) → length t ≤ 81920
+unfolding is_resource_policy
+policy_size t utf8 is =
+    let sized = (and_parts (has_policy_length t) (is_policy t) is).0 in
+    few_bytes POLICY_LIMIT t utf8 (and_parts (nat_le 1 (length (chars t))) (has_at_most POLICY_LIMIT t) sized).1
+
+-- rotation rules that need not be there
+period_fits : (days : ℤ) → is_period days ≡ true → signed.fits days ≡ true
+unfolding signed
+period_fits (pos n) is = let le = (and_parts (nat_le 1 n) (nat_le n DAYS_LIMIT) is).1 in grind (arith, nat_tests, le)
+period_fits (negsuc n) is = absurd (let f : false ≡ true = is in cc)
+
+days_fit : (days : Option ℤ) → fits is_period days ≡ true → (optional signed).fits days ≡ true
+unfolding optional
+days_fit None is = refl
+days_fit (Some days) is = period_fits days is
+
+pub rules_size : (rules : Option Rules) → length ((optional rotation_rules).spell rules) ≤ 10
+unfolding optional rotation_rules
+rules_size None = omega arith
+rules_size (Some rules) = omega (arith, window_size rules.days)
+
+pub rules_fit : (rules : Option Rules) → IfSome rules (λ r. IsTrue (fits is_period r.days))
+    → (optional rotation_rules).fits rules ≡ true
+unfolding optional rotation_rules
+rules_fit None is = refl
+rules_fit (Some rules) is = days_fit rules.days is

@@ -13,9 +13,11 @@ use Rattle.sm_model.specs.declared.limits.TheConstants.{VALUE_LIMIT, LABELS_LIMI
 use Rattle.sm_model.specs.declared.request.CreateSecret.{CreateSecret}
 use Rattle.sm_model.specs.declared.request.DeleteSecret.{DeleteSecret}
 use Rattle.sm_model.specs.declared.request.OfSecret.{OfSecret}
+use Rattle.sm_model.specs.declared.request.PutResourcePolicy.{PutResourcePolicy}
 use Rattle.sm_model.specs.declared.request.PutSecretValue.{PutSecretValue}
 use Rattle.sm_model.specs.declared.request.Request.{Request}
 use Rattle.sm_model.specs.declared.request.Request.TheVariants as requests
+use Rattle.sm_model.specs.declared.request.RotateSecret.{RotateSecret}
 use Rattle.sm_model.specs.declared.request.TagResource.{TagResource}
 use Rattle.sm_model.specs.declared.request.UntagResource.{UntagResource}
 use Rattle.sm_model.specs.declared.request.UpdateSecret.{UpdateSecret}
@@ -25,7 +27,9 @@ use Rattle.sm_forms.specs.Members.{first_why, form_unless, form_of, has_one, is_
 use Rattle.sm_forms.specs.CreateSecret.{create_forms}
 use Rattle.sm_forms.specs.DeleteSecret.{delete_forms}
 use Rattle.sm_forms.specs.OfSecret.{of_secret_forms}
+use Rattle.sm_forms.specs.PutResourcePolicy.{put_policy_forms}
 use Rattle.sm_forms.specs.PutSecretValue.{put_forms}
+use Rattle.sm_forms.specs.RotateSecret.{rotate_forms}
 use Rattle.sm_forms.specs.TagResource.{tag_forms}
 use Rattle.sm_forms.specs.UntagResource.{untag_forms}
 use Rattle.sm_forms.specs.UpdateSecret.{update_forms}
@@ -34,7 +38,9 @@ use Rattle.sm_forms.proofs.MemberLemmas.{none_first, passes}
 use Rattle.sm_forms.proofs.CreateSecretLemmas as create
 use Rattle.sm_forms.proofs.DeleteSecretLemmas as deleting
 use Rattle.sm_forms.proofs.OfSecretLemmas as named
+use Rattle.sm_forms.proofs.PutResourcePolicyLemmas as policies
 use Rattle.sm_forms.proofs.PutSecretValueLemmas as put
+use Rattle.sm_forms.proofs.RotateSecretLemmas as rotating
 use Rattle.sm_forms.proofs.TagResourceLemmas as tagging
 use Rattle.sm_forms.proofs.UntagResourceLemmas as untagging
 use Rattle.sm_forms.proofs.UpdateSecretLemmas as update
@@ -47,10 +53,10 @@ use Rattle.sm_upkeep.proofs.TagResourceLemmas.{tag_few}
 use Rattle.sm_core.specs.Histories.{IsDue, LegalAct}
 use Rattle.sm_core.specs.Judging.{judgement}
 use Rattle.sm_record.specs.Codec.{optional}
-use Rattle.sm_record.specs.Fields.{signed, octets, text, truth, listed, tag}
-use Rattle.sm_record.specs.Requests.{of_secret, create_secret, delete_secret, put_secret_value, tag_resource, untag_resource, update_secret, update_secret_version_stage}
-use Rattle.sm_account.specs.Texts.{CreateTexts, PutTexts, UpdateTexts, MoveTexts, TaggingTexts, UntaggingTexts, HasFewTags}
-use Rattle.sm_account.proofs.FieldSizes.{text_size, text_fits, optional_size, optional_fits, bytes_size, bytes_fit, token_size, name_size, description_size, label_size, secret_id_size, labels_size, labels_fits, tags_size, tags_fit, tag_list_size, tag_list_fits, keys_size, keys_fit, truth_size, truth_fits, window_size, window_fits}
+use Rattle.sm_record.specs.Fields.{signed, octets, rotation_rules, text, truth, listed, tag}
+use Rattle.sm_record.specs.Requests.{of_secret, create_secret, delete_secret, put_resource_policy, put_secret_value, rotate_secret, tag_resource, untag_resource, update_secret, update_secret_version_stage}
+use Rattle.sm_sizes.specs.Texts.{CreateTexts, PolicyTexts, PutTexts, RotateTexts, UpdateTexts, MoveTexts, TaggingTexts, UntaggingTexts, HasFewTags}
+use Rattle.sm_sizes.proofs.FieldSizes.{text_size, text_fits, optional_size, optional_fits, bytes_size, bytes_fit, token_size, name_size, description_size, label_size, secret_id_size, labels_size, labels_fits, tags_size, tags_fit, tag_list_size, tag_list_fits, keys_size, keys_fit, truth_size, truth_fits, window_size, window_fits, policy_size, rules_size, rules_fit}
 
 -- a fact of a text that is there follows from another
 some_then : (t : Option (List ℕ)) (P Q : List ℕ → Type 0) → ((x : List ℕ) → P x → Q x) → IfSome t P → IfSome t Q
@@ -294,7 +300,7 @@ module _ (r : DeleteSecret) (forms : delete_forms r ≡ None) where
       (window_fits r.recovery_window_in_days (deleting.delete_window r forms))
       (text_fits r.secret_id id (omega (arith, secret_id_size r.secret_id (deleting.delete_id r forms)))))
 
--- RestoreSecret
+-- CancelRotateSecret, DeleteResourcePolicy and RestoreSecret
 module _ (r : OfSecret) (forms : of_secret_forms r ≡ None) where
   pub named_size : length (of_secret.spell r) ≤ 2000
   unfolding of_secret
@@ -348,6 +354,73 @@ module _ (r : UntagResource) (forms : untag_forms r ≡ None) (texts : Untagging
       and_from (text.fits r.secret_id) ((listed text).fits r.tag_keys)
       (text_fits r.secret_id texts.id (omega (arith, secret_id_size r.secret_id (untagging.untag_id r forms))))
       (keys_fit r.tag_keys texts.keys (untagging.untag_keys r forms) (untagging.untag_few r forms))
+
+-- PutResourcePolicy
+module _ (r : PutResourcePolicy) (forms : put_policy_forms r ≡ None) (texts : PolicyTexts r) where
+  pub put_policy_size : length (put_resource_policy.spell r) ≤ 90000
+  unfolding put_resource_policy
+  put_policy_size =
+      let block : List ℕ = truth.spell r.block_public_policy in
+      let policy : List ℕ = text.spell r.resource_policy in
+      let id : List ℕ = text.spell r.secret_id in
+      omega (
+        arith,
+        length-append block (policy ++ id),
+        length-append policy id,
+        truth_size r.block_public_policy,
+        text_size r.resource_policy,
+        policy_size r.resource_policy texts.policy (policies.put_policy_text r forms),
+        text_size r.secret_id,
+        secret_id_size r.secret_id (policies.put_policy_id r forms),
+      )
+
+  pub put_policy_fits : put_resource_policy.fits r ≡ true
+  unfolding put_resource_policy
+  put_policy_fits =
+      and_from (truth.fits r.block_public_policy) _ (truth_fits r.block_public_policy)
+      (and_from (text.fits r.resource_policy) (text.fits r.secret_id)
+      (text_fits r.resource_policy texts.policy
+      (omega (arith, policy_size r.resource_policy texts.policy (policies.put_policy_text r forms))))
+      (text_fits r.secret_id texts.id (omega (arith, secret_id_size r.secret_id (policies.put_policy_id r forms)))))
+
+-- RotateSecret
+module _ (r : RotateSecret) (forms : rotate_forms r ≡ None) (texts : RotateTexts r) where
+  pub rotate_size : length (rotate_secret.spell r) ≤ 10000
+  unfolding rotate_secret
+  rotate_size =
+      let token : List ℕ = (optional text).spell r.client_request_token in
+      let at_once : List ℕ = truth.spell r.rotate_immediately in
+      let lambda : List ℕ = (optional text).spell r.rotation_lambda_arn in
+      let rules : List ℕ = (optional rotation_rules).spell r.rotation_rules in
+      let id : List ℕ = text.spell r.secret_id in
+      omega (
+        arith,
+        length-append token (at_once ++ (lambda ++ (rules ++ id))),
+        length-append at_once (lambda ++ (rules ++ id)),
+        length-append lambda (rules ++ id),
+        length-append rules id,
+        optional_size r.client_request_token 64 (tokens r.client_request_token (rotating.rotate_token r forms)),
+        truth_size r.rotate_immediately,
+        optional_size r.rotation_lambda_arn 8192
+            (descriptions r.rotation_lambda_arn texts.lambda (rotating.rotate_lambda r forms)),
+        rules_size r.rotation_rules,
+        text_size r.secret_id,
+        secret_id_size r.secret_id (rotating.rotate_id r forms),
+      )
+
+  pub rotate_fits : rotate_secret.fits r ≡ true
+  unfolding rotate_secret
+  rotate_fits =
+      and_from ((optional text).fits r.client_request_token) _
+      (optional_fits r.client_request_token 64 (omega arith) texts.token
+      (tokens r.client_request_token (rotating.rotate_token r forms)))
+      (and_from (truth.fits r.rotate_immediately) _ (truth_fits r.rotate_immediately)
+      (and_from ((optional text).fits r.rotation_lambda_arn) _
+      (optional_fits r.rotation_lambda_arn 8192 (omega arith) texts.lambda
+      (descriptions r.rotation_lambda_arn texts.lambda (rotating.rotate_lambda r forms)))
+      (and_from ((optional rotation_rules).fits r.rotation_rules) (text.fits r.secret_id)
+      (rules_fit r.rotation_rules (rotating.rotate_rules r forms))
+      (text_fits r.secret_id texts.id (omega (arith, secret_id_size r.secret_id (rotating.rotate_id r forms)))))))
 
 -- a fact of each change holds where one is due
 of_due : (j : Judged) (P : Type 0) → IfChange j (λ _. P) → IsDue j → P

@@ -1,38 +1,79 @@
 //! The spelling of an entry that is due.
-ghost use Rattle.std.specs.Prelude.{◌≡◌, ◌≤◌, length, IfOk, IfSome, None, false, IsUtf8};
+ghost use Rattle.std.specs.Prelude.{◌≡◌, ◌≤◌, length, IfOk, IfSome, IsTrue, IsUtf8};
 ghost use Rattle.sm_base.specs.declared.moment.TheConstants.{LAST_READING};
-ghost use Rattle.sm_core.specs.Effects.{entry_of};
-ghost use Rattle.sm_core.specs.Judging.{is_reading};
-ghost use Rattle.sm_forms.specs.Forms.{forms_of};
+ghost use Rattle.sm_base.specs.Spelling.{is_arn, is_token};
 ghost use Rattle.sm_journal.specs.Records.{body_limit};
-ghost use Rattle.sm_model.specs.Needed.{needed};
 ghost use Rattle.sm_store.specs.Entries.{Spells};
-ghost use Rattle.sm_account.specs.Texts.{EachText, HasFewTags, TagTexts, TextsOf};
+ghost use Rattle.sm_sizes.specs.Spellable.{IsSpellable};
+ghost use Rattle.sm_sizes.specs.Texts.{ActTexts, AnswerText, EachText, TagTexts, TextsOf, ValueText};
 
-use sm_model::{Bytes, Entry, List, NoMemory, Person, Request, Tag, Text};
+use sm_model::{Act, Answer, Arn, Bytes, Entry, List, NoMemory, Request, Tag, Text, Token, Value};
 use sm_record::encode;
 use std::alloc::Global;
 
-/// The spelling of the entry of an accepted request, which is never too long for a record.
-pub fn spell(
-    alloc: Global,
-    person: &Person,
-    request: &Request,
-    entry: &Entry,
-) -> Result<Bytes, NoMemory>
-    requires is { entry.now ≡ entry_of entry.now.moment person.now.key entry.now.drawn request.now }
+/// The spelling of an entry of an accepted request, of a start of a due rotation or of a report, which is never too
+/// long for a record.
+pub fn spell(alloc: Global, entry: &Entry) -> Result<Bytes, NoMemory>
     requires bound { entry.now.moment.0 ≤ LAST_READING }
-    requires key { length person.now.key ≤ 256 }
-    requires drawn { length entry.now.drawn ≡ needed request.now }
-    requires forms { forms_of request.now ≡ None }
-    requires changes { is_reading request.now ≡ false }
-    requires few { HasFewTags request.now }
+    requires key { length entry.now.caller ≤ 256 }
+    requires act { IsSpellable entry.now.drawn entry.now.act }
     ensures { IfOk result (λ ready. Spells entry.now ready × (length ready ≤ body_limit)) }
 {
-    note_text(&person.key);
-    note_texts(request);
+    note_text(&entry.caller);
+    note_act(&entry.act);
     let ready = encode(alloc, entry)?;
     Ok(ready)
+}
+
+/// The law that the texts of an act are UTF-8, and that its ARN and its token are spelled as such.
+fn note_act(act: &Act)
+    ensures { ActTexts act.now }
+{
+    match act {
+        Act::Asked(request) => note_texts(request),
+        Act::Begun(arn) => note_arn(arn),
+        Act::Reported(arn, at, answer) => {
+            note_arn(arn);
+            note_token(&at.token);
+            note_answer(answer);
+        }
+    }
+}
+
+/// The law that an ARN is spelled as one.
+fn note_arn(arn: &Arn)
+    ensures { IsTrue (is_arn arn.now) }
+{
+    let _text = arn.as_text();
+}
+
+/// The law that a token is spelled as one.
+fn note_token(token: &Token)
+    ensures { IsTrue (is_token token.now) }
+{
+    let _text = token.as_text();
+}
+
+/// The law that the text of an answer is UTF-8.
+fn note_answer(answer: &Answer)
+    ensures { AnswerText answer.now }
+{
+    match answer {
+        Answer::Value(value) => note_value(value),
+        Answer::Yes => {}
+        Answer::No => {}
+        Answer::Failed => {}
+    }
+}
+
+/// The law that the text of a value is UTF-8.
+fn note_value(value: &Value)
+    ensures { ValueText value.now }
+{
+    match value {
+        Value::Text(text) => note_text(text),
+        Value::Bytes(_) => {}
+    }
 }
 
 /// The law that the texts of a request that makes an entry are UTF-8.
@@ -76,6 +117,17 @@ fn note_texts(request: &Request)
             note_text(&untag.secret_id);
             note_each(untag.tag_keys.as_slice());
         }
+        Request::PutResourcePolicy(put) => {
+            note_text(&put.resource_policy);
+            note_text(&put.secret_id);
+        }
+        Request::DeleteResourcePolicy(delete) => note_text(&delete.secret_id),
+        Request::RotateSecret(rotate) => {
+            note_optional(&rotate.client_request_token);
+            note_optional(&rotate.rotation_lambda_arn);
+            note_text(&rotate.secret_id);
+        }
+        Request::CancelRotateSecret(cancel) => note_text(&cancel.secret_id),
         _ => {}
     }
 }

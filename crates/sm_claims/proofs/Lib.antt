@@ -1,0 +1,5 @@
+pub mod PlaceLemmas
+pub mod ReadyLemmas
+pub mod DueLemmas
+pub mod WorkLemmas
+pub mod ArnLemmas
