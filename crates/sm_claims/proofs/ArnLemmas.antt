@@ -20,7 +20,7 @@ use Rattle.sm_table.proofs.FoundLaws.{IsIn}
 use Rattle.sm_table.proofs.LookUpLaws.{name_of_arn}
 use Rattle.sm_claims.specs.Due.{first_due}
 
-sound_in : (rows : List SecretRow) (row : SecretRow) → EachSound rows → IsIn rows row → RowSound row
+pub sound_in : (rows : List SecretRow) (row : SecretRow) → EachSound rows → IsIn rows row → RowSound row
 sound_in [] row each i = absurd i
 sound_in (r ∷ rows) row each (inl same) = subst RowSound same each.0
 sound_in (r ∷ rows) row each (inr i) = sound_in rows row each.1 i
@@ -55,7 +55,7 @@ apart r rows row names each i =
       | inr other ↦ other.0
     ]
 
-found_in : (rows : List SecretRow) (moment : Moment) (row : SecretRow) → IsTrue (once (row_names rows))
+pub found_in : (rows : List SecretRow) (moment : Moment) (row : SecretRow) → IsTrue (once (row_names rows))
     → EachSound rows → IsIn rows row → is_gone row moment ≡ false
     → row_with_arn (swept rows moment) row.arn ≡ Some row
 found_in [] moment row names each i stays = absurd i
@@ -88,7 +88,7 @@ due_in (r ∷ rows) moment token row e = by (is_due_for r moment token) refl e (
         let same : r ≡ row = cc in (ap (λ q. is_due_for q moment token) (sym same) ∙ sym is, inl same)
     by false is some later = let rest = later some in (rest.0, inr rest.1)
 
-not_deleted : (row : SecretRow) (moment : Moment) (deletion : Option Moment) → is_none deletion ≡ true
+pub not_deleted : (row : SecretRow) (moment : Moment) (deletion : Option Moment) → is_none deletion ≡ true
     → is_reached deletion moment ≡ false
 not_deleted row moment None h = refl
 not_deleted row moment (Some date) h = absurd (cc)

@@ -3,3 +3,5 @@ pub mod ReadyLemmas
 pub mod DueLemmas
 pub mod WorkLemmas
 pub mod ArnLemmas
+pub mod FreshLemmas
+pub mod HeldLemmas
