@@ -4,3 +4,4 @@ pub mod MarkLemmas
 pub mod KeptLemmas
 pub mod SoundLemmas
 pub mod VouchedLemmas
+pub mod AttemptLemmas

@@ -190,7 +190,7 @@ reading_is_date moment h = grind (arith, nat_tests)
 soon_is_date : (n more : ℕ) → n ≤ LAST_READING → more ≤ 86_400 → is_date (record { 0 = n + more }) ≡ true
 soon_is_date n more h k = grind (arith, nat_tests)
 
-next_is_date : (days : Option ℕ) (moment : Moment) → moment.0 ≤ LAST_READING → fits are_days days ≡ true
+pub next_is_date : (days : Option ℕ) (moment : Moment) → moment.0 ≤ LAST_READING → fits are_days days ≡ true
     → fits is_rotation_date (option_map (days_after moment) days) ≡ true
 next_is_date None moment h k = refl
 next_is_date (Some days) moment h k = grind (arith, nat_tests)

@@ -27,7 +27,7 @@ no_attempt test (Some a) h = absurd (cc)
 
 -- ---- versions
 
-vouched_push : (replies : Replies) (arn : List ℕ) (vs : List VersionRow) (w : VersionRow)
+pub vouched_push : (replies : Replies) (arn : List ℕ) (vs : List VersionRow) (w : VersionRow)
     → each_vouched replies arn vs ≡ true → is_vouched replies arn w ≡ true
     → each_vouched replies arn (vs ++ w ∷ []) ≡ true
 vouched_push replies arn [] w each new = and_from _ _ new refl
@@ -42,7 +42,7 @@ empty_forgets replies arn id None None empty h = refl
 empty_forgets replies arn id None (Some attempt) empty h = absurd (false≢true h)
 empty_forgets replies arn id (Some value) rotated empty h = absurd (cc)
 
-vouched_filled : (replies : Replies) (arn : List ℕ) (vs : List VersionRow) (id : List ℕ) (value : Value)
+pub vouched_filled : (replies : Replies) (arn : List ℕ) (vs : List VersionRow) (id : List ℕ) (value : Value)
     → has_value vs id ≡ false → each_vouched replies arn vs ≡ true
     → each_vouched replies arn (filled vs id value) ≡ true
 vouched_filled replies arn [] id value empty each = refl

@@ -1,0 +1,66 @@
+-- A secret with another rotation or another job: what has to hold of them so that it stays sound.
+use Rattle.std.proofs.Common.{◌≡◌, ◌&&◌, Option, Some, None, IfSome, IsTrue}
+use Rattle.std.proofs.lemmas.Bool.{and_parts, and_from}
+use Rattle.std.proofs.lemmas.Option.{IfSome_then}
+use Rattle.sm_model.specs.declared.rows.Job.{Job}
+use Rattle.sm_model.specs.declared.rows.Rotation.{Rotation}
+use Rattle.sm_model.specs.declared.rows.SecretRow.{SecretRow}
+use Rattle.sm_model.specs.Bounds.{fits, is_description, are_days, is_date, is_rotation_date}
+use Rattle.sm_versions.specs.Kept.{JobFits}
+use Rattle.sm_versions.specs.Sound.{is_rotation, is_job, UnsettledSound}
+
+-- each part of a rotation fits
+pub record RotationFits (rotation : Rotation) : Type 0 where
+  pub lambda : IsTrue (fits is_description rotation.lambda)
+  pub days : IsTrue (fits are_days rotation.days)
+  pub next : IsTrue (fits is_rotation_date rotation.next)
+  pub last : IsTrue (fits is_date rotation.last)
+
+pub parts_of : (rotation : Rotation) → IsTrue (is_rotation rotation) → RotationFits rotation
+parts_of rotation fit =
+    let last = and_parts _ (fits is_date rotation.last) fit in
+    let next = and_parts _ (fits is_rotation_date rotation.next) last.0 in
+    let parts = and_parts (fits is_description rotation.lambda) (fits are_days rotation.days) next.0 in
+    record { lambda = parts.0; days = parts.1; next = next.1; last = last.1 }
+
+pub of_parts : (rotation : Rotation) → RotationFits rotation → IsTrue (is_rotation rotation)
+of_parts rotation parts = and_from _ _ (and_from _ _ (and_from _ _ parts.lambda parts.days) parts.next) parts.last
+
+-- the row with this rotation and this job
+abbrev pub rerotated : Rotation → Option Job → SecretRow → SecretRow
+rerotated rotation job row = record row { rotation = rotation; job = job }
+
+rerotated_job : (rotation : Rotation) (is : Option Job) (row : SecretRow) (job : Job) → JobFits row job
+    → JobFits (rerotated rotation is row) job
+rerotated_job rotation is row job h =
+    record { first = h.first; last = h.last; tested = h.tested; valued = h.valued }
+
+pub rerotated_sound : (rotation : Rotation) (job : Option Job) (row : SecretRow) → IsTrue (is_rotation rotation)
+    → IfSome job (JobFits row) → IsTrue (fits is_job job) → UnsettledSound row
+    → UnsettledSound (rerotated rotation job row)
+rerotated_sound rotation job row rotates kept fit sound =
+    let v = sound.kept.versions in
+    let f = sound.fits in
+    record {
+      kept = record {
+        versions = record { once = v.once; named = v.named; ids = v.ids; serials = v.serials; current = v.current };
+        job = IfSome_then job kept (λ j. rerotated_job rotation job row j);
+      };
+      fits = record {
+        arn = f.arn;
+        description = f.description;
+        kms = f.kms;
+        tag_count = f.tag_count;
+        tags = f.tags;
+        tag_once = f.tag_once;
+        policy = f.policy;
+        version_count = f.version_count;
+        versions = f.versions;
+        labels = f.labels;
+        created = f.created;
+        changed = f.changed;
+        deletion = f.deletion;
+        rotation = rotates;
+        job = fit;
+      };
+    }
