@@ -1,115 +1,97 @@
 -- How the books go on when a request is handled.
-use Rattle.std.proofs.Common.{◌≡◌, ℕ, ◌≤◌, [], ◌∷◌, ◌++◌, Option, Some, None, refl, sym, ap, ◌∙◌, subst, append-nil, arith}
-use Rattle.sm_base.specs.Faults.{Rose}
+use Rattle.std.proofs.Common.{◌≡◌, ℕ, Bool, true, false, cond, Option, Some, None, refl, sym, ap, subst}
+use Rattle.std.specs.Prelude.{◌+◌, nat_le, nat_lt, if◌then◌else◌}
 use Rattle.sm_base.specs.Outcomes.{OrMemory}
 use Rattle.sm_base.specs.declared.moment.Moment.{Moment}
 use Rattle.sm_disk.specs.declared.disk.Disk.{Ghosts}
 use Rattle.sm_model.specs.declared.entry.Entry.{Entry as entries}
-use Rattle.sm_model.specs.declared.entry.Mark.TheVariants.{Entry, Fault}
+use Rattle.sm_model.specs.declared.limits.TheConstants.{ENTRIES_LIMIT}
 use Rattle.sm_model.specs.declared.reply.Reply.{Reply}
+use Rattle.sm_model.specs.declared.why.What.TheVariants.{Entries, JournalBytes}
 use Rattle.sm_model.specs.declared.why.Why.{Why}
+use Rattle.sm_model.specs.declared.why.Why.TheVariants.{Limit}
 use Rattle.sm_judging.specs.declared.judged.Judged.{Judged}
 use Rattle.sm_judging.specs.declared.judged.Judged.TheVariants as judged
 use Rattle.sm_judging.specs.Judged.{judged_told}
 use Rattle.sm_account.specs.declared.books.Books.{Books}
+use Rattle.sm_account.specs.declared.entering.Entered.TheVariants as ends
+use Rattle.sm_account.specs.declared.entering.Passed.{Passed}
 use Rattle.sm_account.specs.declared.handled.Handled.{Handled}
 use Rattle.sm_account.specs.declared.handled.Handled.TheVariants.{Answered, Refused, DiskFault, Memory}
-use Rattle.sm_account.specs.Books.{SameOrigin, all_entries, disk_in, history_in, state_in}
-use Rattle.sm_account.specs.Crashes.{Throughout}
+use Rattle.sm_account.specs.Books.{state_in}
+use Rattle.sm_account.specs.Deeds.{Leaves, Nothing, Made, Failed}
 use Rattle.sm_account.specs.Growing.{SameButRoom}
-use Rattle.sm_account.specs.Handled.{marks_of, entry_tried}
-use Rattle.sm_account.specs.Handling.{Handles, StaysAfter, LeavesTried}
-use Rattle.sm_account.specs.History.{by_seat, entries_in}
+use Rattle.sm_account.specs.Handling.{Handles, handled_by}
+use Rattle.sm_account.specs.Limits.{EntersAs, passed_at, why_passed}
 use Rattle.sm_account.specs.Outcome.{Outcome, Refuses, Replies, Question, considered, entry_at, moment_at, limit_passed, outcome, outcome_judged, outcome_within}
-use Rattle.sm_account.specs.States.{State}
+use Rattle.sm_account.specs.States.{State, size_of}
+use Rattle.sm_account.proofs.DeedLemmas.{nothing_done, behind_room}
 
 module _ {D : Type 0} {G : Ghosts D} (books : Books D G) (seat : ℕ) where
-  same_origin : SameOrigin books books
-  same_origin = record { taken = refl; began = refl; limit = refl }
-
-  no_mark : history_in books ≡ history_in books ++ []
-  no_mark = sym (append-nil (history_in books))
-
   -- nothing was done
   pub refused_as : (why : Why) → Handles G books books seat (Refused why) (Refuses why)
-  refused_as why = record {
-    answer = refl;
-    history = no_mark;
-    origin = same_origin;
-    stays = (refl, refl);
-    any_moment = refl;
-    acknowledged = tt;
-    later = omega arith;
-    fault = tt;
-  }
+  refused_as why = record { answer = refl; leaves = nothing_done books seat }
 
   pub read_as : (reply : Reply) → Handles G books books seat (Answered reply) (Replies reply None)
-  read_as reply = record {
-    answer = refl;
-    history = no_mark;
-    origin = same_origin;
-    stays = tt;
-    any_moment = refl;
-    acknowledged = tt;
-    later = omega arith;
-    fault = tt;
-  }
+  read_as reply = record { answer = refl; leaves = nothing_done books seat }
 
   pub wanted_memory : (wanted : Outcome) → Handles G books books seat Memory wanted
-  wanted_memory wanted = record {
-    answer = tt;
-    history = no_mark;
-    origin = same_origin;
-    stays = (refl, refl);
-    any_moment = refl;
-    acknowledged = tt;
-    later = omega arith;
-    fault = tt;
-  }
+  wanted_memory wanted = record { answer = tt; leaves = nothing_done books seat }
 
-  -- an entry would have passed a limit
-  pub limited_as : (why : Why) (reply : Reply) (entry : entries) → Some why ≡ limit_passed (state_in books) entry
-      → Handles G books books seat (Refused why) (outcome_within (limit_passed (state_in books) entry) reply entry)
-  limited_as why reply entry is =
-      subst (λ limit. Handles G books books seat (Refused why) (outcome_within limit reply entry)) is (refused_as why)
+-- the limit that is passed is the cause of the refusal
+limits_same : (state : State) (entry : entries) → limit_passed state entry ≡ why_passed (passed_at state entry)
+limits_same state entry = by (nat_le ENTRIES_LIMIT state.made) (nat_lt state.limit (state.bytes + size_of entry))
+  where
+    by : (a b : Bool)
+        → (if a then Some (Limit ENTRIES_LIMIT Entries)
+        else (if b then Some (Limit state.limit JournalBytes) else None))
+        ≡ why_passed (if a then Some (record { limit = ENTRIES_LIMIT; what = Entries })
+        else (if b then Some (record { limit = state.limit; what = JournalBytes }) else None))
+    by true b = refl
+    by false true = refl
+    by false false = refl
 
--- an entry passed no limit, and was made or met a fault
-module _ {D : Type 0} {G : Ghosts D} (old new : Books D G) (seat : ℕ) (reply : Reply) (entry : entries)
-    (origin : SameOrigin old new)
-    (leaves : Throughout G (all_entries old) old.failed.value entry (disk_in old) (disk_in new))
-    (later : G.faults (disk_in old) ≤ G.faults (disk_in new))
-    (within : None ≡ limit_passed (state_in old) entry) where
-  there : (result : Handled) → Handles G old new seat result (Replies reply (Some entry))
+-- an entry was made, or met a fault, or would have passed a limit
+module _ {D : Type 0} {G : Ghosts D} (old new : Books D G) (seat : ℕ) (reply : Reply) (entry : entries) where
+  there : (result : Handled)
+      → Handles G old new seat result (outcome_within (why_passed (passed_at (state_in old) entry)) reply entry)
       → Handles G old new seat result (outcome_within (limit_passed (state_in old) entry) reply entry)
-  there result handles = subst (λ limit. Handles G old new seat result (outcome_within limit reply entry)) within
-      handles
+  there result handles =
+      subst (λ limit. Handles G old new seat result (outcome_within limit reply entry))
+      (sym (limits_same (state_in old) entry)) handles
 
-  pub made_as : history_in new ≡ history_in old ++ (seat, Entry entry) ∷ [] → new.failed.value ≡ None
+  made_within : (passed : Option Passed) → EntersAs ends.Made passed → Leaves G old new seat (Made entry)
+      → Handles G old new seat (Answered reply) (outcome_within (why_passed passed) reply entry)
+  made_within None is leaves = record { answer = refl; leaves = leaves }
+  made_within (Some passed) is leaves = absurd is
+
+  faulted_within : (passed : Option Passed) → EntersAs ends.DiskFault passed → Leaves G old new seat (Failed entry)
+      → Handles G old new seat DiskFault (outcome_within (why_passed passed) reply entry)
+  faulted_within None is leaves = record { answer = tt; leaves = leaves }
+  faulted_within (Some passed) is leaves = absurd is
+
+  over_within : (over : Passed) (passed : Option Passed) → EntersAs (ends.Over over) passed
+      → Leaves G old new seat Nothing
+      → Handles G old new seat (Refused (Limit over.limit over.what))
+      (outcome_within (why_passed passed) reply entry)
+  over_within over None is leaves = absurd is
+  over_within over (Some passed) is leaves =
+      record { answer = ap (λ (p : Passed). Limit p.limit p.what) is; leaves = leaves }
+
+  pub made_as : EntersAs ends.Made (passed_at (state_in old) entry) → Leaves G old new seat (Made entry)
       → Handles G old new seat (Answered reply) (outcome_within (limit_passed (state_in old) entry) reply entry)
-  made_as history sure = there (Answered reply) (record {
-    answer = refl;
-    history = history;
-    origin = origin;
-    stays = tt;
-    any_moment = leaves;
-    acknowledged = sure;
-    later = later;
-    fault = tt;
-  })
+  made_as is leaves = there (Answered reply) (made_within (passed_at (state_in old) entry) is leaves)
 
-  pub faulted_as : history_in new ≡ history_in old ++ (seat, Fault) ∷ [] → state_in new ≡ state_in old
-      → Rose (G.faults (disk_in old)) (G.faults (disk_in new))
+  pub faulted_as : EntersAs ends.DiskFault (passed_at (state_in old) entry) → Leaves G old new seat (Failed entry)
       → Handles G old new seat DiskFault (outcome_within (limit_passed (state_in old) entry) reply entry)
-  faulted_as history state rose = there DiskFault (record {
-    answer = tt;
-    history = history;
-    origin = origin;
-    stays = state;
-    any_moment = leaves;
-    acknowledged = tt;
-    later = later;
-    fault = rose;
-  })
+  faulted_as is leaves = there DiskFault (faulted_within (passed_at (state_in old) entry) is leaves)
+
+  pub limited_as : (over : Passed) → EntersAs (ends.Over over) (passed_at (state_in old) entry)
+      → Leaves G old new seat Nothing
+      → Handles G old new seat (Refused (Limit over.limit over.what))
+      (outcome_within (limit_passed (state_in old) entry) reply entry)
+  limited_as over is leaves =
+      there (Refused (Limit over.limit over.what)) (over_within over (passed_at (state_in old) entry) is leaves)
 
 -- what was judged is the outcome
 module _ (state : State) (q : Question) where
@@ -138,30 +120,7 @@ module _ {D : Type 0} {G : Ghosts D} (old mid new : Books D G) (seat : ℕ) (roo
   -- room for a mark changes nothing that is told
   pub after_room : (result : Handled) (wanted : Outcome) → Handles G mid new seat result wanted
       → Handles G old new seat result wanted
-  after_room result wanted h =
-      let r : Handles G (record old { marks = mid.marks }) new seat result wanted =
-      subst (λ b. Handles G b new seat result wanted) room.rest h in
-      record {
-        answer = r.answer;
-        history = r.history ∙ ap (λ h. h ++ by_seat seat (marks_of result wanted)) room.history;
-        origin = record { taken = r.origin.taken; began = r.origin.began; limit = r.origin.limit };
-        stays = stays_at result r.stays;
-        any_moment = leaves_at (entry_tried result wanted) r.any_moment;
-        acknowledged = r.acknowledged;
-        later = r.later;
-        fault = r.fault;
-      }
-    where
-      stays_at : (result : Handled) → StaysAfter result (record old { marks = mid.marks }) new
-          → StaysAfter result old new
-      stays_at (Answered reply) stays = stays
-      stays_at (Refused why) stays = stays
-      stays_at DiskFault stays = stays
-      stays_at Memory stays = stays
-
-      leaves_at : (tried : Option entries) → LeavesTried G tried (record old { marks = mid.marks }) new
-          → LeavesTried G tried old new
-      leaves_at None leaves = leaves
-      leaves_at (Some own) leaves =
-          subst (λ all. Throughout G all old.failed.value own (disk_in old) (disk_in new))
-          (ap (λ h. old.taken.value ++ entries_in h) room.history) leaves
+  after_room result wanted h = record {
+    answer = h.answer;
+    leaves = behind_room old mid new seat room (handled_by result wanted) h.leaves;
+  }

@@ -19,9 +19,11 @@ use Rattle.sm_store.specs.Stores as stores
 use Rattle.sm_account.specs.declared.books.Books.{Books}
 use Rattle.sm_account.specs.declared.writing.Written.TheVariants as written
 use Rattle.sm_account.specs.Books.{count_limit, IsLegal, MayFollow, MayFollowIf, history_in, disk_in, all_entries, base_in, state_in, Kept, IsDueAt}
+use Rattle.sm_account.specs.Claims.{ClaimsReady, ClaimsReadyStep}
 use Rattle.sm_account.specs.History.{entries_in, faults_in}
 use Rattle.sm_account.specs.States.{first_moment, base_of, State, state_at, state_with}
 use Rattle.sm_account.specs.Writing.{WritesAs}
+use Rattle.sm_account.proofs.ClaimLaws.{claims_more}
 use Rattle.sm_account.proofs.StateLaws.{entries_more, faults_more, replay_joined, last_joined, state_more, state_faulted, legal_more}
 
 module _ {D : Type 0} {G : Ghosts D} (books : Books D G) (kept : Kept G books) where
@@ -56,6 +58,16 @@ pub record Continues {D : Type 0} {G : Ghosts D} (old new : Books D G) (seat : �
   pub history : new.marks.items ≡ old.marks.items ++ (seat, mark) ∷ []
 
 module _ {D : Type 0} {G : Ghosts D} (old new : Books D G) (seat : ℕ) (kept : Kept G old) where
+  -- each claim is still of the step that was ready
+  claims_go_on : (mark : Mark) → Continues old new seat mark → ClaimsReadyStep (base_in old) (history_in old) mark
+      → ∥ ClaimsReady (base_in new) (history_in new) ∥₁
+  claims_go_on mark goes ready =
+      let base : base_in new ≡ base_in old = ap (λ t. base_of t new.limit) goes.taken
+      ∙ ap (base_of old.taken.value) goes.limit in
+      subst (λ b. ∥ ClaimsReady b (history_in new) ∥₁) (sym base)
+      (subst (λ h. ∥ ClaimsReady (base_in old) h ∥₁) (sym goes.history)
+      (∥∥₁_map kept.claims (λ claims. claims_more (base_in old) [] (history_in old) seat mark claims ready)))
+
   module _ (entry : entries) (ready : List ℕ) (change : Change) (due : IsDueAt old entry ready change)
       (goes : Continues old new seat (Entry entry)) where
     all_more : all_entries new ≡ all_entries old ++ entry ∷ []
@@ -112,6 +124,7 @@ module _ {D : Type 0} {G : Ghosts D} (old new : Books D G) (seat : ℕ) (kept : 
               (may_follow old kept entry due.later due.legal)));
           next = subst (λ f. ∥ MayFollowIf (all_entries new) f ∥₁) (sym none) ∣ tt ∣₁;
           faults = faults_new;
+          claims = claims_go_on (Entry entry) goes tt;
         }
 
   -- the disk failed, and the history has one fault more
@@ -161,4 +174,5 @@ module _ {D : Type 0} {G : Ghosts D} (old new : Books D G) (seat : ℕ) (kept : 
           legal = subst (λ all. ∥ IsLegal all ∥₁) (sym all_same) kept.legal;
           next = subst (λ all. ∥ MayFollowIf all new.failed.value ∥₁) (sym all_same) next;
           faults = faults_risen;
+          claims = claims_go_on Fault goes tt;
         }

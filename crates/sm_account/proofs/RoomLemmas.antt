@@ -16,6 +16,7 @@ use Rattle.sm_store.specs.Stores as stores
 use Rattle.sm_account.specs.declared.books.Books.{Books}
 use Rattle.sm_account.specs.declared.due.Due.{Due}
 use Rattle.sm_account.specs.Books.{FaultsBound, IsLegal, MayFollowIf, Kept, all_entries, base_in, disk_in, state_in}
+use Rattle.sm_account.specs.Claims.{ClaimsReady}
 use Rattle.sm_account.specs.Growing.{IsGrown, SameButRoom}
 use Rattle.sm_account.specs.Handling.{LimitsAside}
 use Rattle.sm_account.specs.History.{entries_in}
@@ -48,6 +49,7 @@ module _ {D : Type 0} {G : Ghosts D} (old mid : Books D G) (room : SameButRoom o
         next = subst (λ all. ∥ MayFollowIf all old.failed.value ∥₁) (sym all_is) kept.next;
         faults = subst (λ h. FaultsBound (G.faults old.began.value) h (G.faults (disk_in old))) (sym room.history)
             kept.faults;
+        claims = subst (λ h. ∥ ClaimsReady (base_in old) h ∥₁) (sym room.history) kept.claims;
       } in
       subst (Kept G) (sym room.rest) same
 

@@ -1,6 +1,7 @@
 -- How the state goes on with the history.
 use Rattle.std.proofs.Common.{◌≡◌, ℕ, ◌+◌, ◌≤◌, List, [], ◌∷◌, ◌++◌, length, refl, ap, ◌∙◌, append-nil, length-append, arith}
 use Rattle.sm_base.specs.declared.moment.Moment.{Moment}
+use Rattle.sm_model.specs.declared.entry.At.{At}
 use Rattle.sm_model.specs.declared.entry.Entry.{Entry as entries}
 use Rattle.sm_model.specs.declared.entry.Mark.{Mark}
 use Rattle.sm_model.specs.declared.entry.Mark.TheVariants.{Entry, Claim, Fault}
@@ -58,11 +59,16 @@ pub state_more : (base : Base) (history : List (ℕ × Mark)) (seat : ℕ) (entr
 state_more base history seat entry =
     ap (state_after base) (entries_more history seat (Entry entry)) ∙ after_more base (entries_in history) entry
 
--- the state at a history with a fault more
+-- the state at a history with a fault or a claim more
 pub state_faulted : (base : Base) (history : List (ℕ × Mark)) (seat : ℕ)
     → state_at base (history ++ (seat, Fault) ∷ []) ≡ state_at base history
 state_faulted base history seat =
     ap (state_after base) (entries_more history seat Fault ∙ append-nil (entries_in history))
+
+pub state_claimed : (base : Base) (history : List (ℕ × Mark)) (seat : ℕ) (arn : List ℕ) (at : At) (moment : Moment)
+    → state_at base (history ++ (seat, Claim arn at moment) ∷ []) ≡ state_at base history
+state_claimed base history seat arn at moment =
+    ap (state_after base) (entries_more history seat (Claim arn at moment) ∙ append-nil (entries_in history))
 
 -- a legal list with one entry more that may follow
 pub legal_more : (rows : Rows) (before : Moment) (a : List entries) (entry : entries) → Legal rows before a

@@ -15,6 +15,7 @@ use Rattle.sm_journal.specs.Records.{body_limit}
 use Rattle.sm_store.specs.Entries.{Spells}
 use Rattle.sm_store.specs.Stores as stores
 use Rattle.sm_account.specs.declared.books.Books.{Books}
+use Rattle.sm_account.specs.Claims.{ClaimsReady}
 use Rattle.sm_account.specs.History.{entries_in, faults_in}
 use Rattle.sm_account.specs.States.{Base, base_of, State, state_at, first_moment, size_of}
 
@@ -65,8 +66,8 @@ abbrev pub FaultsBound : ℕ → List (ℕ × Mark) → ℕ → Type 0
 FaultsBound began history now = min (began + faults_in history) count_limit ≤ now
 
 -- What always holds: the rows are sound; the state is that at the history; each image of the disk recovers to all
--- entries, or while the tail is unsure to these or these and the one whose write failed last; all this is legal; and
--- the history has at most as many faults as the disk's count rose by.
+-- entries, or while the tail is unsure to these or these and the one whose write failed last; all this is legal; the
+-- history has at most as many faults as the disk's count rose by; and each claim is of the step that was ready.
 pub record Kept {D : Type 0} (G : Ghosts D) (books : Books D G) : Type 0 where
   pub sound : Sound books.table
   pub bound : books.last.0 ≤ LAST_READING
@@ -81,6 +82,7 @@ pub record Kept {D : Type 0} (G : Ghosts D) (books : Books D G) : Type 0 where
   pub legal : ∥ IsLegal (all_entries books) ∥₁
   pub next : ∥ MayFollowIf (all_entries books) books.failed.value ∥₁
   pub faults : FaultsBound (G.faults books.began.value) (history_in books) (G.faults (disk_in books))
+  pub claims : ∥ ClaimsReady (base_in books) (history_in books) ∥₁
 
 -- what the books began with stays
 pub record SameOrigin {D : Type 0} {G : Ghosts D} (old new : Books D G) : Type 0 where

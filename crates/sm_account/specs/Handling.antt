@@ -1,6 +1,5 @@
 -- How the books go on when a request is handled.
-use Rattle.std.specs.Prelude.{◌≡◌, ℕ, ◌≤◌, ◌++◌, length, Option, Some, None, ⊤}
-use Rattle.sm_base.specs.Faults.{Rose}
+use Rattle.std.specs.Prelude.{◌≡◌, ℕ, ◌≤◌, length, Some, None, ⊤}
 use Rattle.sm_base.specs.declared.moment.TheConstants.{LAST_READING}
 use Rattle.sm_disk.specs.declared.disk.Disk.{Ghosts}
 use Rattle.sm_journal.specs.Records.{body_limit}
@@ -10,16 +9,24 @@ use Rattle.sm_table.specs.Sound.{ChangeSound}
 use Rattle.sm_table.specs.Sweep.{sweep}
 use Rattle.sm_core.specs.Effects.{Makes}
 use Rattle.sm_core.specs.Histories.{LegalAct}
+use Rattle.sm_sizes.specs.Spellable.{IsSpellable}
 use Rattle.sm_store.specs.Entries.{Spells}
 use Rattle.sm_account.specs.declared.books.Books.{Books}
 use Rattle.sm_account.specs.declared.due.Due.{Due}
 use Rattle.sm_account.specs.declared.handled.Handled.{Handled}
 use Rattle.sm_account.specs.declared.handled.Handled.TheVariants.{Answered, Refused, DiskFault, Memory}
-use Rattle.sm_account.specs.Books.{all_entries, disk_in, history_in, state_in, SameOrigin}
-use Rattle.sm_account.specs.Crashes.{Throughout}
-use Rattle.sm_account.specs.Handled.{HandledAs, marks_of, entry_tried, OnDiskFault}
-use Rattle.sm_account.specs.History.{by_seat}
+use Rattle.sm_account.specs.Books.{state_in}
+use Rattle.sm_account.specs.Deeds.{Deed, Nothing, Made, Failed, Leaves, LeavesTried}
+use Rattle.sm_account.specs.Handled.{HandledAs, entry_tried}
 use Rattle.sm_account.specs.Outcome.{Outcome, Refuses, Replies}
+
+-- An entry that is legal at the books' rows and has a spelling that is not too long for a record.
+pub record MayEnter {D : Type 0} {G : Ghosts D} (books : Books D G) (entry : Entry) : Type 0 where
+  pub legal : LegalAct books.table entry.moment entry.drawn entry.act
+  pub later : books.last.0 ≤ entry.moment.0
+  pub bound : entry.moment.0 ≤ LAST_READING
+  pub key : length entry.caller ≤ 256
+  pub act : IsSpellable entry.drawn entry.act
 
 -- An entry is due at the books, limits aside, and all its memory is there.
 pub record LimitsAside {D : Type 0} {G : Ghosts D} (books : Books D G) (due : Due) : Type 0 where
@@ -43,12 +50,7 @@ module _ {D : Type 0} {G : Ghosts D} where
   StaysAfter DiskFault old new = state_in new ≡ state_in old
   StaysAfter Memory old new = (state_in new ≡ state_in old) × (new.store ≡ old.store)
 
--- What a crash at any moment of the call leaves: where an entry was tried, what `Throughout` says of it, and else the
--- store was not touched.
-abbrev pub LeavesTried : {D : Type 0} (G : Ghosts D) → Option Entry → Books D G → Books D G → Type 0
-LeavesTried G None old new = new.store ≡ old.store
-LeavesTried G (Some own) old new = Throughout G (all_entries old) old.failed.value own (disk_in old) (disk_in new)
-
+-- What a crash at any moment of the call leaves.
 abbrev pub LeavesBy : {D : Type 0} (G : Ghosts D) → Handled → Outcome → Books D G → Books D G → Type 0
 LeavesBy G result wanted old new = LeavesTried G (entry_tried result wanted) old new
 
@@ -61,15 +63,14 @@ Acknowledges (Refused why) outcome new = ⊤
 Acknowledges DiskFault outcome new = ⊤
 Acknowledges Memory outcome new = ⊤
 
--- The answer is the outcome's; the history grows by its mark; what the books began with stays; and so does the rest
--- where it is to stay.
+-- what an answer did with the entry of the outcome
+abbrev pub handled_by : Handled → Outcome → Deed
+handled_by (Answered reply) (Replies wanted (Some entry)) = Made entry
+handled_by DiskFault (Replies reply (Some entry)) = Failed entry
+handled_by answer outcome = Nothing
+
+-- The answer is the outcome's, and the books go on by what it did.
 pub record Handles {D : Type 0} (G : Ghosts D) (old new : Books D G) (seat : ℕ) (result : Handled) (wanted : Outcome)
     : Type 0 where
   pub answer : HandledAs result wanted
-  pub history : history_in new ≡ history_in old ++ by_seat seat (marks_of result wanted)
-  pub origin : SameOrigin old new
-  pub stays : StaysAfter result old new
-  pub any_moment : LeavesBy G result wanted old new
-  pub acknowledged : Acknowledges result wanted new
-  pub later : G.faults (disk_in old) ≤ G.faults (disk_in new)
-  pub fault : OnDiskFault result (Rose (G.faults (disk_in old)) (G.faults (disk_in new)))
+  pub leaves : Leaves G old new seat (handled_by result wanted)

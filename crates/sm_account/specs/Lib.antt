@@ -1,5 +1,6 @@
 pub mod History
 pub mod States
+pub mod Claims
 pub mod Outcome
 pub mod Handled
 pub mod Crashes
@@ -8,9 +9,16 @@ pub mod KeptOnce
 pub mod Writing
 pub mod Making
 pub mod Growing
-pub mod Texts
+pub mod Deeds
+pub mod Limits
 pub mod Handling
+pub mod Efforts
+pub mod NextWork
+pub mod StartDue
+pub mod Report
+pub mod Allowed
 pub mod Replaying
 pub mod Values
 pub mod Accounts
+pub mod Spells
 pub mod Openings

@@ -1,25 +1,31 @@
 //! The account.
+ghost use Rattle.sm_account.specs.Allowed.{EntriesAllowed};
 ghost use Rattle.sm_account.specs.Books.{Kept};
 ghost use Rattle.sm_account.specs.KeptOnce.{Kept-prop};
 
 use crate::books::Books;
 use crate::handled::Handled;
 use crate::handling::handle;
+use crate::next_work::{NextWork, next_work};
+use crate::report::{Reported, report};
+use crate::start_due::{StartedDue, start_due};
+use sm_claims::has_due;
 use sm_disk::Disk;
 use sm_model::{Label, Moment, Person, Request, SecretId, Value};
-use sm_rotator::Rotator;
+use sm_rotator::{Rotator, Verdict};
 use sm_table::Table;
 use sm_versions::{Found, find};
 use std::marker::PhantomData;
 
 /// All secrets of an account, its entries on a disk, and the history since it was opened. Between any two calls its
-/// books keep what `Kept` says.
+/// books keep what `Kept` says, and each answer that was entered is one that its rotator may give.
 #[derive(Drop)]
 pub struct Account<D: Disk, R: Rotator> {
     books: Books<D>,
     doors: u32,
     rotator: PhantomData<R>,
     ghost kept: { Kept D.Disk books } by { Kept-prop books },
+    ghost allowed: { ∥ EntriesAllowed R.replies books ∥₁ },
 }
 
 impl<D: Disk, R: Rotator> Account<D, R> {
@@ -33,16 +39,23 @@ impl<D: Disk, R: Rotator> Account<D, R> {
     ghost use Rattle.sm_table.specs.Sound.{Sound};
     ghost use Rattle.sm_account.specs.Accounts.{history, base, state, rows, disk, began, taken, all_of, failed, is_unsure, doors, SameOrigin};
     ghost use Rattle.sm_account.specs.Books.{IsLegal, MayFollowIf, FaultsBound};
+    ghost use Rattle.sm_account.specs.Claims.{ClaimsReady, ready_at};
+    ghost use Rattle.sm_account.specs.Deeds.{Leaves};
     ghost use Rattle.sm_account.specs.Handled.{HandledAs, marks_of, OnDiskFault};
     ghost use Rattle.sm_account.specs.History.{by_seat, entries_in};
     ghost use Rattle.sm_account.specs.Handling.{StaysAfter, LeavesBy, Acknowledges};
+    ghost use Rattle.sm_account.specs.NextWork.{NextAs, next_by};
     ghost use Rattle.sm_account.specs.Outcome.{outcome};
+    ghost use Rattle.sm_account.specs.Report.{ReportsAs, report_at, reported_by};
+    ghost use Rattle.sm_account.specs.StartDue.{StartsAs, start_at, started_by};
     ghost use Rattle.sm_account.specs.Values.{value_labelled};
+    ghost use Rattle.sm_claims.specs.Due.{has_due};
     ghost use Rattle.sm_core.specs.Histories.{later, replay, Legal};
 
     /// An account over books of which all holds that is kept.
     pub(crate) fn over(books: Books<D>, doors: u32) -> Account<D, R>
-        requires { Kept D.Disk books }
+        requires kept { Kept D.Disk books }
+        requires allowed { ∥ EntriesAllowed R.replies books ∥₁ }
         ensures books { result.books ≡ books }
         ensures doors { result.doors ≡ doors }
     {
@@ -98,6 +111,56 @@ impl<D: Disk, R: Rotator> Account<D, R> {
         handle(&mut self.books, seat, person, now, drawn, request)
     }
 
+    /// Claims the first step of a rotation that is ready at a reading of the clock, in order of the secrets' creation:
+    /// a step of a live job whose next attempt may be made, and of which no claim is open. A claim ends after 30
+    /// seconds. It gives the work with the values as they stand.
+    pub fn next_work(&mut self, seat: u32, now: Moment) -> NextWork
+        requires { now.0 ≤ LAST_READING }
+
+        // There is a work exactly where a step is ready, and it is of that step; its claim is added to the history.
+        ensures next { NextAs result (ready_at (base self.old) (history self.old) (later (state self.old).last now)) }
+        ensures leaves { Leaves D.Disk self.old.books self.new.books seat
+            (next_by result (later (state self.old).last now)) }
+        ensures origin { SameOrigin self.old self.new }
+    {
+        next_work(&mut self.books, seat, now)
+    }
+
+    /// Whether some rotation is due at a reading of the clock, for a token that no version of its secret has. It takes
+    /// no memory.
+    pub fn has_due(&self, now: Moment) -> bool
+        requires { now.0 ≤ LAST_READING }
+        ensures { result ≡ has_due (rows self.now).secrets (later (state self.now).last now) }
+    {
+        let moment = Moment(self.books.last.0.max(now.0));
+        has_due(&self.books.table, moment)
+    }
+
+    /// Starts the first rotation that is due at a reading of the clock for the token of these random bytes, in order of
+    /// the secrets' creation. The entry is written to the disk before its change is made.
+    pub fn start_due(&mut self, seat: u32, now: Moment, drawn: &[u8; 16]) -> StartedDue
+        requires { now.0 ≤ LAST_READING }
+        ensures starts { StartsAs result (start_at (state self.old) now drawn.now) }
+        ensures leaves { Leaves D.Disk self.old.books self.new.books seat
+            (started_by result (start_at (state self.old) now drawn.now)) }
+        ensures origin { SameOrigin self.old self.new }
+    {
+        start_due(&mut self.books, seat, now, drawn)
+    }
+
+    /// Enters what a rotator answered to its work, at a reading of the clock. A verdict on a step that is past is stale,
+    /// and so is one on a secret or a version that is gone, or that has another value by now. A value of more than 65,536
+    /// bytes is entered as a failure.
+    pub fn report(&mut self, seat: u32, now: Moment, verdict: &Verdict<R>) -> Reported
+        requires { now.0 ≤ LAST_READING }
+        ensures reports { ReportsAs result (report_at (state self.old) now verdict.now.work verdict.now.answer) }
+        ensures leaves { Leaves D.Disk self.old.books self.new.books seat
+            (reported_by result (report_at (state self.old) now verdict.now.work verdict.now.answer)) }
+        ensures origin { SameOrigin self.old self.new }
+    {
+        report(&mut self.books, seat, now, verdict.work(), verdict.answer())
+    }
+
     /// What always holds of an account. It takes no memory, and does nothing.
     pub fn standing(&self)
         // Each image of the disk recovers to all entries, or while the tail is unsure to these, or to these and the
@@ -113,6 +176,13 @@ impl<D: Disk, R: Rotator> Account<D, R> {
         ensures next { ∥ MayFollowIf (all_of self.now) (failed self.now) ∥₁ }
         ensures rows { rows self.now ≡ replay (base self.now).rows (entries_in (history self.now)) }
         ensures sound { Sound (rows self.now) }
+
+        // Each claim is of the step that was ready before it.
+        ensures claims { ∥ ClaimsReady (base self.now) (history self.now) ∥₁ }
+
+        // Each answer that was entered is one that the rotator may give where it accepts a test. So if it was so of the
+        // recovered rows, each attempt that a secret remembers is one at which the test was accepted.
+        ensures allowed { ∥ EntriesAllowed R.replies self.now.books ∥₁ }
 
         // There are at most as many faults in the history as the disk's count rose by since the opening.
         ensures faults { FaultsBound (D.faults (began self.now)) (history self.now) (D.faults (disk self.now)) }

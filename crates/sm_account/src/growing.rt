@@ -5,20 +5,21 @@ ghost use Rattle.sm_core.specs.Effects.{entry_of};
 ghost use Rattle.sm_core.specs.Judging.{is_reading};
 ghost use Rattle.sm_forms.specs.Forms.{forms_of};
 ghost use Rattle.sm_model.specs.Needed.{needed};
+ghost use Rattle.sm_sizes.specs.Spellable.{IsSpellable};
+ghost use Rattle.sm_sizes.specs.Texts.{HasFewTags};
 ghost use Rattle.sm_table.specs.Changes.{CanMake};
 ghost use Rattle.sm_account.specs.Growing.{IsGrown, SameButRoom};
-ghost use Rattle.sm_account.specs.Texts.{HasFewTags};
 
 use crate::books::Books;
 use crate::due::Due;
-use crate::spelling::spell;
 use sm_disk::Disk;
 use sm_model::{Act, Bytes, Change, Copied, Entry, Moment, NoMemory, Person, Request};
+use sm_sizes::spell;
 use std::alloc::Global;
 
 /// Takes all the memory that the entry of an accepted request needs: a place in the history, the entry and its
 /// spelling, and what its change needs. The books stay.
-pub fn grow<D: Disk>(
+pub fn grow_request<D: Disk>(
     books: &mut Books<D>,
     person: &Person,
     moment: Moment,
@@ -39,7 +40,21 @@ pub fn grow<D: Disk>(
     ensures same { SameButRoom books.old books.new }
 {
     let entry = make_entry(books.alloc, moment, person, drawn, request)?;
-    let ready = spell(books.alloc, person, request, &entry)?;
+    let due = grow(books, entry, change)?;
+    Ok(due)
+}
+
+/// Takes all the memory that this entry needs. The books stay.
+pub fn grow<D: Disk>(books: &mut Books<D>, entry: Entry, change: Change) -> Result<Due, NoMemory>
+    requires can { CanMake books.old.table change }
+    requires bound { entry.moment.0 ≤ LAST_READING }
+    requires key { length entry.caller ≤ 256 }
+    requires act { IsSpellable entry.drawn entry.act }
+    ensures grown { IfOk result (λ due. IsGrown books.old entry change due) }
+    ensures room { OnOk result (vec_len books.new.marks < vec_capacity books.new.marks) }
+    ensures same { SameButRoom books.old books.new }
+{
+    let ready = spell(books.alloc, &entry)?;
     let prepared = books.table.prepare(change)?;
     books.marks.reserve(1)?;
     Ok(Due {

@@ -1,7 +1,7 @@
 //! Due rotations (AWS Secrets Manager User Guide, "Rotation schedules").
 ghost use Rattle.std.specs.Prelude.{◌≡◌, ◌≤◌, IsTrue, option_copied};
 ghost use Rattle.sm_base.specs.declared.moment.TheConstants.{LAST_READING};
-ghost use Rattle.sm_versions.specs.Due.{is_reached, is_free_or_held_by, is_due_for};
+ghost use Rattle.sm_versions.specs.Due.{is_reached, is_free_or_held_by, is_due, is_due_for};
 ghost use Rattle.sm_rotation.specs.Begin.{begin_answer};
 ghost use Rattle.sm_rotation.specs.declared.starting.Began.TheVariants.{Ok as Begun};
 
@@ -31,9 +31,9 @@ fn is_free_or_held_by(pending: Option<&Token>, current: Option<&Token>) -> bool
     }
 }
 
-/// Whether each thing that is asked of a due rotation holds.
-fn has_each(row: &SecretRow, token: &Token, moment: Moment) -> bool
-    ensures { result ≡ is_due_for row.now moment token.now }
+/// Whether a rotation of the secret is due at the moment, for a token that none of its versions has. It takes no memory.
+pub fn is_due_for_some(row: &SecretRow, moment: Moment) -> bool
+    ensures { result ≡ is_due row.now moment }
 {
     let pairs = row.labels.as_slice();
     let current_holder = holder(pairs, &current());
@@ -43,7 +43,13 @@ fn has_each(row: &SecretRow, token: &Token, moment: Moment) -> bool
         && current_holder.is_some()
         && is_free_or_held_by(holder(pairs, &pending()), current_holder)
         && !is_full(row)
-        && !has_version(row.versions.as_slice(), token)
+}
+
+/// Whether each thing that is asked of a due rotation holds.
+fn has_each(row: &SecretRow, token: &Token, moment: Moment) -> bool
+    ensures { result ≡ is_due_for row.now moment token.now }
+{
+    is_due_for_some(row, moment) && !has_version(row.versions.as_slice(), token)
 }
 
 /// Whether a rotation of the secret is due at the moment, and may begin with the token. It takes no memory.

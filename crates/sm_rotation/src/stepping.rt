@@ -27,7 +27,7 @@ pub enum Applied {
 }
 
 /// The step that the job is at.
-fn at_of(alloc: Global, job: &Job) -> Result<At, NoMemory>
+pub fn at_of(alloc: Global, job: &Job) -> Result<At, NoMemory>
     ensures { IfOk result (λ at. at ≡ at_of job.now) }
 {
     Ok(At {

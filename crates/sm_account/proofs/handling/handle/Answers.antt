@@ -21,8 +21,8 @@ consider-requires g c = record {
   drawn = c.requires.drawn;
 }
 
-pub grow-requires : goal.grow-requires
-grow-requires g c =
+pub grow_request-requires : goal.grow_request-requires
+grow_request-requires g c =
     let books = c.args.books.now in
     let request = c.args.request.now in
     let change = of_change c.in-Accept.reply c.in-Accept.change c.in-Some.change c.in-Some.is in
@@ -42,7 +42,7 @@ grow-requires g c =
 pub finish-requires : goal.finish-requires
 finish-requires g c =
     let books = c.args.books.now in
-    let mid = c.grow.new.books in
+    let mid = c.grow_request.new.books in
     let drawn = c.args.drawn.now in
     let request = c.args.request.now in
     let entry = entry_of (record { 0 = c.max.result }) c.args.person.now.key drawn request in
@@ -97,9 +97,9 @@ returns-in-Memory g c = record {
 
 pub returns-in-Err : goal.returns-in-Err
 returns-in-Err g c = record {
-  kept = room_kept c.args.books.now c.grow.new.books c.grow.ensures.same c.requires.kept;
-  handles = after_room c.args.books.now c.grow.new.books c.grow.new.books c.args.seat c.grow.ensures.same Memory _
-      (wanted_memory c.grow.new.books c.args.seat _);
+  kept = room_kept c.args.books.now c.grow_request.new.books c.grow_request.ensures.same c.requires.kept;
+  handles = after_room c.args.books.now c.grow_request.new.books c.grow_request.new.books c.args.seat c.grow_request.ensures.same Memory _
+      (wanted_memory c.grow_request.new.books c.args.seat _);
 }
 
 pub returns-in-Ok : goal.returns-in-Ok
@@ -112,7 +112,7 @@ returns-in-Ok g c =
     } in
     record {
       kept = c.finish.ensures.kept;
-      handles = made_so c.args.books.now c.args.seat q c.max.result c.max.ensures c.grow.new.books c.finish.new.books
+      handles = made_so c.args.books.now c.args.seat q c.max.result c.max.ensures c.grow_request.new.books c.finish.new.books
           c.in-Ok.ensures.same c.in-Ok.due c.in-Accept.reply c.in-Accept.change c.in-Some.change c.in-Some.is
           c.in-Accept.ensures.considered c.in-Ok.ensures.grown.entry_is c.finish.result c.finish.ensures.handles;
     }

@@ -1,4 +1,4 @@
-use Rattle.std.proofs.Common.{◌≡◌, ◌≤◌, ◌++◌, [], ◌∷◌, ap, ◌∙◌, sym, subst}
+use Rattle.std.proofs.Common.{◌≡◌, ◌≤◌, ◌++◌, [], ◌∷◌, ap, ◌∙◌, sym, subst, inl, inr}
 use Rattle.std.proofs.lemmas.Bool.{false≢true}
 use Rattle.sm_model.specs.declared.entry.Mark.TheVariants.{Entry, Fault}
 use Rattle.sm_base.specs.Faults.{Rose}
@@ -35,6 +35,7 @@ returns-in-Ok g c =
           due.prepared.change c.requires.due rest history;
       sure = λ _. c.enter.ensures.sure;
       fault = tt;
+      torn = tt;
       any_moment =
           subst (λ s. Throughout g.D.Disk (all_entries old) old.failed.value due.entry (disk_in old) (stores.disk_of s))
           (sym stored) c.write_ready.ensures.any_moment;
@@ -63,6 +64,7 @@ returns-in-Unmended g c =
       sure = λ is. absurd (false≢true is);
       fault = faulted_state old new mid.store c.args.seat c.requires.kept c.write_ready.ensures.same still.1 history
           length;
+      torn = inl (ap (λ f. f.value) still.0);
       any_moment =
           subst (λ s. Throughout g.D.Disk (all_entries old) old.failed.value due.entry (disk_in old) (stores.disk_of s))
           (sym stored) c.write_ready.ensures.any_moment;
@@ -95,6 +97,7 @@ returns-in-Torn g c =
       sure = λ is. absurd (false≢true is);
       fault = faulted_state old new mid.store c.args.seat c.requires.kept c.write_ready.ensures.same rest history
           length;
+      torn = inr c.tear.ensures.torn;
       any_moment =
           subst (λ s. Throughout g.D.Disk (all_entries old) old.failed.value due.entry (disk_in old) (stores.disk_of s))
           (sym stored) c.write_ready.ensures.any_moment;

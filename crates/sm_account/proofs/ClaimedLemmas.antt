@@ -1,0 +1,80 @@
+-- The books once a step of a rotation was claimed.
+use Rattle.std.proofs.Common.{◌≡◌, ℕ, ◌+◌, ◌++◌, ◌∷◌, [], List, Option, Some, None, IsSomeAnd, option_map, sym, ap, ◌∙◌, subst, append-nil, arith}
+use Rattle.std.proofs.Math.Logic.{∥∥₁_map}
+use Rattle.sm_base.specs.declared.moment.Moment.{Moment}
+use Rattle.sm_disk.specs.declared.disk.Disk.{Ghosts}
+use Rattle.sm_model.specs.declared.entry.At.{At}
+use Rattle.sm_model.specs.declared.entry.Mark.TheVariants.{Claim}
+use Rattle.sm_model.specs.declared.rows.Job.{Job}
+use Rattle.sm_model.specs.declared.rows.Rows.{Rows}
+use Rattle.sm_model.specs.declared.rows.SecretRow.{SecretRow}
+use Rattle.sm_claims.specs.Ready.{first_ready}
+use Rattle.sm_claims.specs.Works.{IsWorkOf, IsWorkOfJob}
+use Rattle.sm_rotation.specs.Step.{at_of}
+use Rattle.sm_rotator.specs.declared.work.Work.{Work}
+use Rattle.sm_store.specs.Stores as stores
+use Rattle.sm_account.specs.declared.books.Books.{Books}
+use Rattle.sm_account.specs.Books.{FaultsBound, IsLegal, MayFollowIf, Kept, all_entries, base_in, disk_in, history_in}
+use Rattle.sm_account.specs.Claims.{ClaimsReady, ClaimsReadyStep, IsAtStep}
+use Rattle.sm_account.specs.History.{entries_in, faults_in}
+use Rattle.sm_account.specs.States.{State, state_at}
+use Rattle.sm_account.proofs.ClaimLaws.{claims_more}
+use Rattle.sm_account.proofs.StateLaws.{entries_more, faults_more, state_claimed}
+
+-- a work of a secret is of the step that the secret's job is at
+at_step : (row : SecretRow) (work : Work) (job : Option Job) → row.job ≡ job
+    → IsSomeAnd job (λ j. IsWorkOfJob row j work) → IsAtStep work.arn work.at row
+at_step row work None its is = absurd is
+at_step row work (Some job) its is = (sym is.arn, ap (option_map at_of) its ∙ ap Some (sym is.at))
+
+of_ready : (ready : Option SecretRow) (work : Work) → IsSomeAnd ready (λ row. IsWorkOf row work)
+    → IsSomeAnd ready (IsAtStep work.arn work.at)
+of_ready None work is = absurd is
+of_ready (Some row) work is = at_step row work row.job (λ i. row.job) is
+
+module _ {D : Type 0} {G : Ghosts D} (old new : Books D G) (seat : ℕ) (work : Work) (moment : Moment)
+    (rest : new ≡ record old { marks = new.marks })
+    (history : history_in new ≡ history_in old ++ (seat, Claim work.arn work.at moment) ∷ []) (kept : Kept G old)
+    (ready : IsSomeAnd (first_ready (history_in old) moment old.table.secrets) (λ row. IsWorkOf row work)) where
+  all_is : all_entries (record old { marks = new.marks }) ≡ all_entries old
+  all_is =
+      ap (λ h. old.taken.value ++ entries_in h) history
+      ∙ ap (λ es. old.taken.value ++ es) (entries_more (history_in old) seat (Claim work.arn work.at moment)
+      ∙ append-nil (entries_in (history_in old)))
+
+  claims : ∥ ClaimsReady (base_in old) (history_in new) ∥₁
+  claims =
+      let step : ClaimsReadyStep (base_in old) (history_in old) (Claim work.arn work.at moment) =
+      subst (λ (rows : Rows). IsSomeAnd (first_ready (history_in old) moment rows.secrets) (IsAtStep work.arn work.at))
+      (ap (λ (s : State). s.rows) kept.state)
+      (of_ready (first_ready (history_in old) moment old.table.secrets) work ready) in
+      subst (λ h. ∥ ClaimsReady (base_in old) h ∥₁) (sym history)
+      (∥∥₁_map kept.claims (λ c. claims_more (base_in old) [] (history_in old) seat
+      (Claim work.arn work.at moment) c step))
+
+  faults : FaultsBound (G.faults old.began.value) (history_in new) (G.faults (disk_in old))
+  faults =
+      let same : faults_in (history_in new) ≡ faults_in (history_in old) + 0 = ap faults_in history
+      ∙ faults_more (history_in old) seat (Claim work.arn work.at moment) in
+      omega (arith, same, kept.faults)
+
+  pub claimed_kept : Kept G new
+  claimed_kept =
+      let same : Kept G (record old { marks = new.marks }) = record {
+        sound = kept.sound;
+        bound = kept.bound;
+        within = kept.within;
+        recovered = kept.recovered;
+        few = kept.few;
+        limit = kept.limit;
+        under = kept.under;
+        state = kept.state ∙ sym (state_claimed (base_in old) (history_in old) seat work.arn work.at moment)
+            ∙ ap (state_at (base_in old)) (sym history);
+        sure = kept.sure;
+        holds = subst (λ all. stores.Holds old.store all old.failed.value) (sym all_is) kept.holds;
+        legal = subst (λ all. ∥ IsLegal all ∥₁) (sym all_is) kept.legal;
+        next = subst (λ all. ∥ MayFollowIf all old.failed.value ∥₁) (sym all_is) kept.next;
+        faults = faults;
+        claims = claims;
+      } in
+      subst (Kept G) (sym rest) same

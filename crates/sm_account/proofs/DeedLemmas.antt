@@ -1,0 +1,99 @@
+-- What calls leave of the books.
+use Rattle.std.proofs.Common.{◌≡◌, ℕ, ◌≤◌, [], ◌∷◌, ◌++◌, List, Option, Some, None, refl, sym, ap, ◌∙◌, subst, append-nil, arith}
+use Rattle.sm_base.specs.declared.moment.Moment.{Moment}
+use Rattle.sm_disk.specs.declared.disk.Disk.{Ghosts}
+use Rattle.sm_model.specs.declared.entry.At.{At}
+use Rattle.sm_model.specs.declared.entry.Entry.{Entry as entries}
+use Rattle.sm_model.specs.declared.entry.Mark.TheVariants.{Claim}
+use Rattle.sm_account.specs.declared.books.Books.{Books}
+use Rattle.sm_account.specs.Books.{SameOrigin, all_entries, disk_in, history_in, state_in}
+use Rattle.sm_account.specs.Crashes.{Throughout}
+use Rattle.sm_account.specs.Deeds.{Deed, Nothing, Claimed, Made, Failed, FailedBy, Leaves, LeavesTried, StaysBy, marks_by, tried_by}
+use Rattle.sm_account.specs.Growing.{SameButRoom}
+use Rattle.sm_account.specs.History.{by_seat, entries_in}
+
+-- nothing was done
+pub nothing_done : {D : Type 0} {G : Ghosts D} (books : Books D G) (seat : ℕ) → Leaves G books books seat Nothing
+nothing_done books seat = record {
+  history = sym (append-nil (history_in books));
+  origin = record { taken = refl; began = refl; limit = refl };
+  stays = (refl, refl);
+  failed = refl;
+  any_moment = refl;
+  later = omega arith;
+  fault = tt;
+}
+
+module _ {D : Type 0} {G : Ghosts D} (old new : Books D G) (seat : ℕ)
+    (rest : new ≡ record old { marks = new.marks }) where
+  disk_same : disk_in new ≡ disk_in old
+  disk_same = ap disk_in rest
+
+  -- only room for marks was taken
+  pub room_taken : history_in new ≡ history_in old → Leaves G old new seat Nothing
+  room_taken history = record {
+    history = history ∙ sym (append-nil (history_in old));
+    origin = record {
+      taken = ap (λ (b : Books D G). b.taken.value) rest;
+      began = ap (λ (b : Books D G). b.began.value) rest;
+      limit = ap (λ (b : Books D G). b.limit) rest;
+    };
+    stays = (ap state_in rest, ap (λ (b : Books D G). b.store) rest);
+    failed = ap (λ (b : Books D G). b.failed.value) rest;
+    any_moment = ap (λ (b : Books D G). b.store) rest;
+    later = omega (arith, ap G.faults disk_same);
+    fault = tt;
+  }
+
+  -- a claim was added
+  pub claim_added : (arn : List ℕ) (at : At) (moment : Moment)
+      → history_in new ≡ history_in old ++ (seat, Claim arn at moment) ∷ []
+      → Leaves G old new seat (Claimed arn at moment)
+  claim_added arn at moment history = record {
+    history = history;
+    origin = record {
+      taken = ap (λ (b : Books D G). b.taken.value) rest;
+      began = ap (λ (b : Books D G). b.began.value) rest;
+      limit = ap (λ (b : Books D G). b.limit) rest;
+    };
+    stays = (ap state_in rest, ap (λ (b : Books D G). b.store) rest);
+    failed = ap (λ (b : Books D G). b.failed.value) rest;
+    any_moment = ap (λ (b : Books D G). b.store) rest;
+    later = omega (arith, ap G.faults disk_same);
+    fault = tt;
+  }
+
+-- room for a mark changes nothing that is told
+module _ {D : Type 0} {G : Ghosts D} (old mid new : Books D G) (seat : ℕ) (room : SameButRoom old mid) where
+  stays_at : (deed : Deed) → StaysBy deed (record old { marks = mid.marks }) new → StaysBy deed old new
+  stays_at Nothing stays = stays
+  stays_at (Claimed arn at moment) stays = stays
+  stays_at (Made entry) stays = stays
+  stays_at (Failed entry) stays = stays
+
+  failed_at : (deed : Deed) → FailedBy deed (record old { marks = mid.marks }) new → FailedBy deed old new
+  failed_at Nothing failed = failed
+  failed_at (Claimed arn at moment) failed = failed
+  failed_at (Made entry) failed = failed
+  failed_at (Failed entry) failed = failed
+
+  leaves_at : (tried : Option entries) → LeavesTried G tried (record old { marks = mid.marks }) new
+      → LeavesTried G tried old new
+  leaves_at None leaves = leaves
+  leaves_at (Some own) leaves =
+      subst (λ all. Throughout G all old.failed.value own (disk_in old) (disk_in new))
+      (ap (λ h. old.taken.value ++ entries_in h) room.history) leaves
+
+  pub behind_room : (deed : Deed) → Leaves G mid new seat deed → Leaves G old new seat deed
+  behind_room deed h =
+      let r : Leaves G (record old { marks = mid.marks }) new seat deed =
+      subst (λ b. Leaves G b new seat deed) room.rest h in
+      record {
+        history = r.history ∙ ap (λ h. h ++ by_seat seat (marks_by deed)) room.history;
+        origin = record { taken = r.origin.taken; began = r.origin.began; limit = r.origin.limit };
+        stays = stays_at deed r.stays;
+        failed = failed_at deed r.failed;
+        any_moment = leaves_at (tried_by deed) r.any_moment;
+        later = r.later;
+        fault = r.fault;
+      }

@@ -1,0 +1,29 @@
+-- Entries of rotations that a rotator's answers allow.
+-- AWS Secrets Manager User Guide: "Lambda rotation functions" (testSecret).
+use Rattle.std.specs.Prelude.{⊤, List, IfSome}
+use Rattle.sm_disk.specs.declared.disk.Disk.{Ghosts}
+use Rattle.sm_model.specs.declared.entry.Entry.{Entry}
+use Rattle.sm_model.specs.declared.rows.Rows.{Rows}
+use Rattle.sm_rotation.specs.Vouched.{Replies}
+use Rattle.sm_core.specs.Vouching.{EachAllowed, IsAllowed}
+use Rattle.sm_account.specs.declared.books.Books.{Books}
+use Rattle.sm_account.specs.Books.{base_in, history_in}
+use Rattle.sm_account.specs.Deeds.{Deed, Nothing, Claimed, Made, Failed}
+use Rattle.sm_account.specs.History.{entries_in}
+
+-- the entry is allowed at the rows
+abbrev pub IsAllowedAt : Replies → Rows → Entry → Type 0
+IsAllowedAt replies rows entry = IsAllowed replies rows entry.moment entry.act
+
+-- the entry that a deed tried is allowed at the rows
+abbrev pub DeedAllowed : Replies → Rows → Deed → Type 0
+DeedAllowed replies rows Nothing = ⊤
+DeedAllowed replies rows (Claimed arn at moment) = ⊤
+DeedAllowed replies rows (Made entry) = IsAllowedAt replies rows entry
+DeedAllowed replies rows (Failed entry) = IsAllowedAt replies rows entry
+
+-- Each entry that was made since the opening is allowed at the rows of those before it, and so is the one whose write
+-- failed last: an answer that accepts a test is one that the rotator may give to it.
+pub record EntriesAllowed {D : Type 0} {G : Ghosts D} (replies : Replies) (books : Books D G) : Type 0 where
+  pub made : EachAllowed replies (base_in books).rows (entries_in (history_in books))
+  pub next : IfSome books.failed.value (IsAllowedAt replies books.table)

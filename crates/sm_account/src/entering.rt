@@ -1,0 +1,92 @@
+//! Entering what is due: an entry is made, unless it would pass a limit or the disk fails.
+ghost use Rattle.std.specs.Prelude.{◌≡◌, ◌≤◌, ◌<◌, length, vec_len, vec_capacity, IfOk};
+ghost use Rattle.sm_journal.specs.Records.{body_limit};
+ghost use Rattle.sm_store.specs.Entries.{Spells};
+ghost use Rattle.sm_account.specs.Books.{Kept, state_in};
+ghost use Rattle.sm_account.specs.Deeds.{Leaves};
+ghost use Rattle.sm_account.specs.Handling.{LimitsAside, MayEnter};
+ghost use Rattle.sm_account.specs.Limits.{EntersAs, entered_by, passed_at, tried_entry};
+
+use crate::books::Books;
+use crate::due::Due;
+use crate::growing::grow;
+use crate::making::make;
+use sm_core::{Replayed, again};
+use sm_disk::{Disk, DiskFailed};
+use sm_model::limits::ENTRIES_LIMIT;
+use sm_model::{Entry, NoMemory, What};
+
+/// A limit that an entry would pass.
+#[derive(Clone, Copy, Debug, PartialEq, Eq)]
+pub struct Passed {
+    pub limit: u64,
+    pub what: What,
+}
+
+/// What became of an entry that was due.
+#[derive(Clone, Copy, Debug, PartialEq, Eq)]
+pub enum Entered {
+    Made,
+    /// It would pass this limit.
+    Over(Passed),
+    DiskFault,
+}
+
+/// Makes an entry that is legal at the rows, unless it would pass a limit.
+pub fn enter<D: Disk>(books: &mut Books<D>, seat: u32, entry: Entry) -> Result<Entered, NoMemory>
+    requires kept { Kept D.Disk books.old }
+    requires may { MayEnter books.old entry }
+    ensures kept { Kept D.Disk books.new }
+    ensures enters { IfOk result (λ entered. EntersAs entered (passed_at (state_in books.old) entry)) }
+    ensures leaves { Leaves D.Disk books.old books.new seat (tried_entry result entry) }
+{
+    match again(books.alloc, &books.table, &entry) {
+        Replayed::Accept(change) => {
+            let due = grow(books, entry, change)?;
+            Ok(enter_due(books, seat, due))
+        }
+        Replayed::Refuse => unreachable!(),
+        Replayed::Memory => Err(NoMemory),
+    }
+}
+
+/// Makes an entry for which all memory is there, unless it would pass a limit.
+pub fn enter_due<D: Disk>(books: &mut Books<D>, seat: u32, due: Due) -> Entered
+    requires kept { Kept D.Disk books.old }
+    requires due { LimitsAside books.old due }
+    requires room { vec_len books.old.marks < vec_capacity books.old.marks }
+    ensures kept { Kept D.Disk books.new }
+    ensures enters { EntersAs result (passed_at (state_in books.old) due.entry) }
+    ensures leaves { Leaves D.Disk books.old books.new seat (entered_by result due.entry) }
+{
+    match passed_limit(books, &due) {
+        Some(passed) => Entered::Over(passed),
+        None => match make(books, seat, due) {
+            Ok(()) => Entered::Made,
+            Err(DiskFailed) => Entered::DiskFault,
+        },
+    }
+}
+
+/// The limit that an entry would pass.
+fn passed_limit<D: Disk>(books: &Books<D>, due: &Due) -> Option<Passed>
+    requires kept { Kept D.Disk books.now }
+    requires spells { Spells due.now.entry due.now.ready }
+    requires short { length due.now.ready ≤ body_limit }
+    ensures { result ≡ passed_at (state_in books.now) due.now.entry }
+{
+    if books.made >= ENTRIES_LIMIT {
+        return Some(Passed {
+            limit: ENTRIES_LIMIT,
+            what: What::Entries,
+        });
+    }
+    let size = 5 + due.ready.len() as u64;
+    if books.store.length().saturating_add(size) > books.limit {
+        return Some(Passed {
+            limit: books.limit,
+            what: What::JournalBytes,
+        });
+    }
+    None
+}

@@ -1,0 +1,7 @@
+pub mod PlaceLemmas
+pub mod ReadyLemmas
+pub mod DueLemmas
+pub mod WorkLemmas
+pub mod ArnLemmas
+pub mod FreshLemmas
+pub mod HeldLemmas

@@ -1,0 +1,5 @@
+pub mod Claims
+pub mod Ready
+pub mod Works
+pub mod Due
+pub mod Fresh

@@ -1,0 +1,5 @@
+pub mod Drawing
+pub mod Found
+pub mod Holds
+pub mod Turns
+pub mod Alone

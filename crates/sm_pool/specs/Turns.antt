@@ -1,0 +1,188 @@
+-- Rotation turns: at most one step of a rotation, or the start of one that is due.
+-- AWS Secrets Manager User Guide: "Lambda rotation functions", "Rotation schedules".
+use Rattle.std.specs.Prelude.{◌≡◌, ⊤, ℕ, true, false, List, [], ◌∷◌, length, Option}
+use Rattle.std.specs.Io.KnownBytes.{append_known}
+use Rattle.sm_base.specs.Faults.{Rose}
+use Rattle.sm_model.specs.declared.entry.Answer.{Answer}
+use Rattle.sm_model.specs.declared.entry.Answer.TheVariants as answers
+use Rattle.sm_rotation.specs.Vouched.{Replies}
+use Rattle.sm_rotator.specs.declared.work.Work.{Work}
+use Rattle.sm_account.specs.declared.report.Reported.{Reported}
+use Rattle.sm_account.specs.declared.report.Reported.TheVariants as reports
+use Rattle.sm_account.specs.declared.start_due.StartedDue.{StartedDue}
+use Rattle.sm_account.specs.declared.start_due.StartedDue.TheVariants as starts
+use Rattle.sm_account.specs.States.{Base}
+use Rattle.sm_pool.specs.declared.done.Done.{Done}
+use Rattle.sm_pool.specs.declared.done.Done.TheVariants as ends
+use Rattle.sm_pool.specs.declared.done.Trouble.{Trouble}
+use Rattle.sm_pool.specs.declared.done.Trouble.TheVariants as troubles
+use Rattle.sm_pool.specs.Holds.{Hold, FindsNothing, FindsWork, ReportsIn, StartsIn, is_due_in}
+
+-- what a turn meets outside of the account, where it is told: the clock's readings, the random bytes, and how often the
+-- random source and the rotator have failed
+pub record Outside : Type 0 where
+  pub readings : Option (List ℕ)
+  pub drawn : Option (List ℕ)
+  pub words : ℕ
+  pub rotator : ℕ
+
+abbrev pub readings_of : List Hold → List ℕ
+readings_of [] = []
+readings_of (hold ∷ holds) = hold.now.0 ∷ readings_of holds
+
+-- ---- a work whose step is claimed
+
+-- The rotator was not asked, for want of memory; or it gave an answer, which was reported in a hold.
+pub data WorkCourse : Type 0 where
+  Unasked : WorkCourse
+  Asked : Answer → Hold → Reported → WorkCourse
+
+-- the answer is one that the rotator may give to the work
+abbrev pub IsWorkCourse : Replies → Base → Work → WorkCourse → Type 0
+IsWorkCourse replies base work Unasked = ⊤
+IsWorkCourse replies base work (Asked answer hold reported) =
+    (replies work.arn work.at work.current work.pending answer ≡ true) × ReportsIn base hold work answer reported
+
+abbrev pub work_holds : WorkCourse → List Hold
+work_holds Unasked = []
+work_holds (Asked answer hold reported) = hold ∷ []
+
+abbrev pub report_ends : Work → Reported → Done
+report_ends work reports.Moved = ends.Did work.arn work.at
+report_ends work (reports.Stale at) = ends.Stale at
+report_ends work (reports.Limit limit) = ends.Trouble (troubles.Limit limit)
+report_ends work reports.DiskFault = ends.Trouble troubles.Disk
+report_ends work reports.Memory = ends.Trouble troubles.Memory
+
+abbrev pub work_ends : Work → WorkCourse → Done
+work_ends work Unasked = ends.Trouble troubles.Memory
+work_ends work (Asked answer hold reported) = report_ends work reported
+
+-- a fact where the rotator answered that it failed
+abbrev pub WorkFailed : WorkCourse → Type 0 → Type 0
+WorkFailed Unasked P = ⊤
+WorkFailed (Asked answer hold reported) P = answer ≡ answers.Failed → P
+
+-- The course of a work: it ends so, the clock told these readings, and the rotator failed only where its count rose.
+pub record DoesWork (replies : Replies) (base : Base) (work : Work) (before after : Outside) (course : WorkCourse)
+    (done : Done) : Type 0 where
+  pub is : IsWorkCourse replies base work course
+  pub done_is : done ≡ work_ends work course
+  pub clock : after.readings ≡ append_known before.readings (readings_of (work_holds course))
+  pub failed : WorkFailed course (Rose before.rotator after.rotator)
+
+-- ---- a due rotation
+
+-- No random bytes were drawn; or some were, and the rotation that is due for their token was to be started in a hold.
+pub data StartCourse : Type 0 where
+  Undrawn : Trouble → StartCourse
+  Begins : List ℕ → Hold → StartedDue → StartCourse
+
+-- a draw that gives no random bytes has failed, or wants memory
+abbrev pub IsOfDraw : Trouble → Type 0
+IsOfDraw troubles.Disk = ⊥
+IsOfDraw troubles.Words = ⊤
+IsOfDraw troubles.Memory = ⊤
+IsOfDraw (troubles.Limit limit) = ⊥
+
+abbrev pub IsStartCourse : Base → StartCourse → Type 0
+IsStartCourse base (Undrawn trouble) = IsOfDraw trouble
+IsStartCourse base (Begins drawn hold started) = (length drawn ≡ 16) × StartsIn base hold drawn started
+
+abbrev pub start_holds : StartCourse → List Hold
+start_holds (Undrawn trouble) = []
+start_holds (Begins drawn hold started) = hold ∷ []
+
+abbrev pub start_drawn : StartCourse → List ℕ
+start_drawn (Undrawn trouble) = []
+start_drawn (Begins drawn hold started) = drawn
+
+abbrev pub due_ends : StartedDue → Done
+due_ends (starts.Started arn) = ends.Started arn
+due_ends starts.None = ends.Idle
+due_ends (starts.Limit limit) = ends.Trouble (troubles.Limit limit)
+due_ends starts.DiskFault = ends.Trouble troubles.Disk
+due_ends starts.Memory = ends.Trouble troubles.Memory
+
+abbrev pub start_ends : StartCourse → Done
+start_ends (Undrawn trouble) = ends.Trouble trouble
+start_ends (Begins drawn hold started) = due_ends started
+
+-- a fact where the random source failed
+abbrev pub OnWords : Trouble → Type 0 → Type 0
+OnWords troubles.Disk P = ⊤
+OnWords troubles.Words P = P
+OnWords troubles.Memory P = ⊤
+OnWords (troubles.Limit limit) P = ⊤
+
+abbrev pub StartFailed : StartCourse → Type 0 → Type 0
+StartFailed (Undrawn trouble) P = OnWords trouble P
+StartFailed (Begins drawn hold started) P = ⊤
+
+-- The course of a start: it ends so, these readings and random bytes were told, and the random source failed only where
+-- its count rose.
+pub record StartsOne (base : Base) (before after : Outside) (course : StartCourse) (done : Done) : Type 0 where
+  pub is : IsStartCourse base course
+  pub done_is : done ≡ start_ends course
+  pub clock : after.readings ≡ append_known before.readings (readings_of (start_holds course))
+  pub random : after.drawn ≡ append_known before.drawn (start_drawn course)
+  pub failed : StartFailed course (Rose before.words after.words)
+
+-- ---- a turn
+
+-- In a first hold memory was wanted; or nothing was ready, and no rotation due; or some was due; or a step was claimed.
+pub data Course : Type 0 where
+  Wants : Hold → Course
+  Rests : Hold → Course
+  Starts : Hold → StartCourse → Course
+  Works : Hold → Work → WorkCourse → Course
+
+abbrev pub IsCourse : Replies → Base → Course → Type 0
+IsCourse replies base (Wants hold) = hold.marks ≡ []
+IsCourse replies base (Rests hold) = FindsNothing base hold × (is_due_in base hold ≡ false)
+IsCourse replies base (Starts hold course) =
+    FindsNothing base hold × (is_due_in base hold ≡ true) × IsStartCourse base course
+IsCourse replies base (Works hold work course) = FindsWork base hold work × IsWorkCourse replies base work course
+
+-- the holds of a turn, one after the other
+abbrev pub holds_of : Course → List Hold
+holds_of (Wants hold) = hold ∷ []
+holds_of (Rests hold) = hold ∷ []
+holds_of (Starts hold course) = hold ∷ start_holds course
+holds_of (Works hold work course) = hold ∷ work_holds course
+
+abbrev pub drawn_of : Course → List ℕ
+drawn_of (Wants hold) = []
+drawn_of (Rests hold) = []
+drawn_of (Starts hold course) = start_drawn course
+drawn_of (Works hold work course) = []
+
+-- what a turn did
+abbrev pub done_of : Course → Done
+done_of (Wants hold) = ends.Trouble troubles.Memory
+done_of (Rests hold) = ends.Idle
+done_of (Starts hold course) = start_ends course
+done_of (Works hold work course) = work_ends work course
+
+abbrev pub RotatorFailed : Course → Type 0 → Type 0
+RotatorFailed (Wants hold) P = ⊤
+RotatorFailed (Rests hold) P = ⊤
+RotatorFailed (Starts hold course) P = ⊤
+RotatorFailed (Works hold work course) P = WorkFailed course P
+
+abbrev pub WordsFailed : Course → Type 0 → Type 0
+WordsFailed (Wants hold) P = ⊤
+WordsFailed (Rests hold) P = ⊤
+WordsFailed (Starts hold course) P = StartFailed course P
+WordsFailed (Works hold work course) P = ⊤
+
+-- The course of a turn: it ends so; these readings and random bytes were told, each once and in order; and the rotator
+-- and the random source failed only where their counts rose.
+pub record TakesTurn (replies : Replies) (base : Base) (before after : Outside) (course : Course) (done : Done)
+    : Type 0 where
+  pub is : IsCourse replies base course
+  pub done_is : done ≡ done_of course
+  pub clock : after.readings ≡ append_known before.readings (readings_of (holds_of course))
+  pub random : after.drawn ≡ append_known before.drawn (drawn_of course)
+  pub rotator : RotatorFailed course (Rose before.rotator after.rotator)
+  pub words : WordsFailed course (Rose before.words after.words)

@@ -1,0 +1,21 @@
+//! Asking a rotator.
+ghost use Rattle.std.specs.Prelude.{◌≡◌, ◌≤◌, IfOk};
+ghost use Rattle.sm_base.specs.Faults.{Rose};
+ghost use Rattle.sm_model.specs.declared.entry.Answer.TheVariants.{Failed};
+
+use sm_model::NoMemory;
+use sm_rotator::{Asked, Rotator, Verdict, Work};
+
+/// Asks the rotator to do a work. The verdict has the rotator's answer, which is a failure only where the rotator's count
+/// of faults rose.
+pub fn ask<R: Rotator>(rotator: &mut R, work: Work) -> Result<Verdict<R>, NoMemory>
+    ensures work { IfOk result (λ verdict. verdict.work ≡ work) }
+    ensures failed { IfOk result (λ verdict. verdict.answer ≡ Failed
+        → Rose (R.faults rotator.old) (R.faults rotator.new)) }
+    ensures later { R.faults rotator.old ≤ R.faults rotator.new }
+{
+    match rotator.ask(&work) {
+        Asked::Answered(answer) => Ok(Verdict::new(work, answer)),
+        Asked::Memory => Err(NoMemory),
+    }
+}

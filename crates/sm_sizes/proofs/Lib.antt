@@ -1,0 +1,3 @@
+pub mod FieldSizes
+pub mod RequestSizes
+pub mod SpelledLaws
