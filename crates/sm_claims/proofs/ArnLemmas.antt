@@ -28,7 +28,8 @@ sound_in (r ∷ rows) row each (inr i) = sound_in rows row each.1 i
 named_in : (rows : List SecretRow) (row : SecretRow) → IsIn rows row → is_among (row_names rows) row.name ≡ true
 named_in [] row i = absurd i
 named_in (r ∷ rows) row (inl same) =
-    ap (λ (n : List ℕ). same_text n row.name || is_among (row_names rows) row.name) (ap (λ (q : SecretRow). q.name) same)
+    ap (λ (n : List ℕ). same_text n row.name || is_among (row_names rows) row.name)
+    (ap (λ (q : SecretRow). q.name) same)
     ∙ ap (λ b. b || is_among (row_names rows) row.name) (same_text_itself row.name)
 named_in (r ∷ rows) row (inr i) = by (same_text r.name row.name) (named_in rows row i)
   where
@@ -50,7 +51,8 @@ apart r rows row names each i =
       | inl same ↦
           let lacks = (and_parts (not (is_among (row_names rows) r.name)) (once (row_names rows)) names).0 in
           let name = name_from r row each.0 (sound_in rows row each.1 i) same.1 in
-          let among : is_among (row_names rows) r.name ≡ true = ap (is_among (row_names rows)) name ∙ named_in rows row i in
+          let among : is_among (row_names rows) r.name ≡ true =
+          ap (is_among (row_names rows)) name ∙ named_in rows row i in
           absurd (let never : false ≡ true = ap not (sym among) ∙ lacks in cc)
       | inr other ↦ other.0
     ]

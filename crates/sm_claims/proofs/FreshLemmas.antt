@@ -33,7 +33,8 @@ pub record FreshJob (row : SecretRow) (work : Work) : Type 0 where
   pub version : is_version_of (version_of row.versions job.token) work ≡ true
 
 pub fresh_job : (row : SecretRow) (work : Work) → is_fresh (Some row) work ≡ true → FreshJob row work
-fresh_job row work fresh = by row.job refl (and_parts (nat_eq row.serial work.secret) (is_job_of row row.job work) fresh).1
+fresh_job row work fresh =
+    by row.job refl (and_parts (nat_eq row.serial work.secret) (is_job_of row row.job work) fresh).1
   where
     by : (job : Option Job) → row.job ≡ job → is_job_of row job work ≡ true → FreshJob row work
     by None its is = absurd (cc)

@@ -78,7 +78,8 @@ module _ (row : SecretRow) (job : Job) (work : Work) (sound : RowSound row) (its
   version_holds : (found : Option VersionRow) → found ≡ version_of row.versions job.token
       → is_version_of found work ≡ true
   version_holds None e =
-      absurd (let never : None ≡ Some work.version = ap (option_map (λ (v : VersionRow). v.serial)) e ∙ is.version in cc)
+      absurd
+      (let never : None ≡ Some work.version = ap (option_map (λ (v : VersionRow). v.serial)) e ∙ is.version in cc)
   version_holds (Some version) e =
       let serial : Some version.serial ≡ Some work.version = ap (option_map (λ (v : VersionRow). v.serial)) e
       ∙ is.version in

@@ -1,5 +1,5 @@
--- Claims: that somebody has taken up a step of a rotation. A claim ends by itself after some seconds, so that a step whose
--- claimant is gone can be taken up again.
+-- Claims: that somebody has taken up a step of a rotation. A claim ends by itself after some seconds, so that a step
+-- whose claimant is gone can be taken up again.
 -- AWS Secrets Manager User Guide: "Lambda rotation functions".
 use Rattle.std.specs.Prelude.{ℕ, ◌+◌, Bool, false, ◌&&◌, nat_lt, List}
 use Rattle.std.specs.List.{list_any}

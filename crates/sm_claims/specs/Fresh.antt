@@ -27,9 +27,9 @@ abbrev pub is_job_of : SecretRow → Option Job → Work → Bool
 is_job_of row None work = false
 is_job_of row (Some job) work = is_at job work.at && is_version_of (version_of row.versions job.token) work
 
--- A verdict on the work holds: the secret is there and is the one that the work is about, its job is at the work's step,
--- and the job's version is the work's and has the work's value. Serials tell a secret and a version from earlier ones of
--- the same names.
+-- A verdict on the work holds: the secret is there and is the one that the work is about, its job is at the work's
+-- step, and the job's version is the work's and has the work's value. Serials tell a secret and a version from earlier
+-- ones of the same names.
 abbrev pub is_fresh : Option SecretRow → Work → Bool
 is_fresh None work = false
 is_fresh (Some row) work = nat_eq row.serial work.secret && is_job_of row row.job work

@@ -25,8 +25,8 @@ pub fn has_due(table: &Table, moment: Moment) -> bool
     false
 }
 
-/// The first secret, in order of creation, whose rotation is due at the moment and may begin with the token. It takes no
-/// memory.
+/// The first secret, in order of creation, whose rotation is due at the moment and may begin with the token. It takes
+/// no memory.
 #[tactic(auto, using(crate::proofs::DueLemmas::due_here, crate::proofs::DueLemmas::due_next, crate::proofs::DueLemmas::due_end))]
 pub fn first_due<'a>(table: &'a Table, moment: Moment, token: &Token) -> Option<&'a SecretRow>
     requires { moment.0 ≤ LAST_READING }

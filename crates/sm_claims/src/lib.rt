@@ -1,5 +1,5 @@
-//! The steps of rotations that may be taken up: who has claimed one, which is ready, what there is to do, which rotations
-//! are due, and which verdicts still hold.
+//! The steps of rotations that may be taken up: who has claimed one, which is ready, what there is to do, which
+//! rotations are due, and which verdicts still hold.
 #![tactic(auto)]
 
 pub mod claims;

@@ -1,12 +1,14 @@
 -- Judging a request: when it is refused, when it changes nothing, and what its change is.
-use Rattle.std.proofs.Common.{◌≡◌, ℕ, ◌≤◌, Bool, false, ◌||◌, List, length, Option, Some, None, is_none, IsSome, IsTrue, refl, sym, subst, arith}
+use Rattle.std.proofs.Common.{◌≡◌, ℕ, ◌≤◌, Bool, false, ◌||◌, List, length, Option, Some, None, is_none, IsSome, IsTrue, Result, Ok, Err, IfOk, refl, sym, ◌∙◌, subst, arith}
 use Rattle.std.proofs.lemmas.Bool.Decides.{nat_tests}
 use Rattle.std.proofs.Math.Bool.{or-false}
+use Rattle.sm_base.specs.declared.memory.NoMemory.{NoMemory}
 use Rattle.sm_base.specs.declared.moment.Moment.{Moment}
 use Rattle.sm_base.specs.declared.moment.TheConstants.{LAST_READING}
 use Rattle.sm_base.specs.Outcomes.{OrMemory}
 use Rattle.sm_model.specs.declared.entry.Act.TheVariants.{Asked}
 use Rattle.sm_model.specs.declared.person.Person.{Person}
+use Rattle.sm_model.specs.declared.request.BatchGetSecretValue.{BatchGetSecretValue}
 use Rattle.sm_model.specs.declared.request.CreateSecret.{CreateSecret}
 use Rattle.sm_model.specs.declared.request.DeleteSecret.{DeleteSecret}
 use Rattle.sm_model.specs.declared.request.Request.{Request}
@@ -98,7 +100,8 @@ is_unchanged question rows moment drawn (requests.UntagResource untag) = untag_c
 is_unchanged question rows moment drawn (requests.UpdateSecret update) = update_repeats rows moment drawn update
 is_unchanged question rows moment drawn (requests.UpdateSecretVersionStage update) = move_changes rows moment update
 is_unchanged question rows moment drawn (requests.CancelRotateSecret cancel) = cancel_changes rows moment cancel
-is_unchanged question rows moment drawn (requests.DeleteResourcePolicy delete) = delete_policy_changes rows moment delete
+is_unchanged question rows moment drawn (requests.DeleteResourcePolicy delete) =
+    delete_policy_changes rows moment delete
 is_unchanged question rows moment drawn (requests.GetResourcePolicy get) = get_policy_reads rows moment get
 is_unchanged question rows moment drawn (requests.PutResourcePolicy put) = put_policy_changes rows moment put
 is_unchanged question rows moment drawn (requests.RotateSecret rotate) = rotate_repeats rows moment drawn rotate
@@ -113,7 +116,8 @@ least : (create : CreateSecret) (n : ℕ) → n ≡ needed (requests.CreateSecre
 least create n e = omega (arith, e)
 
 -- the change of an accepted request is its entry's
-pub change_is_entry : (question : List ℕ → Option Why) (rows : Rows) (moment : Moment) (key drawn : List ℕ) (request : Request) → Sound rows
+pub change_is_entry : (question : List ℕ → Option Why) (rows : Rows) (moment : Moment) (key drawn : List ℕ)
+    (request : Request) → Sound rows
     → moment.0 ≤ LAST_READING
     → forms_of request ≡ None → length drawn ≡ needed request
     → IfChange (judgement_asking question rows moment drawn request) (IsChange rows moment
@@ -126,8 +130,8 @@ change_is_entry question rows moment key drawn (requests.DeleteSecret delete) so
 change_is_entry question rows moment key drawn (requests.DescribeSecret describe) sound early forms room =
     describe_change rows moment describe _
 change_is_entry question rows moment key drawn (requests.GetRandomPassword get) sound early forms room = tt
-change_is_entry question rows moment key drawn (requests.GetSecretValue get) sound early forms room = get_change rows moment get
-    _
+change_is_entry question rows moment key drawn (requests.GetSecretValue get) sound early forms room =
+    get_change rows moment get _
 change_is_entry question rows moment key drawn (requests.ListSecretVersionIds list) sound early forms room =
     versions_change rows moment list _
 change_is_entry question rows moment key drawn (requests.ListSecrets list) sound early forms room = tt
@@ -183,11 +187,24 @@ due_for rows person moment drawn request due =
     due_alike (value_question rows person moment) rows moment drawn request due
 
 -- and any other request is judged alike
-pub alone_alike : (question : List ℕ → Option Why) (rows : Rows) (moment : Moment) (drawn : List ℕ) (request : Request)
+alone_alike : (question : List ℕ → Option Why) (rows : Rows) (moment : Moment) (drawn : List ℕ) (request : Request)
     → is_batch request ≡ false
     → judgement rows moment drawn request ≡ judgement_asking question rows moment drawn request
 alone_alike question rows moment drawn (requests.BatchGetSecretValue batch) alone = absurd (cc)
 alone_alike question rows moment drawn request alone = refl
+
+pub is_alone : (request : Request)
+    → ((batch : BatchGetSecretValue) → request ≡ requests.BatchGetSecretValue batch → ⊥) → is_batch request ≡ false
+is_alone (requests.BatchGetSecretValue batch) other = absurd (other batch refl)
+is_alone request other = refl
+
+pub judged_alone : (result : Result Judged NoMemory) (question : List ℕ → Option Why) (rows : Rows) (moment : Moment)
+    (drawn : List ℕ) (request : Request) → is_batch request ≡ false
+    → IfOk result (λ judged. judged ≡ judgement rows moment drawn request)
+    → IfOk result (λ judged. judged ≡ judgement_asking question rows moment drawn request)
+judged_alone (Ok judged) question rows moment drawn request alone is =
+    is ∙ alone_alike question rows moment drawn request alone
+judged_alone (Err e) question rows moment drawn request alone is = tt
 
 -- ---- all of it
 

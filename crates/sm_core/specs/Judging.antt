@@ -53,7 +53,8 @@ judgement_asking question rows moment drawn (requests.RotateSecret rotate) = rot
 judgement_asking question rows moment drawn (requests.TagResource tag) = tag_judgement rows moment tag
 judgement_asking question rows moment drawn (requests.UntagResource untag) = untag_judgement rows moment untag
 judgement_asking question rows moment drawn (requests.UpdateSecret update) = update_judgement rows moment drawn update
-judgement_asking question rows moment drawn (requests.UpdateSecretVersionStage update) = move_judgement rows moment update
+judgement_asking question rows moment drawn (requests.UpdateSecretVersionStage update) =
+    move_judgement rows moment update
 judgement_asking question rows moment drawn (requests.ValidateResourcePolicy validate) =
     validate_judgement rows moment validate
 

@@ -78,7 +78,6 @@ pub fn judge(
 }
 
 /// Judges a request of a person, also on rows of which nothing is known.
-#[tactic(auto, using(crate::proofs::JudgingLemmas::alone_alike))]
 pub fn judge_exactly(
     alloc: Global,
     table: &Table,

@@ -71,7 +71,7 @@ fn replay_entry(alloc: Global, table: &Table, entry: &Entry) -> Replayed
 }
 
 /// Judges an entry of a request again.
-#[tactic(auto, using(sm_forms::proofs::PolicyLemmas::none_formed, sm_forms::proofs::PolicyLemmas::some_malformed))]
+#[tactic(auto, using(sm_forms::proofs::PolicyLemmas::none_formed))]
 fn replay_request(
     alloc: Global,
     table: &Table,

@@ -31,7 +31,8 @@ fn is_free_or_held_by(pending: Option<&Token>, current: Option<&Token>) -> bool
     }
 }
 
-/// Whether a rotation of the secret is due at the moment, for a token that none of its versions has. It takes no memory.
+/// Whether a rotation of the secret is due at the moment, for a token that none of its versions has. It takes no
+/// memory.
 pub fn is_due_for_some(row: &SecretRow, moment: Moment) -> bool
     ensures { result ≡ is_due row.now moment }
 {

@@ -83,7 +83,8 @@ shown_next rows place row moment shown at is =
 -- the end of the walk
 pub shown_all : (rows : List SecretRow) (place : ℕ) (moment : Moment) (shown : Shown) → length rows ≤ place
     → IsShown (swept (take place rows) moment) shown → IsShown (swept rows moment) shown
-shown_all rows place moment shown end is = subst (λ taken. IsShown (swept taken moment) shown) (take_all place rows end) is
+shown_all rows place moment shown end is =
+    subst (λ taken. IsShown (swept taken moment) shown) (take_all place rows end) is
 
 -- ---- what holds of each secret
 
