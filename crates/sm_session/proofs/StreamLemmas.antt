@@ -14,7 +14,8 @@ use Rattle.sm_http.specs.Reading.{ReaderState, content, last_place, stopped, Ans
 use Rattle.sm_http.proofs.ChainLemmas.{begin-append, goes_on, gave_nothing, stays_read}
 use Rattle.sm_http.proofs.MessageLemmas.{message_unique, bad_is_no_message, partial_is_no_message}
 use Rattle.sm_http.proofs.OneReadingLemmas.{one_reading}
-use Rattle.sm_server.specs.Streams.{StartWith}
+use Rattle.sm_session.specs.Streams.{StartWith}
+use Rattle.sm_session.proofs.KnownLemmas.{prepend_known-nil}
 
 -- the reader goes on after these messages of the bytes that were read, or the last of them closed the stream
 abbrev pub StandsAfter : List ℕ → List Message → ReaderState → Type 0
@@ -29,10 +30,6 @@ pub record GivenSoFar (first : Option (List ℕ)) (messages : List Message) (rea
   pub stands : StandsAfter read messages reader
 
 -- nothing was read
-pub prepend_known-nil : (known : Option (List ℕ)) → prepend_known [] known ≡ known
-prepend_known-nil None = refl
-prepend_known-nil (Some bytes) = refl
-
 pub given_none : (left : Option (List ℕ)) → GivenSoFar left [] unread left
 given_none left = record { read = []; reads = sym (prepend_known-nil left); stands = inl gave_nothing }
 

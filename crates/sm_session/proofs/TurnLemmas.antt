@@ -1,151 +1,123 @@
 -- What one message brings.
-use Rattle.std.proofs.Common.{◌≡◌, ℕ, ◌<◌, List, [], ◌∷◌, length, Some, None, Result, Ok, Err, IfOk, refl, sym, ap, ◌∙◌, inl, inr, subst}
-use Rattle.sm_base.specs.declared.memory.NoMemory.{NoMemory}
-use Rattle.sm_base.specs.declared.moment.Moment.{Moment}
-use Rattle.sm_base.specs.Faults.{Rose}
+use Rattle.std.proofs.Common.{◌≡◌, ◌⊎◌, ◌<◌, ℕ, List, [], ◌∷◌, length, Option, Some, None, Result, Ok, Err, refl, sym, ap, ◌∙◌, inl, inr, subst}
 use Rattle.sm_model.specs.declared.entry.Mark.{Mark}
-use Rattle.sm_model.specs.declared.person.Person.{Person}
 use Rattle.sm_model.specs.declared.reply.Reply.{Reply}
-use Rattle.sm_model.specs.declared.request.Request.{Request}
 use Rattle.sm_model.specs.declared.why.Why.{Why}
 use Rattle.sm_model.specs.declared.why.Why.TheVariants as whys
 use Rattle.sm_model.specs.Needed.{needed}
 use Rattle.sm_account.specs.Handled.{HandledAs, entry_mark, marks_of, OnDiskFault}
-use Rattle.sm_account.specs.Outcome.{Outcome, Refuses, Replies, outcome}
-use Rattle.sm_account.specs.States.{Base, state_at}
+use Rattle.sm_account.specs.Outcome.{Outcome, Refuses, Replies}
+use Rattle.sm_account.specs.States.{Base}
 use Rattle.sm_account.specs.declared.handled.Handled.{Handled}
 use Rattle.sm_account.specs.declared.handled.Handled.TheVariants as handled
-use Rattle.sm_reply.specs.Shown.{shown, refused}
-use Rattle.sm_server.specs.declared.reply.MadeReply.{MadeReply}
-use Rattle.sm_server.specs.Answer.{Answer, root, question_of, answer_of}
-use Rattle.sm_server.specs.Outside.{Told, nothing_told, Growth}
-use Rattle.sm_server.specs.Replies.{IsReply, Says, unavailable, reply_made}
-use Rattle.sm_server.specs.Turns.{Turn, AnswerAt, entry_marks, LeavesFault, RequestTurn, TurnOf}
-use Rattle.sm_server.proofs.ReplyLemmas.{made_reply, no_reply}
-
--- how the counts of the disk and of the random source grew
-pub record Grown : Type 0 where
-  pub disk : Growth
-  pub random : Growth
-
--- the turn of such a reply
-abbrev pub turn_with : Told → List Mark → Grown → Result MadeReply NoMemory → Turn
-turn_with told marks grown result = record {
-  told = told;
-  reply = reply_made result;
-  marks = marks;
-  disk = grown.disk;
-  random = grown.random;
-}
-
--- one reading of the clock, and these random bytes
-abbrev pub told_once : ℕ → List ℕ → Told
-told_once now bytes = record { readings = now ∷ []; drawn = bytes }
+use Rattle.sm_reply.specs.Shown.{Answered, shown, refused}
+use Rattle.sm_spells.specs.Spells.{History}
+use Rattle.sm_session.specs.declared.said.Said.{Said}
+use Rattle.sm_session.specs.declared.said.Said.TheVariants.{Memory}
+use Rattle.sm_session.specs.Answer.{Asked, Answer, answer_of, answer_asked}
+use Rattle.sm_session.specs.Replies.{Says, SaysHandled, unavailable, reply_of}
+use Rattle.sm_session.specs.Turns.{Turn, entry_marks, IsGiven, LeavesFault, IsDiskFault, IsLost, AnswersBy, Reached, RandomFailed, NoMemoryFirst, IsTurn}
+use Rattle.sm_session.specs.Told.{nothing_told, told_once}
+use Rattle.sm_session.proofs.ReplyLemmas.{reply_said}
 
 entry_mark-is : (wanted : Outcome) → entry_mark wanted ≡ entry_marks (answer_of wanted).entry
 entry_mark-is (Replies reply None) = refl
 entry_mark-is (Replies reply (Some entry)) = refl
 entry_mark-is (Refuses why) = refl
 
-module _ (base : Base) (history : List (ℕ × Mark)) (request : Request) (grown : Grown)
-    (result : Result MadeReply NoMemory) where
-  module _ (told : Told) where
-    -- the marks are the answer's
-    made_turn : (marks : List Mark) (answer : Answer) → AnswerAt base history request told answer
-        → IfOk result (λ reply. IsReply reply answer.reply) → marks ≡ entry_marks answer.entry
-        → RequestTurn base history request (turn_with told marks grown result)
-    made_turn marks answer at is made =
-        elim (made_reply result answer.reply is) [
-          | inl e ↦ inl (inl (record { answer = answer; at = at; reply = e; made = made }))
-          | inr e ↦ inr (inr (e, inr (record { answer = answer; at = at; made = inl made })))
-        ]
+module _ (Cause : Type 0) (said : Said) where
+  -- the marks are the answer's
+  made : (answer : Answer) (marks : List Mark) → Says said answer.reply → marks ≡ entry_marks answer.entry
+      → AnswersBy Cause answer (reply_of said) marks
+  made answer marks is are =
+      elim (reply_said said answer.reply is) [ inl e ↦ inl (e, are) | inr e ↦ inr (inr (e, inl are)) ]
 
-    -- the disk failed
-    fault_turn : (marks : List Mark) (answer : Answer) → AnswerAt base history request told answer
-        → IfOk result (λ reply. IsReply reply (refused whys.DiskFault))
-        → LeavesFault answer (turn_with told marks grown result)
-        → RequestTurn base history request (turn_with told marks grown result)
-    fault_turn marks answer at is fault =
-        elim (made_reply result (refused whys.DiskFault) is) [
-          | inl e ↦ inl (inr (record { answer = answer; at = at; fault = fault; is = e }))
-          | inr e ↦ inr (inr (e, inr (record { answer = answer; at = at; made = inr (inl fault) })))
-        ]
-
-    -- what an account answers, by what the model does
-    answered_so : (answered : Handled) (wanted : Outcome) → AnswerAt base history request told (answer_of wanted)
-        → HandledAs answered wanted → OnDiskFault answered (Rose grown.disk.before grown.disk.after)
-        → Says answered result
-        → RequestTurn base history request (turn_with told (marks_of answered wanted) grown result)
-    answered_so (handled.Answered reply) (Replies wanted entry) at is rose says =
-        made_turn (entry_mark (Replies wanted entry)) (answer_of (Replies wanted entry)) at
-        (subst (λ (r : Reply). IfOk result (λ made. IsReply made (shown r))) is says)
-        (entry_mark-is (Replies wanted entry))
-    answered_so (handled.Answered reply) (Refuses why) at is rose says = absurd is
-    answered_so (handled.Refused why) (Refuses wanted) at is rose says =
-        made_turn [] (answer_of (Refuses wanted)) at
-        (subst (λ (w : Why). IfOk result (λ made. IsReply made (refused w))) is says) refl
-    answered_so (handled.Refused why) (Replies reply entry) at is rose says = absurd is
-    answered_so handled.DiskFault (Replies reply (Some entry)) at is rose says =
-        fault_turn _ (answer_of (Replies reply (Some entry))) at says (refl, rose, refl)
-    answered_so handled.DiskFault (Replies reply None) at is rose says = absurd is
-    answered_so handled.DiskFault (Refuses why) at is rose says = absurd is
-    answered_so handled.Memory wanted at is rose says =
-        inr (inr (no_reply result says, inr (record { answer = answer_of wanted; at = at; made = inr (inr refl) })))
-
-  -- a request reached the account
-  pub handled_turn : (answered : Handled) (now : ℕ) (bytes : List ℕ) → length bytes ≡ needed request
-      → HandledAs answered (outcome (state_at base history) (question_of now bytes request))
-      → OnDiskFault answered (Rose grown.disk.before grown.disk.after) → Says answered result
-      → TurnOf base history (Ok request) (turn_with (told_once now bytes)
-      (marks_of answered (outcome (state_at base history) (question_of now bytes request))) grown result)
-  handled_turn answered now bytes size is rose says =
-      let wanted = outcome (state_at base history) (question_of now bytes request) in
-      let at : AnswerAt base history request (told_once now bytes) (answer_of wanted) =
-      record { now = now; reading = refl; bytes = size; is = refl } in
-      answered_so (told_once now bytes) answered wanted at is rose says
-
-  -- whoever asked is the person who may do everything, and these bytes were drawn
-  pub asked_turn : (answered : Handled) (now : Moment) (bytes : List ℕ) (person : Person) (drawn : List ℕ)
-      → person ≡ root → drawn ≡ bytes → length bytes ≡ needed request
-      → HandledAs answered (outcome (state_at base history)
-      (record { person = person; now = now; drawn = drawn; request = request }))
-      → OnDiskFault answered (Rose grown.disk.before grown.disk.after) → Says answered result
-      → TurnOf base history (Ok request) (turn_with (told_once now.0 bytes)
-      (marks_of answered (outcome (state_at base history)
-      (record { person = person; now = now; drawn = drawn; request = request }))) grown result)
-  asked_turn answered now bytes person drawn who what size =
-      let at : Person → List ℕ → Outcome = λ p d. outcome (state_at base history)
-      (record { person = p; now = now; drawn = d; request = request }) in
-      let same : at root bytes ≡ at person drawn = ap (at root) (sym what) ∙ ap (λ p. at p drawn) (sym who) in
-      let Turns : Outcome → Type 0 = λ w. HandledAs answered w
-      → OnDiskFault answered (Rose grown.disk.before grown.disk.after) → Says answered result
-      → TurnOf base history (Ok request) (turn_with (told_once now.0 bytes) (marks_of answered w) grown result) in
-      subst Turns same (handled_turn answered now.0 bytes size)
-
-  -- the random source failed
-  pub faulty_turn : 0 < needed request → Rose grown.random.before grown.random.after
-      → IfOk result (λ reply. IsReply reply (refused whys.RandomFault))
-      → TurnOf base history (Ok request) (turn_with nothing_told [] grown result)
-  faulty_turn wanted rose is =
-      elim (made_reply result (refused whys.RandomFault) is) [
-        | inl e ↦ inr (inl (record { wanted = wanted; rose = rose; nothing = (refl, refl); is = e }))
-        | inr e ↦ inr (inr (e, inl (refl, refl)))
+  -- the disk failed
+  faulted : (answer : Answer) (marks : List Mark) → Says said (refused whys.DiskFault)
+      → LeavesFault Cause answer (reply_of said) marks → AnswersBy Cause answer (reply_of said) marks
+  faulted answer marks is fault =
+      elim (reply_said said (refused whys.DiskFault) is) [
+        | inl e ↦ inr (inl (e, fault))
+        | inr e ↦ inr (inr (e, inr (inl fault)))
       ]
 
--- the message was refused before it reached the account
-pub refused_turn : (base : Base) (history : List (ℕ × Mark)) (why : Why) (grown : Grown)
-    (result : Result MadeReply NoMemory) → IfOk result (λ reply. IsReply reply (refused why))
-    → TurnOf base history (Err why) (turn_with nothing_told [] grown result)
-refused_turn base history why grown result is = ((refl, refl), made_reply result (refused why) is)
+  -- what an account answers, by what the model does
+  pub answered_by : (answered : Handled) (wanted : Outcome) → HandledAs answered wanted → OnDiskFault answered Cause
+      → SaysHandled answered said → AnswersBy Cause (answer_of wanted) (reply_of said) (marks_of answered wanted)
+  answered_by (handled.Answered reply) (Replies wanted entry) is rose says =
+      made (answer_of (Replies wanted entry)) (entry_mark (Replies wanted entry))
+      (subst (λ (r : Reply). Says said (shown r)) is says) (entry_mark-is (Replies wanted entry))
+  answered_by (handled.Answered reply) (Refuses why) is rose says = absurd is
+  answered_by (handled.Refused why) (Refuses wanted) is rose says =
+      made (answer_of (Refuses wanted)) [] (subst (λ (w : Why). Says said (refused w)) is says) refl
+  answered_by (handled.Refused why) (Replies reply entry) is rose says = absurd is
+  answered_by handled.DiskFault (Replies reply (Some entry)) is rose says =
+      faulted (answer_of (Replies reply (Some entry))) _ says (refl, rose, refl)
+  answered_by handled.DiskFault (Replies reply None) is rose says = absurd is
+  answered_by handled.DiskFault (Refuses why) is rose says = absurd is
+  answered_by handled.Memory wanted is rose says = inr (inr (ap reply_of says, inr (inr refl)))
 
--- there was no memory to read the message
-pub unread_turn : (base : Base) (history : List (ℕ × Mark)) (heard : Result Request Why) (grown : Grown)
-    → TurnOf base history heard (record {
-      told = nothing_told;
-      reply = unavailable;
-      marks = [];
-      disk = grown.disk;
-      random = grown.random;
+-- the turn of a reply for which nothing was told and nothing made
+abbrev pub untouched : Answered → Turn
+untouched reply = record { told = nothing_told; reply = reply; marks = [] }
+
+module _ (Disk Random : Type 0) (base : Base) (history : History) where
+  -- a message that was refused
+  pub refused_turn : (why : Why) (said : Said) → Says said (refused why)
+      → IsTurn Disk Random base history (Err why) (untouched (reply_of said))
+  refused_turn why said is = ((refl, refl), reply_said said (refused why) is)
+
+  -- a message for which there was no memory before anything was told
+  pub forgotten_turn : (wanted : Result Asked Why) → IsTurn Disk Random base history wanted (untouched unavailable)
+  forgotten_turn (Err why) = ((refl, refl), inr refl)
+  forgotten_turn (Ok asked) = inr (inr ((refl, refl), refl))
+
+  module _ (asked : Asked) where
+    -- the random source failed
+    pub failed_turn : (said : Said) → 0 < needed asked.request → Random → Says said (refused whys.RandomFault)
+        → IsTurn Disk Random base history (Ok asked) (untouched (reply_of said))
+    failed_turn said wanted cause is =
+        elim (reply_said said (refused whys.RandomFault) is) [
+          | inl e ↦ inr (inl (wanted, cause, (refl, refl), e))
+          | inr e ↦ inr (inr ((refl, refl), e))
+        ]
+
+    -- the request reached the account
+    pub reached_turn : (now : ℕ) (bytes drawn : List ℕ) (reply : Answered) (marks : List Mark) → drawn ≡ bytes
+        → length bytes ≡ needed asked.request
+        → AnswersBy Disk (answer_asked base history now drawn asked) reply marks
+        → IsTurn Disk Random base history (Ok asked)
+        (record { told = told_once now bytes; reply = reply; marks = marks })
+    reached_turn now bytes drawn reply marks same size by = inl (record {
+      answer = answer_asked base history now bytes asked;
+      at = record { now = now; reading = refl; bytes = size; is = refl };
+      by = subst (λ d. AnswersBy Disk (answer_asked base history now d asked) reply marks) same by;
     })
-unread_turn base history (Ok request) grown = inr (inr (refl, inl (refl, refl)))
-unread_turn base history (Err why) grown = ((refl, refl), inr refl)
+
+-- causes may be said more weakly
+module _ (answer : Answer) (reply : Answered) (marks : List Mark) (Cause Weaker : Type 0) (weaker : Cause → Weaker) where
+  fault_weaker : LeavesFault Cause answer reply marks → LeavesFault Weaker answer reply marks
+  fault_weaker fault = (fault.0, weaker fault.1, fault.2)
+
+  pub answers_weaker : AnswersBy Cause answer reply marks → AnswersBy Weaker answer reply marks
+  answers_weaker (inl given) = inl given
+  answers_weaker (inr (inl fault)) = inr (inl (fault.0, fault_weaker fault.1))
+  answers_weaker (inr (inr lost)) =
+      inr (inr (
+        lost.0,
+        elim lost.1 [
+          | inl made ↦ inl made
+          | inr (inl fault) ↦ inr (inl (fault_weaker fault))
+          | inr (inr unmade) ↦ inr (inr unmade)
+        ],
+      ))
+
+pub turn_weaker : (Disk Disk' Random Random' : Type 0) → (Disk → Disk') → (Random → Random') → (base : Base)
+    (history : History) (wanted : Result Asked Why) (turn : Turn) → IsTurn Disk Random base history wanted turn
+    → IsTurn Disk' Random' base history wanted turn
+turn_weaker Disk Disk' Random Random' disk random base history (Err why) turn t = t
+turn_weaker Disk Disk' Random Random' disk random base history (Ok asked) turn (inl r) =
+    inl (record { answer = r.answer; at = r.at; by = answers_weaker r.answer turn.reply turn.marks Disk Disk' disk r.by })
+turn_weaker Disk Disk' Random Random' disk random base history (Ok asked) turn (inr (inl f)) =
+    inr (inl (f.0, random f.1, f.2, f.3))
+turn_weaker Disk Disk' Random Random' disk random base history (Ok asked) turn (inr (inr n)) = inr (inr n)
