@@ -341,6 +341,8 @@ def members_of(operation, body):
         raise refusal("unknown operation")
     given = object_of(body)
     members = [pair for member in MEMBERS[operation].split(", ") for pair in read_member(given, *member.split(" "))]
+    if operation not in BUILT:
+        raise refusal("not built")
     return {name: value for name, value in members if name != "AddReplicaRegions"}
 
 
@@ -533,8 +535,6 @@ class Account:
         members = members_of(operation, body)
         drawn = self.draw(needed(operation, members))
         test_forms(operation, members)
-        if operation not in BUILT:
-            raise refusal("not built")
         if operation == "CreateSecret":
             return self.create(members, drawn)
         if operation == "GetRandomPassword":
