@@ -33,6 +33,7 @@ pub fn run(rt: &HostRuntime, folder: &str) -> Option<usize> {
         disk,
         &mut clock,
         &mut random,
+        b"",
     );
     Some(usize::from(status.code()))
 }

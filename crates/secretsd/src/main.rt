@@ -10,13 +10,14 @@ use sm_io::{
     Clock, CountWords, FixedClock, StreamSink, StreamSource, SystemClock, SystemWords, Words,
 };
 use sm_model::{Bytes, Fails, Moment, NoMemory};
+use sm_principal::{People, PeopleRefused};
 use sm_server::{Status, end_of_settings, run_once};
 use sm_words::{Settings, WordsRefused, read_words, refusal_of};
 use std::alloc::Global;
 use std::env::Env;
 use std::io::ErrorKind;
 use std::process::ExitCode;
-use std::{env, io};
+use std::{env, fs, io};
 
 /// What the clock reads where a number is given.
 const FIXED_MOMENT: Moment = Moment(1_700_000_000);
@@ -52,11 +53,14 @@ fn follow(rt: &HostRuntime, words: &[String]) -> Status {
         Ok(settings) => match end_of_settings(&settings) {
             Some(status) => {
                 let _ = eprintln!(rt;
-                    "secretsd: only --mode exec is built yet, without --people and with --rotator local"
+                    "secretsd: only --mode exec is built yet, and with --rotator local"
                 );
                 status
             }
-            None => run(rt, words, &settings),
+            None => match people_text(rt, &settings) {
+                Ok(people) => run(rt, words, &settings, people.as_slice()),
+                Err(status) => status,
+            },
         },
         Err(WordsRefused::Refused) => say_refusal(rt, words),
         Err(WordsRefused::Memory) => Status::Memory,
@@ -85,12 +89,35 @@ fn show(rt: &HostRuntime, text: &str) -> Status {
     }
 }
 
+/// The text of the file that says who may ask, where one is named, and else none. It is tried before a folder is opened.
+fn people_text(rt: &HostRuntime, settings: &Settings) -> Result<Vec<u8>, Status> {
+    let Some(file) = &settings.people else {
+        return Ok(Vec::new(rt.alloc()));
+    };
+    let file = file.as_str();
+    match fs::read(rt, file) {
+        Ok(text) => match People::read(rt.alloc(), text.as_slice()) {
+            Ok(_) => Ok(text),
+            Err(PeopleRefused::BadLine(line)) => {
+                let _ = eprintln!(rt; "secretsd: line {line} of {file} is no person");
+                Err(Status::People(line))
+            }
+            Err(PeopleRefused::Memory) => Err(Status::Memory),
+        },
+        Err(error) if error.kind() == ErrorKind::OutOfMemory => Err(Status::Memory),
+        Err(error) => {
+            let _ = eprintln!(rt; "secretsd: the people of {file} can't be read: {error}");
+            Err(Status::People(0))
+        }
+    }
+}
+
 /// Runs over the folder that is named, and else over a disk in memory, which is let go at the end.
-fn run(rt: &HostRuntime, words: &[String], settings: &Settings) -> Status {
+fn run(rt: &HostRuntime, words: &[String], settings: &Settings, people: &[u8]) -> Status {
     match &settings.folder {
-        Some(folder) => run_over_folder(rt, words, settings.number, folder.as_str()),
+        Some(folder) => run_over_folder(rt, words, settings.number, folder.as_str(), people),
         None => match empty_disk(rt.alloc()) {
-            Ok(disk) => run_over(rt, words, settings.number, disk),
+            Ok(disk) => run_over(rt, words, settings.number, disk, people),
             Err(NoMemory) => Status::Memory,
         },
     }
@@ -102,9 +129,10 @@ fn run_over_folder(
     words: &[String],
     number: Option<u64>,
     folder: &str,
+    people: &[u8],
 ) -> Status {
     match FileDisk::open(rt, rt.alloc(), folder) {
-        Ok(disk) => run_over(rt, words, number, disk),
+        Ok(disk) => run_over(rt, words, number, disk, people),
         Err(refused) => {
             let _ = eprintln!(rt; "secretsd: the folder {folder} can't be opened: {refused}");
             Status::OpenFault
@@ -129,6 +157,7 @@ fn run_over<D: Disk + Drop>(
     words: &[String],
     number: Option<u64>,
     disk: D,
+    people: &[u8],
 ) -> Status {
     let alloc = rt.alloc();
     match number {
@@ -136,12 +165,12 @@ fn run_over<D: Disk + Drop>(
             let mut clock = FixedClock::new(FIXED_MOMENT);
             let first = (number % 256) as u8;
             let mut random = CountWords::new(alloc, first, Fails::never(alloc));
-            answer(rt, words, disk, &mut clock, &mut random)
+            answer(rt, words, disk, &mut clock, &mut random, people)
         }
         None => {
             let mut clock = SystemClock::new(rt);
             let mut random = SystemWords::new(alloc, rt);
-            answer(rt, words, disk, &mut clock, &mut random)
+            answer(rt, words, disk, &mut clock, &mut random, people)
         }
     }
 }
@@ -153,6 +182,7 @@ fn answer<D: Disk + Drop, C: Clock, W: Words>(
     disk: D,
     clock: &mut C,
     random: &mut W,
+    people: &[u8],
 ) -> Status {
     let mut source = StreamSource::new(rt.stdin());
     let mut sink = StreamSink::new(rt.stdout());
@@ -164,6 +194,7 @@ fn answer<D: Disk + Drop, C: Clock, W: Words>(
         disk,
         clock,
         random,
+        people,
     );
     status
 }

@@ -6,7 +6,5 @@ pub mod Reads
 pub mod Tables
 pub mod Bodies
 pub mod Asks
-pub mod Built
-pub mod Gives
 pub mod Laws
 pub mod KindLaws

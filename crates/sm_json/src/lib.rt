@@ -3,7 +3,6 @@
 #![tactic(auto)]
 
 mod body;
-pub mod built;
 pub mod fields;
 pub mod kinds;
 pub mod laws;
@@ -16,7 +15,6 @@ mod rotation;
 mod secrets;
 mod values;
 
-pub use built::{AskFault, request_if_built};
 pub use name::MemberName;
 pub use operation::Operation;
 pub use requests::{ReadRequest, request, request_of};

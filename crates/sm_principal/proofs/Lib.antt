@@ -1,3 +1,4 @@
 pub mod CallerLemmas
 pub mod LineLemmas
 pub mod PeopleLemmas
+pub mod BoundLemmas

@@ -61,7 +61,7 @@ pub parted_none : (byte : ℕ) (text : List ℕ) (i : ℕ) (wanted : Option (Lis
 parted_none byte text i wanted h was =
     sym (was ∙ ap (λ (t : List ℕ). with_before (take i text) (parted byte t)) (drop_of_length-le text h))
 
-both : (a b : Bool) → (a && b) ≡ true → (a ≡ true) × (b ≡ true)
+pub both : (a b : Bool) → (a && b) ≡ true → (a ≡ true) × (b ≡ true)
 both true b h = (refl, h)
 both false b h = absurd (cc)
 

@@ -2,6 +2,7 @@
 #![tactic(auto)]
 
 pub mod caller;
+pub mod laws;
 mod lines;
 pub mod people;
 

@@ -5,8 +5,6 @@ use Rattle.std.proofs.Math.Seq.{take-append_seam}
 use Rattle.std.specs.Io.KnownBytes.{prepend_known, IsAtEnd}
 use Rattle.sm_base.specs.Faults.{Rose}
 use Rattle.sm_base.specs.declared.bad_kind.BadKind.{BadKind}
-use Rattle.sm_model.specs.declared.entry.Mark.{Mark}
-use Rattle.sm_model.specs.declared.request.Request.{Request}
 use Rattle.sm_model.specs.declared.why.Why.{Why}
 use Rattle.sm_account.specs.States.{Base}
 use Rattle.sm_http.specs.Messages.{Message, End, Closing, Bad, Rest, Messages}
@@ -15,17 +13,23 @@ use Rattle.sm_http.proofs.OneReadingLemmas.{one_reading}
 use Rattle.sm_reply.specs.Shown.{Answered}
 use Rattle.sm_server.specs.declared.status.Status.{Status}
 use Rattle.sm_server.specs.declared.status.Status.TheVariants.{Done, Words, Damaged, OpenFault, Memory, People, SinkFault, SourceFault, EdgeFault, Cut, BadMessage, Enough, NotBuilt}
+use Rattle.sm_principal.specs.declared.people.People.{People as Persons}
+use Rattle.sm_principal.specs.Callers.{people_of}
 use Rattle.sm_words.specs.Reading.{settings_of}
-use Rattle.sm_server.specs.Answer.{heard}
-use Rattle.sm_server.specs.Asked.{WordsDecide}
-use Rattle.sm_server.specs.Complete.{Steady, NoneFailed, ModelTurn, ModelTurns, AnswersEach, ReadsWhole, Ran}
-use Rattle.sm_server.specs.Outside.{Outside, Trace, Growth, growth}
-use Rattle.sm_server.specs.Ran.{Course, joined, AreAnswered, Answers, Ended, Story, course_of, Runs}
-use Rattle.sm_server.specs.Replies.{framed_answer}
+use Rattle.sm_spells.specs.Spells.{History}
+use Rattle.sm_session.specs.Answer.{Asked, heard}
+use Rattle.sm_session.specs.Endings.{joined}
+use Rattle.sm_session.specs.Replies.{framed_answer}
+use Rattle.sm_session.specs.Streams.{message_limit, StartWith, EndsWell}
+use Rattle.sm_session.specs.Told.{Growth}
+use Rattle.sm_session.proofs.StreamLemmas.{start_prefix, start_more, no_messages}
+use Rattle.sm_session.proofs.TurnLemmas.{turn_weaker}
+use Rattle.sm_server.specs.Asked.{WordsDecide, PeopleDecide}
+use Rattle.sm_server.specs.Complete.{Steady, NoneFailed, ModelTurn, ModelTurns, AnswersEach, ReadsWhole, Orders, Ran}
+use Rattle.sm_server.specs.Outside.{Outside, Trace, growth}
+use Rattle.sm_server.specs.Ran.{Course, AreAnswered, Answers, Ended, Story, course_of, Runs}
 use Rattle.sm_server.specs.Status.{WasOpened}
-use Rattle.sm_server.specs.Streams.{message_limit, StartWith, EndsWell}
-use Rattle.sm_server.specs.Turns.{Turn, TurnOf, marked, Brought, Turns}
-use Rattle.sm_server.proofs.StreamLemmas.{start_prefix, start_more, no_messages}
+use Rattle.sm_server.specs.Turns.{Turn, TurnOf, brings, marked, Brought, Turns}
 
 -- known bytes in which something was read first
 known_parts : (input : List ℕ) (left : Option (List ℕ)) (bytes : List ℕ) → Some bytes ≡ prepend_known input left
@@ -34,61 +38,57 @@ known_parts input None bytes is = absurd (let h = is in cc)
 known_parts input (Some rest) bytes is = (rest, refl, let h : Some bytes ≡ Some (input ++ rest) = is in cc)
 
 -- no count of the disk fell
-disk_grew : (base : Base) (history : List (ℕ × Mark)) (messages : List Message) (brought : Brought)
-    → Turns base history messages brought → brought.disk.before ≤ brought.disk.after
-disk_grew base history [] brought is =
+disk_grew : (people : Persons) (base : Base) (history : History) (messages : List Message) (brought : Brought)
+    → Turns people base history messages brought → brought.disk.before ≤ brought.disk.after
+disk_grew people base history [] brought is =
     subst (λ (b : Brought). b.disk.before ≤ b.disk.after) (sym is) (omega arith)
-disk_grew base history (m ∷ messages) brought (turn, others, turned, goes, more, follow, is) =
-    let later = disk_grew base (history ++ marked turn) messages others more in
+disk_grew people base history (m ∷ messages) brought (turn, others, turned, goes, more, follow, is) =
+    let later = disk_grew people base (history ++ marked turn) messages others more in
     let first = goes.disk in
     let next = follow.0 in
     subst (λ (b : Brought). b.disk.before ≤ b.disk.after) (sym is) (omega (arith, later, first, next))
 
 -- nor of the random source
-random_grew : (base : Base) (history : List (ℕ × Mark)) (messages : List Message) (brought : Brought)
-    → Turns base history messages brought → brought.random.before ≤ brought.random.after
-random_grew base history [] brought is =
+random_grew : (people : Persons) (base : Base) (history : History) (messages : List Message) (brought : Brought)
+    → Turns people base history messages brought → brought.random.before ≤ brought.random.after
+random_grew people base history [] brought is =
     subst (λ (b : Brought). b.random.before ≤ b.random.after) (sym is) (omega arith)
-random_grew base history (m ∷ messages) brought (turn, others, turned, goes, more, follow, is) =
-    let later = random_grew base (history ++ marked turn) messages others more in
+random_grew people base history (m ∷ messages) brought (turn, others, turned, goes, more, follow, is) =
+    let later = random_grew people base (history ++ marked turn) messages others more in
     let first = goes.random in
     let next = follow.1 in
     subst (λ (b : Brought). b.random.before ≤ b.random.after) (sym is) (omega (arith, later, first, next))
 
 -- a turn in which nothing failed
-model_turn : (base : Base) (history : List (ℕ × Mark)) (asked : Result Request Why) (turn : Turn)
+model_turn : (base : Base) (history : History) (asked : Result Asked Why) (turn : Turn)
     → TurnOf base history asked turn → Steady turn.disk.before turn.disk.after
     → Steady turn.random.before turn.random.after → ModelTurn base history asked turn
-model_turn base history (Err why) turn t disk random = t
-model_turn base history (Ok request) turn (inl (inl a)) disk random = inl a
-model_turn base history (Ok request) turn (inl (inr a)) disk random = absurd (disk a.fault.1)
-model_turn base history (Ok request) turn (inr (inl a)) disk random = absurd (random a.rose)
-model_turn base history (Ok request) turn (inr (inr a)) disk random = inr a
+model_turn base history asked turn t disk random = turn_weaker _ ⊥ _ ⊥ disk random base history asked (brings turn) t
 
 -- a count that did not rise over a longer time did not rise
 steady_within : (from before now to : ℕ) → Steady from to → from ≤ before → now ≤ to → Steady before now
 steady_within from before now to steady first last rose = steady (omega (arith, rose, first, last))
 
 -- turns in which nothing failed
-model_turns : (base : Base) (history : List (ℕ × Mark)) (messages : List Message) (brought : Brought)
-    → Turns base history messages brought → Steady brought.disk.before brought.disk.after
-    → Steady brought.random.before brought.random.after → ModelTurns base history messages brought.replies
-model_turns base history [] brought is disk random = ap (λ (b : Brought). b.replies) is
-model_turns base history (m ∷ messages) brought (turn, others, turned, goes, more, follow, is) disk random =
-    let grew = disk_grew base (history ++ marked turn) messages others more in
-    let grew_random = random_grew base (history ++ marked turn) messages others more in
+model_turns : (people : Persons) (base : Base) (history : History) (messages : List Message) (brought : Brought)
+    → Turns people base history messages brought → Steady brought.disk.before brought.disk.after
+    → Steady brought.random.before brought.random.after → ModelTurns people base history messages brought.replies
+model_turns people base history [] brought is disk random = ap (λ (b : Brought). b.replies) is
+model_turns people base history (m ∷ messages) brought (turn, others, turned, goes, more, follow, is) disk random =
+    let grew = disk_grew people base (history ++ marked turn) messages others more in
+    let grew_random = random_grew people base (history ++ marked turn) messages others more in
     let d : Steady turn.disk.before others.disk.after =
     subst (λ (b : Brought). Steady b.disk.before b.disk.after) is disk in
     let r : Steady turn.random.before others.random.after =
     subst (λ (b : Brought). Steady b.random.before b.random.after) is random in (
       turn,
       others.replies,
-      model_turn base history (heard m) turn turned
+      model_turn base history (heard people m) turn turned
           (steady_within turn.disk.before turn.disk.before turn.disk.after others.disk.after d (omega arith)
           (omega (arith, grew, follow.0)))
           (steady_within turn.random.before turn.random.before turn.random.after others.random.after r (omega arith)
           (omega (arith, grew_random, follow.1))),
-      model_turns base (history ++ marked turn) messages others more
+      model_turns people base (history ++ marked turn) messages others more
           (steady_within turn.disk.before others.disk.before others.disk.after others.disk.after d
           (omega (arith, goes.disk, follow.0)) (omega arith))
           (steady_within turn.random.before others.random.before others.random.after others.random.after r
@@ -113,13 +113,13 @@ module _ (course : Course) (before after : Outside) (trace : Trace)
   where
     -- the replies to messages that were answered, and something behind them, are the model's
     answers_model : (messages : List Message) (a : AreAnswered course messages trace)
-        → ModelTurns course.base [] messages a.brought.replies
+        → ModelTurns course.people course.base [] messages a.brought.replies
     answers_model messages a =
         let disk : Steady trace.disk.before trace.disk.after =
         subst (λ (g : Growth). Steady g.before g.after) (sym disk_is) none.disk in
         let random : Steady trace.random.before trace.random.after =
         subst (λ (g : Growth). Steady g.before g.after) (sym random_is) none.random in
-        model_turns course.base [] messages a.brought a.turns
+        model_turns course.people course.base [] messages a.brought a.turns
         (steady_within trace.disk.before a.brought.disk.before a.brought.disk.after trace.disk.after disk a.disk.0
         a.disk.1)
         (subst (λ (g : Growth). Steady g.before g.after) a.random random)
@@ -131,7 +131,8 @@ module _ (course : Course) (before after : Outside) (trace : Trace)
     each_of input messages a more writes first all end are = (
       a.brought.replies,
       more,
-      subst (λ ms. ModelTurns course.base [] ms a.brought.replies) (sym (first all end are)) (answers_model messages a),
+      subst (λ ms. ModelTurns course.people course.base [] ms a.brought.replies) (sym (first all end are))
+          (answers_model messages a),
       writes,
     )
 
@@ -150,7 +151,7 @@ module _ (course : Course) (before after : Outside) (trace : Trace)
     each_none input nothing all end are =
         let none : all ≡ [] = no_messages all end (subst (λ bytes. Messages bytes 0 all end) nothing are) in
         let no : List Answered = [] in
-        (no, trace.written, subst (λ ms. ModelTurns course.base [] (take message_limit ms) no) (sym none) refl, refl)
+        (no, trace.written, subst (λ ms. ModelTurns course.people course.base [] (take message_limit ms) no) (sym none) refl, refl)
 
     module _ (sink_is : trace.sink ≡ growth (λ c. c.sink) before after)
         (source_is : trace.source ≡ growth (λ c. c.source) before after) (input : List ℕ) (left : Option (List ℕ)) where
@@ -175,7 +176,7 @@ module _ (course : Course) (before after : Outside) (trace : Trace)
       each_by (Damaged at entry) e other = each_none input e.0
       each_by OpenFault e other = each_none input e.0
       each_by Memory e other = absurd (other refl)
-      each_by (People place) e other = absurd e.ends
+      each_by (People line) e other = each_none input e.0
       each_by (SinkFault counted) e other = absurd (no_sink_fault e.ends.1)
       each_by SourceFault e other = absurd (no_source_fault e.ends.4)
       each_by EdgeFault e other = absurd e.ends
@@ -183,9 +184,9 @@ module _ (course : Course) (before after : Outside) (trace : Trace)
           each_of input e.messages e.answered [] (alone e.answered.brought.replies e.ends.1)
           (one_of input e.messages (Rest n) e.ends.2 e.ends.0)
       each_by (BadMessage at) e other =
-          let bad = e.ends.1 in
+          let bad = e.ends.1.1 in
           each_of input e.messages e.answered (framed_answer bad.last) bad.writes
-          (one_of input e.messages (Bad bad.kind bad.place) bad.ends e.ends.0)
+          (one_of input e.messages (Bad e.ends.0 bad.place) bad.ends e.ends.1.0)
       each_by Enough e other =
           each_of input e.messages e.answered [] (alone e.answered.brought.replies e.ends.1)
           (λ all end are. let more = start_prefix input e.messages all end e.ends.2 are in
@@ -223,13 +224,13 @@ module _ (course : Course) (before after : Outside) (trace : Trace)
         whole_of (Damaged at entry) opened e = absurd opened
         whole_of OpenFault opened e = absurd opened
         whole_of Memory opened e = inr refl
-        whole_of (People place) opened e = absurd e.ends
+        whole_of (People line) opened e = absurd opened
         whole_of (SinkFault counted) opened e = absurd (no_sink_fault e.ends.1)
         whole_of SourceFault opened e = absurd (no_source_fault e.ends.4)
         whole_of EdgeFault opened e = absurd e.ends
         whole_of (Cut n) opened e = absurd (not_cut n e.messages e.ends.2 e.ends.3 e.ends.4)
         whole_of (BadMessage at) opened e =
-            absurd (not_bad e.ends.1.kind e.ends.1.place e.messages e.ends.1.ends)
+            absurd (not_bad e.ends.0 e.ends.1.1.place e.messages e.ends.1.1.ends)
         whole_of Enough opened e = absurd (not_enough e.messages e.ends.2 e.ends.0)
         whole_of NotBuilt opened e = absurd opened
 
@@ -239,12 +240,13 @@ module _ (course : Course) (before after : Outside) (trace : Trace)
           let parts = known_parts input left bytes (sym known ∙ reads) in
           whole_of parts.0 all end (subst (λ xs. Messages xs 0 all end) parts.2 are) well few parts.1 status opened e
 
--- a run with these words that ended so
-pub ran_by : (words : List (List ℕ)) (status : Status) (before after : Outside) (story : Story)
-    → WordsDecide status (settings_of words) → Runs (course_of story) status before after
-    → Ran words status before after story
-ran_by words status before after story decide runs = record {
+-- a run under these orders that ended so
+pub ran_by : (orders : Orders) (status : Status) (before after : Outside) (story : Story)
+    → WordsDecide status (settings_of orders.words) → PeopleDecide status (people_of orders.people) story.people
+    → Runs (course_of story) status before after → Ran orders status before after story
+ran_by orders status before after story decide people runs = record {
   words_decide = decide;
+  people_decide = people;
   runs = runs;
   each = λ none other. each_by (course_of story) before after runs.trace runs.passed.disk_count
       runs.passed.random_count none runs.passed.sink_count runs.passed.source_count runs.input after.left status

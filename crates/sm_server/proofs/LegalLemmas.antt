@@ -4,7 +4,6 @@ use Rattle.sm_model.specs.declared.entry.Entry.{Entry as entries}
 use Rattle.sm_model.specs.declared.entry.Mark.{Mark}
 use Rattle.sm_model.specs.declared.entry.Mark.TheVariants.{Fault}
 use Rattle.sm_model.specs.declared.reply.Reply.{Reply}
-use Rattle.sm_model.specs.declared.request.Request.{Request}
 use Rattle.sm_model.specs.declared.why.Why.{Why}
 use Rattle.sm_model.specs.Needed.{needed}
 use Rattle.sm_access.specs.Admission.{admission}
@@ -18,9 +17,13 @@ use Rattle.sm_account.specs.History.{entries_in, by_seat}
 use Rattle.sm_account.specs.Outcome.{Outcome, unless_malformed, unless_denied, considered, limit_passed, outcome_within, outcome_judged, Question, moment_at, entry_at, outcome}
 use Rattle.sm_account.specs.States.{Base, State, state_at}
 use Rattle.sm_http.specs.Messages.{Message}
-use Rattle.sm_server.specs.Answer.{Answer, heard, question_of, answer_of}
-use Rattle.sm_server.specs.Outside.{Told}
-use Rattle.sm_server.specs.Turns.{seat, Turn, AnswerAt, entry_marks, RequestTurn, TurnOf, marked, Brought, Turns}
+use Rattle.sm_reply.specs.Shown.{Answered}
+use Rattle.sm_principal.specs.declared.people.People.{People}
+use Rattle.sm_session.specs.Answer.{Asked, Answer, heard, question_of, answer_of}
+use Rattle.sm_session.specs.Told.{Told}
+use Rattle.sm_session.specs.Turns.{AnswerAt, entry_marks, AnswersBy, Reached}
+use Rattle.sm_session.specs.Turns as sessions
+use Rattle.sm_server.specs.Turns.{seat, Turn, TurnOf, marked, Brought, Turns}
 use Rattle.sm_server.proofs.HistoryLemmas.{entries_in-append, replay_more, last_more}
 
 -- the entry may follow the history
@@ -72,11 +75,11 @@ outcome_follows base history question entry size is =
     (omega arith, (size, formed.0, due_for state.rows question.person moment question.drawn question.request
     (admitted_due denied judged formed.1)))
 
-made_follows : (base : Base) (history : List (ℕ × Mark)) (request : Request) (told : Told) (answer : Answer)
-    → AnswerAt base history request told answer
+made_follows : (base : Base) (history : List (ℕ × Mark)) (asked : Asked) (told : Told) (answer : Answer)
+    → AnswerAt base history asked told answer
     → (entry : entries) → answer.entry ≡ Some entry → MayFollow base (entries_in history) entry
-made_follows base history request told answer at entry is =
-    outcome_follows base history (question_of at.now told.drawn request) entry at.bytes
+made_follows base history asked told answer at entry is =
+    outcome_follows base history (question_of at.now told.drawn asked) entry at.bytes
     (sym (ap (λ (a : Answer). a.entry) at.is) ∙ is)
 
 -- an entry, if there is one, as a list
@@ -106,38 +109,43 @@ entry_marks-listed : (entry : Option entries) → entries_in (by_seat seat (entr
 entry_marks-listed None = refl
 entry_marks-listed (Some entry) = refl
 
-entry_follows : (base : Base) (history : List (ℕ × Mark)) (request : Request) (told : Told) (answer : Answer)
-    (marks : List Mark) → AnswerAt base history request told answer → marks ≡ entry_marks answer.entry
+entry_follows : (base : Base) (history : List (ℕ × Mark)) (asked : Asked) (told : Told) (answer : Answer)
+    (marks : List Mark) → AnswerAt base history asked told answer → marks ≡ entry_marks answer.entry
     → MarksFollow base (entries_in history) marks
-entry_follows base history request told answer marks at is = (
+entry_follows base history asked told answer marks at is = (
   answer.entry,
   ap (λ (m : List Mark). entries_in (by_seat seat m)) is ∙ entry_marks-listed answer.entry,
-  made_follows base history request told answer at,
+  made_follows base history asked told answer at,
 )
 
-request_follows : (base : Base) (history : List (ℕ × Mark)) (request : Request) (turn : Turn)
-    → RequestTurn base history request turn → MarksFollow base (entries_in history) turn.marks
-request_follows base history request turn (inl (inl a)) =
-    entry_follows base history request turn.told a.answer turn.marks a.at a.made
-request_follows base history request turn (inl (inr a)) =
-    fault_follows base (entries_in history) turn.marks a.fault.2
-request_follows base history request turn (inr (inl a)) =
-    nothing_follows base (entries_in history) turn.marks a.nothing.1
-request_follows base history request turn (inr (inr (same, inl (told, unmade)))) =
-    nothing_follows base (entries_in history) turn.marks unmade
-request_follows base history request turn (inr (inr (same, inr a))) =
-    elim a.made [
-      | inl made ↦ entry_follows base history request turn.told a.answer turn.marks a.at made
-      | inr (inl fault) ↦ fault_follows base (entries_in history) turn.marks fault.2
-      | inr (inr unmade) ↦ nothing_follows base (entries_in history) turn.marks unmade
-    ]
+module _ (Cause : Type 0) (base : Base) (history : List (ℕ × Mark)) (asked : Asked) (told : Told) (answer : Answer)
+    (reply : Answered) (marks : List Mark) (at : AnswerAt base history asked told answer) where
+  answer_follows : AnswersBy Cause answer reply marks → MarksFollow base (entries_in history) marks
+  answer_follows (inl given) = entry_follows base history asked told answer marks at given.1
+  answer_follows (inr (inl fault)) = fault_follows base (entries_in history) marks fault.1.2
+  answer_follows (inr (inr lost)) =
+      elim lost.1 [
+        | inl made ↦ entry_follows base history asked told answer marks at made
+        | inr (inl fault) ↦ fault_follows base (entries_in history) marks fault.2
+        | inr (inr unmade) ↦ nothing_follows base (entries_in history) marks unmade
+      ]
 
 -- the marks of a turn may follow
-turn_follows : (base : Base) (history : List (ℕ × Mark)) (asked : Result Request Why) (turn : Turn)
+is_turn_follows : (Disk Random : Type 0) (base : Base) (history : List (ℕ × Mark)) (asked : Result Asked Why)
+    (turn : sessions.Turn) → sessions.IsTurn Disk Random base history asked turn
+    → MarksFollow base (entries_in history) turn.marks
+is_turn_follows Disk Random base history (Err why) turn t =
+    nothing_follows base (entries_in history) turn.marks t.0.1
+is_turn_follows Disk Random base history (Ok asked) turn (inl r) =
+    answer_follows Disk base history asked turn.told r.answer turn.reply turn.marks r.at r.by
+is_turn_follows Disk Random base history (Ok asked) turn (inr (inl f)) =
+    nothing_follows base (entries_in history) turn.marks f.2.1
+is_turn_follows Disk Random base history (Ok asked) turn (inr (inr n)) =
+    nothing_follows base (entries_in history) turn.marks n.0.1
+
+turn_follows : (base : Base) (history : List (ℕ × Mark)) (asked : Result Asked Why) (turn : Turn)
     → TurnOf base history asked turn → MarksFollow base (entries_in history) turn.marks
-turn_follows base history (Err why) turn ((told, unmade), reply) =
-    nothing_follows base (entries_in history) turn.marks unmade
-turn_follows base history (Ok request) turn t = request_follows base history request turn t
+turn_follows base history asked turn t = is_turn_follows _ _ base history asked _ t
 
 -- an entry that may follow, and legal entries behind it
 legal_more : (base : Base) (made : List entries) (entry : Option entries) (more : List entries)
@@ -173,15 +181,15 @@ marks_more base history marks rest (entry, is, follows) legal =
     legal))
 
 -- the entries that messages make at a history may follow it
-pub turns_legal : (base : Base) (history : List (ℕ × Mark)) (messages : List Message) (brought : Brought)
-    → Turns base history messages brought
+pub turns_legal : (people : People) (base : Base) (history : List (ℕ × Mark)) (messages : List Message)
+    (brought : Brought) → Turns people base history messages brought
     → Legal (replay base.rows (entries_in history)) (last_moment base.last (entries_in history))
     (entries_in brought.history)
-turns_legal base history [] brought is =
+turns_legal people base history [] brought is =
     subst (λ (b : Brought). Legal (replay base.rows (entries_in history)) (last_moment base.last (entries_in history))
     (entries_in b.history)) (sym is) tt
-turns_legal base history (m ∷ messages) brought (turn, others, turned, goes, more, follows, is) =
+turns_legal people base history (m ∷ messages) brought (turn, others, turned, goes, more, follows, is) =
     subst (λ (b : Brought). Legal (replay base.rows (entries_in history)) (last_moment base.last (entries_in history))
     (entries_in b.history)) (sym is)
-    (marks_more base history turn.marks others.history (turn_follows base history (heard m) turn turned)
-    (turns_legal base (history ++ marked turn) messages others more))
+    (marks_more base history turn.marks others.history (turn_follows base history (heard people m) turn turned)
+    (turns_legal people base (history ++ marked turn) messages others more))

@@ -1,15 +1,9 @@
-pub mod KnownLemmas
-pub mod ReplyLemmas
-pub mod StreamLemmas
 pub mod HistoryLemmas
-pub mod HearLemmas
-pub mod TurnLemmas
 pub mod TurnsLemmas
 pub mod LegalLemmas
 pub mod RunLemmas
 pub mod EndLemmas
 pub mod CompleteLemmas
 pub mod OriginLemmas
-pub mod UnsureLemmas
 pub mod StoredLemmas
 pub mod UnopenedLemmas

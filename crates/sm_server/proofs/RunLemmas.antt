@@ -1,11 +1,7 @@
--- How a run goes, message by message.
-use Rattle.std.proofs.Common.{◌≡◌, ◌<◌, ◌≤◌, ◌+◌, ◌-◌, ◌^◌, ℕ, min, List, [], ◌∷◌, ◌++◌, length, take, Option, Bool, true, false, refl, sym, ap, subst, ◌∙◌, append-nil, length-append, arith, inl}
-use Rattle.std.proofs.lemmas.Grind.{flat_map-append}
-use Rattle.std.proofs.lemmas.List.{take_all, length-take-le}
+-- A run as far as it has come.
+use Rattle.std.proofs.Common.{◌≡◌, ℕ, ◌+◌, ◌-◌, ◌^◌, min, ◌<◌, ◌≤◌, List, [], ◌∷◌, ◌++◌, true, false, refl, sym, ap, arith, length, ◌∙◌, subst, length-append}
 use Rattle.std.specs.Io.KnownBytes.{append_known}
-use Rattle.std.specs.Prelude.{MatchBool}
 use Rattle.sm_base.specs.Faults.{Rose}
-use Rattle.sm_io.proofs.Known.{append_known-append}
 use Rattle.sm_model.specs.declared.entry.Mark.{Mark}
 use Rattle.sm_table.specs.Sound.{Sound}
 use Rattle.sm_core.specs.Histories.{replay, Legal}
@@ -13,31 +9,31 @@ use Rattle.sm_account.specs.History.{entries_in, by_seat}
 use Rattle.sm_account.specs.States.{Base}
 use Rattle.sm_http.specs.declared.answer.Message.{Message as owned}
 use Rattle.sm_http.specs.declared.answer.Next.TheVariants as next
+use Rattle.sm_http.specs.declared.answer.Stop.{Stop}
 use Rattle.sm_http.specs.declared.reply.Sent.{Sent}
 use Rattle.sm_http.specs.Chains.{unread}
 use Rattle.sm_http.specs.Framed.{Sends}
 use Rattle.sm_http.specs.Messages.{Message}
-use Rattle.sm_http.specs.Reading.{ReaderState, content, Reads}
+use Rattle.sm_http.specs.Reading.{ReaderState, content, stopped, Reads}
+use Rattle.sm_principal.specs.declared.people.People.{People}
 use Rattle.sm_reply.specs.Shown.{Answered}
-use Rattle.sm_server.specs.declared.status.Status.TheVariants.{SinkFault}
-use Rattle.sm_server.specs.Answer.{heard}
-use Rattle.sm_server.specs.Incoming.{count_limit}
-use Rattle.sm_server.specs.Outside.{Outside, Told, Growth, growth, Trace, Passed, Within}
-use Rattle.sm_server.specs.Ran.{Course, AreAnswered, CutWithin, joined, Runs}
-use Rattle.sm_server.specs.Replies.{framed_answer}
-use Rattle.sm_server.specs.Streams.{message_limit}
+use Rattle.sm_spells.specs.Spells.{History}
+use Rattle.sm_session.specs.declared.ended.Ended.{Ended}
+use Rattle.sm_session.specs.declared.ended.Ended.TheVariants as ended
+use Rattle.sm_session.specs.Answer.{heard}
+use Rattle.sm_session.specs.Endings as streams
+use Rattle.sm_session.specs.Endings.{Sides, StopsBy, Finishes, Streamed}
+use Rattle.sm_session.specs.Replies.{framed_answer}
+use Rattle.sm_session.specs.Streams.{message_limit}
+use Rattle.sm_session.specs.Told.{Told, Growth, Within}
+use Rattle.sm_session.proofs.KnownLemmas.{append_known-nil, told_more}
+use Rattle.sm_session.proofs.WireLemmas.{Wire, wire_first, wire_enough, wire_stops, wire_more, wire_cut}
+use Rattle.sm_server.specs.Outside.{Outside, sides_of, growth, Trace, Passed}
+use Rattle.sm_server.specs.Ran.{Course, AreAnswered, passage_of, Ended as RunEnded, Runs}
+use Rattle.sm_server.specs.Status.{status_of, WasOpened}
 use Rattle.sm_server.specs.Turns.{seat, Turn, TurnOf, Brought, GoesWell, brought_nothing, Turns}
-use Rattle.sm_server.proofs.KnownLemmas.{append_known-nil}
 use Rattle.sm_server.proofs.LegalLemmas.{turns_legal}
-use Rattle.sm_server.proofs.StreamLemmas.{GivenSoFar, given_none, given_more, given_start}
 use Rattle.sm_server.proofs.TurnsLemmas.{with_last, turns_more}
-
--- a point of a run: what the outside tells, what the reader holds, the history, and how many bytes are counted
-pub record Point : Type 0 where
-  pub now : Outside
-  pub reader : ReaderState
-  pub history : List (ℕ × Mark)
-  pub count : ℕ
 
 -- what passed between two states of the outside, where this was written and told
 abbrev pub trace_of : Outside → Outside → List ℕ → Told → Trace
@@ -48,82 +44,6 @@ trace_of before after written told = record {
   sink = growth (λ c. c.sink) before after;
   disk = growth (λ c. c.disk) before after;
   random = growth (λ c. c.random) before after;
-}
-
--- from before to the point so many messages were read and answered
-pub record Progress (base : Base) (before : Outside) (number : ℕ) (at : Point) : Type 0 where
-  pub messages : List Message
-  pub size : length messages ≡ number
-  pub given : GivenSoFar before.left messages at.reader at.now.left
-  pub brought : Brought
-  pub turns : Turns base [] messages brought
-  pub disk : growth (λ c. c.disk) before at.now ≡ brought.disk
-  pub random : growth (λ c. c.random) before at.now ≡ brought.random
-  pub stands : at.history ≡ brought.history
-  pub taken : at.now.taken ≡ append_known before.taken (joined brought.replies)
-  pub readings : at.now.readings ≡ append_known before.readings brought.told.readings
-  pub drawn : at.now.drawn ≡ append_known before.drawn brought.told.drawn
-  pub counts : at.count ≡ min (length (joined brought.replies)) count_limit
-
-abbrev pub first_point : Outside → ReaderState → List (ℕ × Mark) → Point
-first_point outside reader history = record { now = outside; reader = reader; history = history; count = 0 }
-
-pub progress_first : (base : Base) (outside : Outside) (reader : ReaderState) (history : List (ℕ × Mark))
-    → reader ≡ unread → history ≡ [] → Progress base outside 0 (first_point outside reader history)
-progress_first base outside reader history fresh none = record {
-  messages = [];
-  size = refl;
-  given = subst (λ r. GivenSoFar outside.left [] r outside.left) (sym fresh) (given_none outside.left);
-  brought = brought_nothing outside.counts.disk outside.counts.random;
-  turns = refl;
-  disk = refl;
-  random = refl;
-  stands = none;
-  taken = sym (append_known-nil outside.taken);
-  readings = sym (append_known-nil outside.readings);
-  drawn = sym (append_known-nil outside.drawn);
-  counts = refl;
-}
-
-joined_more : (replies : List Answered) (reply : Answered)
-    → joined (replies ++ reply ∷ []) ≡ joined replies ++ framed_answer reply
-joined_more replies reply = flat_map-append framed_answer replies (reply ∷ [])
-    ∙ ap (λ x. joined replies ++ x) (append-nil (framed_answer reply))
-
--- what follows what was told before
-pub told_more : (before now after : Option (List ℕ)) (xs ys : List ℕ) → now ≡ append_known before xs
-    → after ≡ append_known now ys
-    → after ≡ append_known before (xs ++ ys)
-told_more before now after xs ys first then =
-    then ∙ ap (λ known. append_known known ys) first ∙ append_known-append before xs ys
-
--- the sink failed within this reply, so many bytes of which it took
-pub cut_within : (earlier : List Answered) (last : Answered) (size count counted : ℕ)
-    → size < length (framed_answer last) → count ≡ min (length (joined earlier)) count_limit
-    → counted ≡ min (count + size) count_limit
-    → CutWithin earlier last counted (joined earlier ++ take size (framed_answer last))
-cut_within earlier last size count counted short before now =
-    let part = take size (framed_answer last) in
-    let taken : length part ≡ size = length-take-le size (framed_answer last) (omega (arith, short)) in
-    let long : length (joined earlier ++ part) ≡ length (joined earlier) + length part =
-    length-append (joined earlier) part in
-    record { size = size; short = short; writes = refl; counts = omega (arith, before, now, taken, long) }
-
--- messages that were answered at a course from its first mark on
-abbrev pub answered_by : (base : Base) (history : List (ℕ × Mark)) (before after : Outside) (messages : List Message)
-    (brought : Brought) → Turns base [] messages brought → history ≡ brought.history
-    → growth (λ c. c.disk) before after ≡ brought.disk → growth (λ c. c.random) before after ≡ brought.random
-    → (written : List ℕ)
-    → AreAnswered (record { base = base; history = history }) messages (trace_of before after written brought.told)
-answered_by base history before after messages brought turns is disk random written = record {
-  brought = brought;
-  turns = turns;
-  history = is;
-  accepted = subst (λ h. Legal base.rows base.last (entries_in h)) (sym is)
-      (turns_legal base [] messages brought turns);
-  told = refl;
-  disk = subst (λ (g : Growth). Within g (growth (λ c. c.disk) before after)) disk (omega arith, omega arith);
-  random = random;
 }
 
 -- what passed, where this was written and told
@@ -141,49 +61,76 @@ passed_by before after written told taken readings drawn = record {
   random_count = refl;
 }
 
-whole_since : (whole : Bool) (P R : Type 0) (from before after : ℕ) → from ≤ before
-    → MatchBool whole P (R × Rose before after) → MatchBool whole P (R × Rose from after)
-whole_since true P R from before after later is = is
-whole_since false P R from before after later is = (is.0, omega (arith, is.1, later))
+-- what messages brought, from before to now, where the history is this now
+pub record Brings (people : People) (base : Base) (before now : Outside) (history : History)
+    (messages : List Message) (brought : Brought) : Type 0 where
+  pub turns : Turns people base [] messages brought
+  pub disk : growth (λ c. c.disk) before now ≡ brought.disk
+  pub random : growth (λ c. c.random) before now ≡ brought.random
+  pub stands : history ≡ brought.history
+  pub readings : now.readings ≡ append_known before.readings brought.told.readings
+  pub drawn : now.drawn ≡ append_known before.drawn brought.told.drawn
 
--- what was sent, seen from before a message was read
-pub sent_since : (sent : Sent) (text : List ℕ) (first now then : Option (List ℕ)) (from before after : ℕ) → now ≡ first
-    → from ≤ before → Sends sent text now then before after → Sends sent text first then from after
-sent_since sent text first now then from before after same later sends = record {
-  bytes = sends.bytes ∙ ap (λ known. append_known known (take sent.taken text)) same;
-  whole = whole_since sent.whole (sent.taken ≡ length text) (sent.taken < length text) from before after later
-      sends.whole;
-}
-
--- the turn of a reply, where this was told for it, with these marks
-abbrev pub turn_between : Outside → Outside → Answered → Told → List Mark → Turn
-turn_between now after reply told marks = record {
-  told = told;
-  reply = reply;
-  marks = marks;
-  disk = growth (λ c. c.disk) now after;
-  random = growth (λ c. c.random) now after;
-}
-
--- a step of a run: from this point this message was read and got this reply, and then the outside, the reader and the
--- history are these
-pub record Step : Type 0 where
+-- a point of a run: what the outside tells, what the reader holds, the history, and how many bytes are counted
+pub record Point : Type 0 where
   pub now : Outside
   pub reader : ReaderState
-  pub history : List (ℕ × Mark)
+  pub history : History
   pub count : ℕ
+
+-- from before to the point so many messages were read and answered
+pub record Progress (people : People) (base : Base) (before : Outside) (number : ℕ) (at : Point) : Type 0 where
+  pub messages : List Message
+  pub size : length messages ≡ number
+  pub brought : Brought
+  pub brings : Brings people base before at.now at.history messages brought
+  pub wire : Wire (sides_of before) messages brought.replies (sides_of at.now) at.reader at.count
+
+abbrev pub first_point : Outside → ReaderState → History → Point
+first_point outside reader history = record { now = outside; reader = reader; history = history; count = 0 }
+
+pub progress_first : (people : People) (base : Base) (outside : Outside) (reader : ReaderState) (history : History)
+    → reader ≡ unread → history ≡ [] → Progress people base outside 0 (first_point outside reader history)
+progress_first people base outside reader history fresh none = record {
+  messages = [];
+  size = refl;
+  brought = brought_nothing outside.counts.disk outside.counts.random;
+  brings = record {
+    turns = refl;
+    disk = refl;
+    random = refl;
+    stands = none;
+    readings = sym (append_known-nil outside.readings);
+    drawn = sym (append_known-nil outside.drawn);
+  };
+  wire = wire_first (sides_of outside) reader fresh;
+}
+
+-- a step of a run: the outside and the history before a message's turn and after it, and its reply
+pub record Step : Type 0 where
+  pub now : Outside
+  pub history : History
   pub message : owned
   pub after : Outside
-  pub reader' : ReaderState
-  pub history' : List (ℕ × Mark)
+  pub history' : History
   pub reply : Answered
 
+-- the turn of a reply, where this was told for it, with these marks
+abbrev pub turn_in : Step → Told → List Mark → Turn
+turn_in s told marks = record {
+  told = told;
+  reply = s.reply;
+  marks = marks;
+  disk = growth (λ c. c.disk) s.now s.after;
+  random = growth (λ c. c.random) s.now s.after;
+}
+
 -- a message's turn
-abbrev pub Turned : Base → Step → Type 0
-Turned base s = (told : Told) × (marks : List Mark)
+abbrev pub Turned : People → Base → Step → Type 0
+Turned people base s = (told : Told) × (marks : List Mark)
     × (s.after.readings ≡ append_known s.now.readings told.readings)
     × (s.after.drawn ≡ append_known s.now.drawn told.drawn)
-    × TurnOf base s.history (heard (content s.message)) (turn_between s.now s.after s.reply told marks)
+    × TurnOf base s.history (heard people (content s.message)) (turn_in s told marks)
     × (s.history' ≡ s.history ++ by_seat seat marks)
 
 -- what holds after it
@@ -192,129 +139,179 @@ pub record Later (base : Base) (s : Step) : Type 0 where
   pub random : s.now.counts.random ≤ s.after.counts.random
   pub sound : Sound (replay base.rows (entries_in s.history'))
 
-abbrev pub point_before : Step → Point
-point_before s = record { now = s.now; reader = s.reader; history = s.history; count = s.count }
-
-abbrev pub point_after : Step → ℕ → Point
-point_after s count = record { now = s.after; reader = s.reader'; history = s.history'; count = count }
-
-module _ (base : Base) (before : Outside) (number : ℕ) (s : Step) (p : Progress base before number (point_before s))
-    (reads : Reads s.reader (next.Message s.message) s.reader' s.now.left s.after.left)
-    (turned : Turned base s) (later : Later base s) where
-  -- the message's turn
+-- a message's turn is one more
+module _ (people : People) (base : Base) (before : Outside) (s : Step) (messages : List Message) (brought : Brought)
+    (b : Brings people base before s.now s.history messages brought) (turned : Turned people base s)
+    (later : Later base s) where
   abbrev one : Turn
-  one = turn_between s.now s.after s.reply turned.0 turned.1
+  one = turn_in s turned.0 turned.1
 
-  -- it and those before it
-  abbrev all_now : List Message
-  all_now = p.messages ++ content s.message ∷ []
+  abbrev pub brought_more : Brought
+  brought_more = with_last brought one
 
-  abbrev brought_now : Brought
-  brought_now = with_last p.brought one
+  history_now : s.history' ≡ brought_more.history
+  history_now = turned.5 ∙ ap (λ h. h ++ by_seat seat turned.1) b.stands
 
-  size_now : length all_now ≡ number + 1
-  size_now = omega (arith, length-append p.messages (content s.message ∷ []), p.size)
-
-  history_now : s.history' ≡ brought_now.history
-  history_now = turned.5 ∙ ap (λ h. h ++ by_seat seat turned.1) p.stands
-
-  well : GoesWell base p.brought.history one
+  well : GoesWell base brought.history one
   well = record {
     disk = later.disk;
     random = later.random;
     sound = subst (λ h. Sound (replay base.rows (entries_in h))) history_now later.sound;
   }
 
-  turns_now : Turns base [] all_now brought_now
-  turns_now =
-      turns_more one base (content s.message) [] p.messages p.brought
-      (subst (λ h. TurnOf base h (heard (content s.message)) one) p.stands turned.4)
-      (sym (ap (λ (g : Growth). g.after) p.disk), sym (ap (λ (g : Growth). g.after) p.random)) well p.turns
+  pub brings_more : Brings people base before s.after s.history' (messages ++ content s.message ∷ []) brought_more
+  brings_more = record {
+    turns = turns_more one people base (content s.message) [] messages brought
+        (subst (λ h. TurnOf base h (heard people (content s.message)) one) b.stands turned.4)
+        (sym (ap (λ (g : Growth). g.after) b.disk), sym (ap (λ (g : Growth). g.after) b.random)) well b.turns;
+    disk = ap (λ (g : Growth). record { before = g.before; after = s.after.counts.disk }) b.disk;
+    random = ap (λ (g : Growth). record { before = g.before; after = s.after.counts.random }) b.random;
+    stands = history_now;
+    readings = told_more before.readings s.now.readings s.after.readings brought.told.readings turned.0.readings
+        b.readings turned.2;
+    drawn = told_more before.drawn s.now.drawn s.after.drawn brought.told.drawn turned.0.drawn b.drawn turned.3;
+  }
 
-  disk_now : growth (λ c. c.disk) before s.after ≡ brought_now.disk
-  disk_now = ap (λ (g : Growth). record { before = g.before; after = s.after.counts.disk }) p.disk
+-- the run ends as its stream does
+module _ (people : People) (base : Base) (before after : Outside) (history : History) (messages : List Message)
+    (brought : Brought) (b : Brings people base before after history messages brought) where
+  abbrev course : Course
+  course = record { people = people; base = base; history = history }
 
-  random_now : growth (λ c. c.random) before s.after ≡ brought_now.random
-  random_now = ap (λ (g : Growth). record { before = g.before; after = s.after.counts.random }) p.random
+  abbrev answered : (written : List ℕ) → AreAnswered course messages (trace_of before after written brought.told)
+  answered written = record {
+    brought = brought;
+    turns = b.turns;
+    history = b.stands;
+    accepted = subst (λ h. Legal base.rows base.last (entries_in h)) (sym b.stands)
+        (turns_legal people base [] messages brought b.turns);
+    told = refl;
+    disk = subst (λ (g : Growth). Within g (growth (λ c. c.disk) before after)) b.disk (omega arith, omega arith);
+    random = b.random;
+  }
 
-  given_now : GivenSoFar before.left all_now s.reader' s.after.left
-  given_now = given_more before.left p.messages s.reader s.reader' s.now.left s.after.left p.given s.message reads
+  ended_by : (e : Ended) (input written : List ℕ)
+      → streams.EndsBy e (passage_of input after.left messages brought.replies
+      (trace_of before after written brought.told))
+      → RunEnded course (status_of e) input after.left (trace_of before after written brought.told)
+  ended_by ended.Closed input written ends =
+      record { messages = messages; answered = answered written; ends = ends }
+  ended_by (ended.Cut bytes) input written ends =
+      record { messages = messages; answered = answered written; ends = ends }
+  ended_by (ended.Bad kind place) input written ends =
+      record { messages = messages; answered = answered written; ends = (kind, ends) }
+  ended_by ended.Enough input written ends =
+      record { messages = messages; answered = answered written; ends = ends }
+  ended_by ended.ReadFault input written ends =
+      record { messages = messages; answered = answered written; ends = ends }
+  ended_by (ended.WriteFault taken) input written ends =
+      record { messages = messages; answered = answered written; ends = ends }
+  ended_by ended.Memory input written ends =
+      record { messages = messages; answered = answered written; ends = ends }
 
-  readings_now : s.after.readings ≡ append_known before.readings brought_now.told.readings
-  readings_now = told_more before.readings s.now.readings s.after.readings p.brought.told.readings turned.0.readings
-      p.readings turned.2
+  pub runs_by : (e : Ended) → Streamed e (sides_of before) (sides_of after) messages brought.replies
+      → Runs course (status_of e) before after
+  runs_by e s = record {
+    input = s.input;
+    trace = trace_of before after s.written brought.told;
+    reads = s.reads;
+    passed = passed_by before after s.written brought.told s.writes b.readings b.drawn;
+    ended = ended_by e s.input s.written s.ends;
+  }
 
-  drawn_now : s.after.drawn ≡ append_known before.drawn brought_now.told.drawn
-  drawn_now = told_more before.drawn s.now.drawn s.after.drawn p.brought.told.drawn turned.0.drawn p.drawn turned.3
+pub status_opened : (e : Ended) → WasOpened (status_of e)
+status_opened ended.Closed = tt
+status_opened (ended.Cut bytes) = tt
+status_opened (ended.Bad kind place) = tt
+status_opened ended.Enough = tt
+status_opened ended.ReadFault = tt
+status_opened (ended.WriteFault taken) = tt
+status_opened ended.Memory = tt
 
-  module _ (sent : Sent)
-      (sends : Sends sent (framed_answer s.reply) s.now.taken s.after.taken s.now.counts.sink s.after.counts.sink)
-      (count' : ℕ) (counts : count' ≡ min (s.count + sent.taken) (2 ^ 64 - 1)) where
-    abbrev IfWhole : Bool → Type 0
-    IfWhole whole = MatchBool whole (sent.taken ≡ length (framed_answer s.reply))
-        ((sent.taken < length (framed_answer s.reply)) × Rose s.now.counts.sink s.after.counts.sink)
+-- the outside where only the two sides of the stream moved
+abbrev pub moved : Outside → Sides → Outside
+moved now sides = record {
+  left = sides.left;
+  taken = sides.taken;
+  readings = now.readings;
+  drawn = now.drawn;
+  counts = record {
+    source = sides.source;
+    sink = sides.sink;
+    disk = now.counts.disk;
+    random = now.counts.random;
+  };
+}
 
-    -- the reply was written whole
-    pub progress_more : sent.whole ≡ true → Progress base before (number + 1) (point_after s count')
-    progress_more whole =
-        let size : sent.taken ≡ length (framed_answer s.reply) = subst (λ (b : Bool). IfWhole b) whole sends.whole in
-        let text : take sent.taken (framed_answer s.reply) ≡ framed_answer s.reply =
-        take_all sent.taken (framed_answer s.reply) (omega (arith, size)) in
-        let more : joined brought_now.replies ≡ joined p.brought.replies ++ framed_answer s.reply =
-        joined_more p.brought.replies s.reply in
-        let long : length (joined brought_now.replies)
-        ≡ length (joined p.brought.replies) + length (framed_answer s.reply)
-        = ap length more ∙ length-append (joined p.brought.replies) (framed_answer s.reply) in
-        record {
-          messages = all_now;
-          size = size_now;
-          given = given_now;
-          brought = brought_now;
-          turns = turns_now;
-          disk = disk_now;
-          random = random_now;
-          stands = history_now;
-          taken = told_more before.taken s.now.taken s.after.taken (joined p.brought.replies)
-              (framed_answer s.reply) p.taken (sends.bytes ∙ ap (append_known s.now.taken) text)
-              ∙ ap (append_known before.taken) (sym more);
-          readings = readings_now;
-          drawn = drawn_now;
-          counts = omega (arith, counts, p.counts, size, long);
-        }
+module _ (people : People) (base : Base) (before : Outside) (number : ℕ) (at : Point)
+    (p : Progress people base before number at) where
+  brings_moved : (sides : Sides) → Brings people base before (moved at.now sides) at.history p.messages p.brought
+  brings_moved sides = record {
+    turns = p.brings.turns;
+    disk = p.brings.disk;
+    random = p.brings.random;
+    stands = p.brings.stands;
+    readings = p.brings.readings;
+    drawn = p.brings.drawn;
+  }
 
-    -- the sink failed within the reply
-    pub run_cut : before.counts.sink ≤ s.now.counts.sink → number < message_limit → sent.whole ≡ false
-        → Runs (record { base = base; history = s.history' }) (SinkFault count') before s.after
-    run_cut since fewer part =
-        let cut : (sent.taken < length (framed_answer s.reply)) × Rose s.now.counts.sink s.after.counts.sink =
-        subst (λ (b : Bool). IfWhole b) part sends.whole in
-        let within = cut_within p.brought.replies s.reply sent.taken s.count count' cut.0 p.counts counts in
-        let rose : Rose before.counts.sink s.after.counts.sink = omega (arith, since, cut.1) in
-        let g = given_now in
-        let course : Course = record { base = base; history = s.history' } in
-        let answered = answered_by base s.history' before s.after all_now brought_now turns_now history_now
-        disk_now random_now (joined p.brought.replies ++ take sent.taken (framed_answer s.reply)) in
-        record {
-          input = g.read;
-          trace = trace_of before s.after (joined p.brought.replies ++ take sent.taken (framed_answer s.reply))
-              brought_now.told;
-          reads = g.reads;
-          passed = passed_by before s.after (joined p.brought.replies ++ take sent.taken (framed_answer s.reply))
-              brought_now.told (told_more before.taken s.now.taken s.after.taken (joined p.brought.replies)
-              (take sent.taken (framed_answer s.reply)) p.taken sends.bytes) readings_now drawn_now;
-          ended = record {
-            messages = all_now;
-            answered = answered;
-            ends = (
-              omega (arith, size_now, fewer),
-              rose,
-              inl (record {
-                begin = given_start before.left all_now s.reader' s.after.left g;
-                earlier = p.brought.replies;
-                last = s.reply;
-                parts = refl;
-                within = within;
-              }),
-            );
-          };
-        }
+  -- as many messages were answered as are answered at most
+  pub run_enough : number ≡ message_limit
+      → Runs (record { people = people; base = base; history = at.history }) (status_of ended.Enough) before at.now
+  run_enough all =
+      runs_by people base before at.now at.history p.messages p.brought p.brings ended.Enough
+      (wire_enough (sides_of before) (sides_of at.now) p.messages p.brought.replies at.reader at.count p.wire
+      (p.size ∙ all))
+
+  module _ (reader' : ReaderState) where
+    -- the reader stopped
+    pub run_stops : (sides : Sides) (why : Stop) (e : Ended) → number < message_limit
+        → Reads at.reader (stopped why) reader' at.now.left sides.left
+        → StopsBy at.reader.ended why at.now.left sides.left (Rose at.now.counts.source sides.source)
+        → at.now.counts.source ≤ sides.source
+        → Finishes why at.count e at.now.taken sides.taken at.now.counts.sink sides.sink
+        → Runs (record { people = people; base = base; history = at.history }) (status_of e) before
+        (moved at.now sides)
+    run_stops sides why e few reads stops later finishes =
+        runs_by people base before (moved at.now sides) at.history p.messages p.brought (brings_moved sides) e
+        (wire_stops (sides_of before) (sides_of at.now) p.messages p.brought.replies at.reader at.count p.wire reader'
+        sides (omega (arith, p.size, few)) why e reads stops finishes)
+
+    -- a message was read, and its reply sent
+    module _ (s : Step) (from_is : s.now ≡ at.now) (history_is : s.history ≡ at.history)
+        (turned : Turned people base s) (later : Later base s)
+        (reads : Reads at.reader (next.Message s.message) reader' at.now.left s.after.left)
+        (source : at.now.counts.source ≤ s.after.counts.source) (sink : at.now.counts.sink ≤ s.after.counts.sink)
+        (sent : Sent)
+        (sends : Sends sent (framed_answer s.reply) at.now.taken s.after.taken at.now.counts.sink s.after.counts.sink)
+        (count' : ℕ) (counts : count' ≡ min (at.count + sent.taken) (2 ^ 64 - 1)) where
+      abbrev brings_here : Brings people base before s.now s.history p.messages p.brought
+      brings_here = subst (λ h. Brings people base before s.now h p.messages p.brought) (sym history_is)
+          (subst (λ o. Brings people base before o at.history p.messages p.brought) (sym from_is) p.brings)
+
+      brings_now : Brings people base before s.after s.history' (p.messages ++ content s.message ∷ [])
+          (brought_more people base before s p.messages p.brought brings_here turned later)
+      brings_now = brings_more people base before s p.messages p.brought brings_here turned later
+
+      pub progress_more : sent.whole ≡ true → Progress people base before (number + 1)
+          (record { now = s.after; reader = reader'; history = s.history'; count = count' })
+      progress_more whole = record {
+        messages = p.messages ++ content s.message ∷ [];
+        size = omega (arith, length-append p.messages (content s.message ∷ []), p.size);
+        brought = brought_more people base before s p.messages p.brought brings_here turned later;
+        brings = brings_now;
+        wire = wire_more (sides_of before) (sides_of at.now) p.messages p.brought.replies at.reader at.count p.wire
+            s.message reader' (sides_of s.after) reads source sink s.reply sent sends count' counts whole;
+      }
+
+      -- the sink failed within the reply
+      pub run_cut : number < message_limit → sent.whole ≡ false
+          → Runs (record { people = people; base = base; history = s.history' }) (status_of (ended.WriteFault count'))
+          before s.after
+      run_cut few part =
+          runs_by people base before s.after s.history' (p.messages ++ content s.message ∷ [])
+          (brought_more people base before s p.messages p.brought brings_here turned later) brings_now
+          (ended.WriteFault count')
+          (wire_cut (sides_of before) (sides_of at.now) p.messages p.brought.replies at.reader at.count p.wire
+          s.message reader' (sides_of s.after) reads source sink s.reply sent sends count' counts
+          (omega (arith, p.size, few)) part)

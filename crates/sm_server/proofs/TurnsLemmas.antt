@@ -3,8 +3,9 @@ use Rattle.std.proofs.Common.{◌≡◌, ℕ, List, [], ◌∷◌, ◌++◌, ref
 use Rattle.sm_model.specs.declared.entry.Mark.{Mark}
 use Rattle.sm_account.specs.States.{Base}
 use Rattle.sm_http.specs.Messages.{Message}
-use Rattle.sm_server.specs.Answer.{heard}
-use Rattle.sm_server.specs.Outside.{Told, nothing_told, told_both}
+use Rattle.sm_principal.specs.declared.people.People.{People}
+use Rattle.sm_session.specs.Answer.{heard}
+use Rattle.sm_session.specs.Told.{Told, nothing_told, told_both}
 use Rattle.sm_server.specs.Turns.{Turn, TurnOf, marked, Brought, growth_both, with_others, brought_nothing, GoesWell, Turns}
 
 -- what some messages and a turn after them brought
@@ -69,13 +70,14 @@ module _ (turn : Turn) where
       ∙ ap (of (told_both first.told (told_both others.told turn.told)))
       (append_assoc (marked first) others.history (marked turn))
 
-  module _ (base : Base) (m : Message) where
+  module _ (people : People) (base : Base) (m : Message) where
     -- one turn more
     pub turns_more : (history : List (ℕ × Mark)) (messages : List Message) (brought : Brought)
-        → TurnOf base (history ++ brought.history) (heard m) turn
+        → TurnOf base (history ++ brought.history) (heard people m) turn
         → Next brought turn
         → GoesWell base (history ++ brought.history) turn
-        → Turns base history messages brought → Turns base history (messages ++ m ∷ []) (with_last brought turn)
+        → Turns people base history messages brought
+        → Turns people base history (messages ++ m ∷ []) (with_last brought turn)
     turns_more history [] brought turned next well is =
         let nil : history ++ brought.history ≡ history =
         ap (λ (b : Brought). history ++ b.history) is ∙ append-nil history in
@@ -84,7 +86,7 @@ module _ (turn : Turn) where
         sym (ap (λ (b : Brought). b.random.after) is) ∙ next.1 in (
           turn,
           brought_nothing turn.disk.after turn.random.after,
-          subst (λ h. TurnOf base h (heard m) turn) nil turned,
+          subst (λ h. TurnOf base h (heard people m) turn) nil turned,
           subst (λ h. GoesWell base h turn) nil well,
           refl,
           (refl, refl),
@@ -101,7 +103,7 @@ module _ (turn : Turn) where
           turned_first,
           goes,
           turns_more (history ++ marked first) messages others
-              (subst (λ h. TurnOf base h (heard m) turn) same turned)
+              (subst (λ h. TurnOf base h (heard people m) turn) same turned)
               (disk, random)
               (subst (λ h. GoesWell base h turn) same well) more,
           follows,

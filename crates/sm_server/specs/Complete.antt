@@ -1,22 +1,25 @@
 -- What a run gives where nothing of the outside failed.
-use Rattle.std.specs.Prelude.{◌≡◌, ℕ, ◌⊎◌, List, [], ◌∷◌, ◌++◌, take, Option, Some, Result, Ok, Err}
+use Rattle.std.specs.Prelude.{◌≡◌, ℕ, ◌⊎◌, List, [], ◌∷◌, ◌++◌, take, Option, Some, Result}
 use Rattle.sm_base.specs.Faults.{Rose}
-use Rattle.sm_model.specs.declared.entry.Mark.{Mark}
-use Rattle.sm_model.specs.declared.request.Request.{Request}
 use Rattle.sm_model.specs.declared.why.Why.{Why}
 use Rattle.sm_account.specs.States.{Base}
 use Rattle.sm_http.specs.Messages.{Message, End, Messages}
+use Rattle.sm_principal.specs.declared.people.People.{People}
+use Rattle.sm_principal.specs.Callers.{people_of}
 use Rattle.sm_reply.specs.Shown.{Answered}
 use Rattle.sm_words.specs.Reading.{settings_of}
+use Rattle.sm_spells.specs.Spells.{History}
+use Rattle.sm_session.specs.Answer.{Asked, heard}
+use Rattle.sm_session.specs.Endings.{joined}
+use Rattle.sm_session.specs.Streams.{message_limit, AreWhole}
+use Rattle.sm_session.specs.Turns.{IsTurn}
 use Rattle.sm_server.specs.declared.status.Status.{Status}
 use Rattle.sm_server.specs.declared.status.Status.TheVariants.{Done, Memory}
-use Rattle.sm_server.specs.Answer.{heard}
-use Rattle.sm_server.specs.Asked.{WordsDecide}
+use Rattle.sm_server.specs.Asked.{WordsDecide, PeopleDecide}
 use Rattle.sm_server.specs.Outside.{Counts, Outside}
-use Rattle.sm_server.specs.Ran.{Course, joined, Story, course_of, Runs}
+use Rattle.sm_server.specs.Ran.{Course, Story, course_of, Runs}
 use Rattle.sm_server.specs.Status.{WasOpened}
-use Rattle.sm_server.specs.Streams.{message_limit, AreWhole}
-use Rattle.sm_server.specs.Turns.{Turn, AnsweredAt, WantedMemory, TurnOf, marked}
+use Rattle.sm_server.specs.Turns.{Turn, brings, marked}
 
 -- the count did not rise
 abbrev pub Steady : ℕ → ℕ → Type 0
@@ -30,18 +33,16 @@ pub record NoneFailed (before now : Counts) : Type 0 where
   pub random : Steady before.random now.random
 
 -- a turn in which neither the disk nor the random source failed: the model's answer, or want of memory
-abbrev pub ModelTurn : Base → List (ℕ × Mark) → Result Request Why → Turn → Type 0
-ModelTurn base history (Err why) turn = TurnOf base history (Err why) turn
-ModelTurn base history (Ok request) turn =
-    AnsweredAt base history request turn ⊎ WantedMemory base history request turn
+abbrev pub ModelTurn : Base → History → Result Asked Why → Turn → Type 0
+ModelTurn base history asked turn = IsTurn ⊥ ⊥ base history asked (brings turn)
 
 -- the replies to messages whose turns are such, each at the history that those before it made
-abbrev pub ModelTurns : Base → List (ℕ × Mark) → List Message → List Answered → Type 0
-ModelTurns base history [] replies = replies ≡ []
-ModelTurns base history (message ∷ messages) replies =
+abbrev pub ModelTurns : People → Base → History → List Message → List Answered → Type 0
+ModelTurns people base history [] replies = replies ≡ []
+ModelTurns people base history (message ∷ messages) replies =
     (turn : Turn) × (others : List Answered)
-    × ModelTurn base history (heard message) turn
-    × ModelTurns base (history ++ marked turn) messages others
+    × ModelTurn base history (heard people message) turn
+    × ModelTurns people base (history ++ marked turn) messages others
     × (replies ≡ turn.reply ∷ others)
 
 -- Each of the messages of the bytes that were read, of the first that are answered at most, got the model's reply or
@@ -49,15 +50,21 @@ ModelTurns base history (message ∷ messages) replies =
 abbrev pub AnswersEach : Course → List ℕ → List ℕ → Type 0
 AnswersEach course input written = (all : List Message) (end : End) → Messages input 0 all end
     → (replies : List Answered) × (more : List ℕ)
-    × ModelTurns course.base [] (take message_limit all) replies × (written ≡ joined replies ++ more)
+    × ModelTurns course.people course.base [] (take message_limit all) replies × (written ≡ joined replies ++ more)
 
 -- a source that holds whole messages, fewer than are answered at most, is read to its end
 abbrev pub ReadsWhole : Status → Option (List ℕ) → Type 0
 ReadsWhole status left = (bytes : List ℕ) → left ≡ Some bytes → AreWhole bytes → (status ≡ Done) ⊎ (status ≡ Memory)
 
--- a run with these words that ended so
-pub record Ran (words : List (List ℕ)) (status : Status) (before after : Outside) (story : Story) : Type 0 where
-  pub words_decide : WordsDecide status (settings_of words)
+-- what a run is asked for: its words, and the text of the people
+pub record Orders : Type 0 where
+  pub words : List (List ℕ)
+  pub people : List ℕ
+
+-- a run under these orders that ended so
+pub record Ran (orders : Orders) (status : Status) (before after : Outside) (story : Story) : Type 0 where
+  pub words_decide : WordsDecide status (settings_of orders.words)
+  pub people_decide : PeopleDecide status (people_of orders.people) story.people
   pub runs : Runs (course_of story) status before after
   pub each : NoneFailed before.counts after.counts → (status ≡ Memory → ⊥)
       → AnswersEach (course_of story) runs.input runs.trace.written

@@ -1,11 +1,7 @@
 pub mod Asked
 pub mod Outside
-pub mod Replies
-pub mod Answer
 pub mod Turns
 pub mod Status
-pub mod Streams
-pub mod Incoming
 pub mod Ran
 pub mod Complete
 pub mod Stored

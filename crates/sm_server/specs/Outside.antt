@@ -1,6 +1,8 @@
 -- What the outside of a run tells, and what passes between a run and the outside.
-use Rattle.std.specs.Prelude.{◌≡◌, ◌≤◌, ℕ, List, [], ◌++◌, Option}
+use Rattle.std.specs.Prelude.{◌≡◌, ℕ, List, Option}
 use Rattle.std.specs.Io.KnownBytes.{append_known}
+use Rattle.sm_session.specs.Endings.{Sides}
+use Rattle.sm_session.specs.Told.{Told, Growth}
 
 -- how often those of the outside that can fail have failed
 pub record Counts : Type 0 where
@@ -17,26 +19,14 @@ pub record Outside : Type 0 where
   pub drawn : Option (List ℕ)
   pub counts : Counts
 
--- the readings of the clock and the random bytes that were told
-pub record Told : Type 0 where
-  pub readings : List ℕ
-  pub drawn : List ℕ
-
-abbrev pub nothing_told : Told
-nothing_told = record { readings = []; drawn = [] }
-
--- what was told for one thing and then for another
-abbrev pub told_both : Told → Told → Told
-told_both a b = record { readings = a.readings ++ b.readings; drawn = a.drawn ++ b.drawn }
-
--- a count of faults before something and after it
-pub record Growth : Type 0 where
-  pub before : ℕ
-  pub after : ℕ
-
--- the one growth is a part of the other
-abbrev pub Within : Growth → Growth → Type 0
-Within part whole = (whole.before ≤ part.before) × (part.after ≤ whole.after)
+-- the two sides of the stream
+abbrev pub sides_of : Outside → Sides
+sides_of outside = record {
+  left = outside.left;
+  taken = outside.taken;
+  source = outside.counts.source;
+  sink = outside.counts.sink;
+}
 
 -- what passed: what was written and told, and how the counts grew
 pub record Trace : Type 0 where

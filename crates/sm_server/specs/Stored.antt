@@ -13,7 +13,7 @@ use Rattle.sm_account.specs.Books.{IsLegal, MayFollowIf, FaultsBound}
 use Rattle.sm_account.specs.History.{entries_in}
 use Rattle.sm_account.specs.Openings.{IsRefused}
 use Rattle.sm_server.specs.declared.status.Status.{Status}
-use Rattle.sm_server.specs.declared.status.Status.TheVariants.{Words, Damaged, OpenFault, Memory, NotBuilt}
+use Rattle.sm_server.specs.declared.status.Status.TheVariants.{Words, Damaged, OpenFault, Memory, People, NotBuilt}
 use Rattle.sm_server.specs.Ran.{Story}
 
 -- the recovered entries and those of the history
@@ -46,11 +46,12 @@ disk_unopened (refusals.Damaged disk damage) = disk
 disk_unopened (refusals.Failed disk) = disk
 disk_unopened (refusals.Memory disk) = disk
 
--- What a run leaves of the disk: where the words were not followed it is as it was, where the opening was refused the
--- account's own clause speaks of it, and else it has the story.
+-- What a run leaves of the disk: where the words or the people were not followed it is as it was, where the opening was
+-- refused the account's own clause speaks of it, and else it has the story.
 abbrev pub Leaves : {D : Type 0} → Ghosts D → Status → Story → D → D → Type 0
 Leaves G Words story old new = new ≡ old
 Leaves G NotBuilt story old new = new ≡ old
+Leaves G (People line) story old new = new ≡ old
 Leaves G (Damaged at entry) story old new =
     IsRefused G old (refusals.Damaged new (record { at = at; entry = entry }))
 Leaves G OpenFault story old new = IsRefused G old (refusals.Failed new)

@@ -3,34 +3,35 @@ ghost use Rattle.std.specs.Prelude.{◌≡◌, ◌≤◌, ◌⊎◌, [], IsSome}
 ghost use Rattle.sm_base.specs.Faults.{Rose};
 ghost use Rattle.sm_account.specs.Accounts.{history, base, disk, failed, SameOrigin};
 ghost use Rattle.sm_server.specs.Ran.{Runs};
-ghost use Rattle.sm_server.specs.Status.{WasOpened};
+ghost use Rattle.sm_server.specs.Status.{status_of};
 
-use crate::incoming::next_message;
-use crate::sending::send;
-use crate::status::Status;
 use crate::turn::take_turn;
 use sm_account::Account;
 use sm_disk::Disk;
 use sm_http::{Piece, Reader};
 use sm_io::{Clock, Sink, Source, Words};
+use sm_principal::People;
 use sm_rotator::NoRotator;
+use sm_session::{Ended, MESSAGE_LIMIT, finish, next_message, send};
 use std::alloc::Global;
 
-/// How many messages are answered at most.
-const MESSAGE_LIMIT: usize = 1_000;
-
-/// Answers the messages of the source on an account without a history. The reply to each is written before the next one
-/// is read.
+/// Answers the messages of the source on an account without a history, of whom may ask. The reply to each is written
+/// before the next one is read.
 pub fn answer_source<Q: Source, K: Sink, D: Disk, C: Clock, W: Words>(
     alloc: Global,
+    people: &People,
     account: &mut Account<D, NoRotator>,
     source: &mut Q,
     sink: &mut K,
     clock: &mut C,
     random: &mut W,
-) -> Status
+) -> Ended
     requires { history account.old ≡ [] }
-    ensures runs { Runs (record { base = base account.old; history = history account.new }) result
+    ensures runs { Runs (record {
+      people = people.now;
+      base = base account.old;
+      history = history account.new;
+    }) (status_of result)
         (record {
           left = Q.left source.old;
           taken = K.taken sink.old;
@@ -55,7 +56,6 @@ pub fn answer_source<Q: Source, K: Sink, D: Disk, C: Clock, W: Words>(
             random = W.faults random.new;
           };
         }) }
-    ensures opened { WasOpened result }
     ensures origin { SameOrigin account.old account.new }
     ensures unsure { IsSome (failed account.new) → IsSome (failed account.old)
         ⊎ Rose (D.faults (disk account.old)) (D.faults (disk account.new)) }
@@ -68,17 +68,17 @@ pub fn answer_source<Q: Source, K: Sink, D: Disk, C: Clock, W: Words>(
     let mut piece = Piece::new();
     let mut count: u64 = 0;
     for number in 0..MESSAGE_LIMIT {
-        let message = match next_message(alloc, &mut reader, source, sink, &mut piece, count) {
+        let message = match next_message(&mut reader, source) {
             Ok(message) => message,
-            Err(status) => return status,
+            Err(stop) => return finish(alloc, sink, &mut piece, count, stop),
         };
-        let reply = take_turn(alloc, account, &message, clock, random);
+        let said = take_turn(alloc, people, account, &message, clock, random);
         account.standing();
-        let sent = send(sink, &mut piece, &reply);
+        let sent = send(sink, &mut piece, &said);
         count = count.saturating_add(sent.taken);
         if !sent.whole {
-            return Status::SinkFault(count);
+            return Ended::WriteFault(count);
         }
     }
-    Status::Enough
+    Ended::Enough
 }

@@ -1,5 +1,5 @@
 //! What the words of a run ask for.
-ghost use Rattle.std.specs.Prelude.{◌≡◌, ◌||◌, not, map, string_bytes};
+ghost use Rattle.std.specs.Prelude.{◌≡◌, not, map, string_bytes};
 ghost use Rattle.sm_words.specs.Reading.{settings_of};
 ghost use Rattle.sm_server.specs.Asked.{EndsAtWords, end_of_settings, is_unbuilt};
 
@@ -37,9 +37,9 @@ pub fn end_of_settings(settings: &Settings) -> Option<Status>
     }
 }
 
-/// Whether people or another rotator than the local one are asked for, which are not built yet.
+/// Whether another rotator than the local one is asked for, which is not built yet.
 fn is_unbuilt(settings: &Settings) -> bool
-    ensures { result ≡ is_unbuilt settings.now.people settings.now.rotator }
+    ensures { result ≡ is_unbuilt settings.now.rotator }
 {
-    settings.people.is_some() || settings.rotator.as_str() != "local"
+    settings.rotator.as_str() != "local"
 }

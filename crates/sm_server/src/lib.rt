@@ -3,11 +3,7 @@
 
 mod answering;
 mod asked;
-mod hear;
-mod incoming;
-mod reply;
 mod run;
-mod sending;
 mod status;
 mod turn;
 

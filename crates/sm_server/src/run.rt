@@ -5,22 +5,23 @@ ghost use Rattle.sm_account.specs.States.{base_of};
 ghost use Rattle.sm_model.specs.declared.limits.TheConstants.{JOURNAL_LIMIT};
 ghost use Rattle.sm_server.specs.Complete.{Ran};
 ghost use Rattle.sm_server.specs.Ran.{Runs, Story, course_of};
-ghost use Rattle.sm_server.specs.Status.{WasOpened};
+ghost use Rattle.sm_server.specs.Status.{WasFollowed, WasOpened};
 ghost use Rattle.sm_server.specs.Stored.{Leaves, Stands, status_unopened, disk_unopened};
 
 use crate::answering::answer_source;
 use crate::asked::end_of_words;
-use crate::status::Status;
+use crate::status::{Status, status_of};
 use sm_account::{Account, OpenRefused};
 use sm_disk::Disk;
 use sm_io::{Clock, Sink, Source, Words};
 use sm_model::limits::JOURNAL_LIMIT;
+use sm_principal::{People, PeopleRefused};
 use sm_rotator::NoRotator;
 use std::alloc::Global;
 
-/// Follows the words of a command line: opens the account of the disk, and answers the messages of the source one after
-/// the other, at most 1,000. The reply to each is written to the sink before the next one is read. The disk is handed
-/// back.
+/// Follows the words of a command line: reads the text of the people who may ask, opens the account of the disk, and
+/// answers the messages of the source one after the other, at most 1,000. The reply to each is written to the sink before
+/// the next one is read. The disk is handed back.
 pub fn run_once<Q: Source, K: Sink, D: Disk, C: Clock, W: Words>(
     alloc: Global,
     words: &[String],
@@ -29,9 +30,10 @@ pub fn run_once<Q: Source, K: Sink, D: Disk, C: Clock, W: Words>(
     disk: D,
     clock: &mut C,
     random: &mut W,
+    people: &[u8],
 ) -> (Status, D)
     // How the run went, and what stands on the disk.
-    ensures ran { (story : Story) × Ran (map string_bytes words.now) result.0
+    ensures ran { (story : Story) × Ran (record { words = map string_bytes words.now; people = people.now }) result.0
         (record {
           left = Q.left source.old;
           taken = K.taken sink.old;
@@ -64,10 +66,59 @@ pub fn run_once<Q: Source, K: Sink, D: Disk, C: Clock, W: Words>(
 {
     match end_of_words(alloc, words) {
         Some(status) => (status, disk),
-        None => match Account::open(alloc, disk, 1, JOURNAL_LIMIT) {
-            Ok(account) => run_opened(alloc, account, source, sink, clock, random),
-            Err(refused) => end_unopened(refused),
+        None => match People::read(alloc, people) {
+            Ok(people) => run_over(alloc, &people, source, sink, disk, clock, random),
+            Err(PeopleRefused::BadLine(line)) => (Status::People(line), disk),
+            Err(PeopleRefused::Memory) => (Status::Memory, disk),
         },
+    }
+}
+
+/// Opens the account of the disk, and answers the messages of the source.
+fn run_over<Q: Source, K: Sink, D: Disk, C: Clock, W: Words>(
+    alloc: Global,
+    people: &People,
+    source: &mut Q,
+    sink: &mut K,
+    disk: D,
+    clock: &mut C,
+    random: &mut W,
+) -> (Status, D)
+    ensures ran { (story : Story) × (story.people ≡ people.now) × Runs (course_of story) result.0
+        (record {
+          left = Q.left source.old;
+          taken = K.taken sink.old;
+          readings = C.readings clock.old;
+          drawn = W.drawn random.old;
+          counts = record {
+            source = Q.source_faults source.old;
+            sink = K.sink_faults sink.old;
+            disk = D.faults disk;
+            random = W.faults random.old;
+          };
+        })
+        (record {
+          left = Q.left source.new;
+          taken = K.taken sink.new;
+          readings = C.readings clock.new;
+          drawn = W.drawn random.new;
+          counts = record {
+            source = Q.source_faults source.new;
+            sink = K.sink_faults sink.new;
+            disk = D.faults result.1;
+            random = W.faults random.new;
+          };
+        })
+        × Leaves D.Disk result.0 story disk result.1 }
+    ensures followed { WasFollowed result.0 }
+    ensures source_later { Q.source_faults source.old ≤ Q.source_faults source.new }
+    ensures sink_later { K.sink_faults sink.old ≤ K.sink_faults sink.new }
+    ensures disk_later { D.faults disk ≤ D.faults result.1 }
+    ensures random_later { W.faults random.old ≤ W.faults random.new }
+{
+    match Account::open(alloc, disk, 1, JOURNAL_LIMIT) {
+        Ok(account) => run_opened(alloc, people, account, source, sink, clock, random),
+        Err(refused) => end_unopened(refused),
     }
 }
 
@@ -86,6 +137,7 @@ fn end_unopened<D>(refused: OpenRefused<D>) -> (Status, D)
 /// Answers the messages of the source on an account that was just opened.
 fn run_opened<Q: Source, K: Sink, D: Disk, C: Clock, W: Words>(
     alloc: Global,
+    people: &People,
     account: Account<D, NoRotator>,
     source: &mut Q,
     sink: &mut K,
@@ -96,7 +148,7 @@ fn run_opened<Q: Source, K: Sink, D: Disk, C: Clock, W: Words>(
     requires base { base account ≡ base_of (taken account) JOURNAL_LIMIT }
     requires sure { failed account ≡ None }
     requires later { D.faults (began account) ≤ D.faults (disk account) }
-    ensures ran { (story : Story) × (story.taken ≡ taken account) × Runs (course_of story) result.0
+    ensures ran { (story : Story) × (story.people ≡ people.now) × (story.taken ≡ taken account) × Runs (course_of story) result.0
         (record {
           left = Q.left source.old;
           taken = K.taken sink.old;
@@ -129,7 +181,7 @@ fn run_opened<Q: Source, K: Sink, D: Disk, C: Clock, W: Words>(
     ensures random_later { W.faults random.old ≤ W.faults random.new }
 {
     let mut account = account;
-    let status = answer_source(alloc, &mut account, source, sink, clock, random);
+    let ended = answer_source(alloc, people, &mut account, source, sink, clock, random);
     account.standing();
-    (status, account.close())
+    (status_of(ended), account.close())
 }

@@ -1,8 +1,10 @@
 //! How a top call ended.
 ghost use Rattle.std.specs.Prelude.{◌≡◌};
-ghost use Rattle.sm_server.specs.Status.{code_of};
+ghost use Rattle.sm_server.specs.Status.{code_of, status_of};
 
-/// How a top call ended. People and EdgeFault are not met yet.
+use sm_session::Ended;
+
+/// How a top call ended. EdgeFault is not met yet.
 #[derive(Clone, Copy, Debug, PartialEq, Eq)]
 pub enum Status {
     Done,
@@ -12,9 +14,9 @@ pub enum Status {
     Damaged(u64, u64),
     /// The disk failed when the account was opened.
     OpenFault,
-    /// There was no memory to read the words, to open the account or to read a message.
+    /// There was no memory to read the words or the people, to open the account or to read a message.
     Memory,
-    /// The text of the people is wrong at this byte.
+    /// The line of this number of the people text is wrong, counted from 1.
     People(u64),
     /// The sink failed after so many bytes of the replies.
     SinkFault(u64),
@@ -51,5 +53,20 @@ impl Status {
             Status::Enough => 12,
             Status::NotBuilt => 13,
         }
+    }
+}
+
+/// How a run ended whose stream ended so.
+pub(crate) fn status_of(ended: Ended) -> Status
+    ensures { result ≡ status_of ended }
+{
+    match ended {
+        Ended::Closed => Status::Done,
+        Ended::Cut(count) => Status::Cut(count),
+        Ended::Bad(_, at) => Status::BadMessage(at),
+        Ended::Enough => Status::Enough,
+        Ended::ReadFault => Status::SourceFault,
+        Ended::WriteFault(count) => Status::SinkFault(count),
+        Ended::Memory => Status::Memory,
     }
 }

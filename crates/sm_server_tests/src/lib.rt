@@ -12,6 +12,8 @@ mod failing;
 #[cfg(test)]
 mod outside;
 #[cfg(test)]
+mod people;
+#[cfg(test)]
 mod streams;
 #[cfg(test)]
 mod support;

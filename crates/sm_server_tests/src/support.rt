@@ -62,6 +62,18 @@ pub fn run_words(
     outside: &Outside,
     disk: MemoryDisk,
 ) -> Result<(Status, Vec<u8>, MemoryDisk), Fail> {
+    run_people(alloc, line, b"", input, outside, disk)
+}
+
+/// The same for the people of a text.
+pub fn run_people(
+    alloc: Global,
+    line: &str,
+    people: &[u8],
+    input: &[u8],
+    outside: &Outside,
+    disk: MemoryDisk,
+) -> Result<(Status, Vec<u8>, MemoryDisk), Fail> {
     let take = outside.take.max(1);
     let put = outside.put.max(1);
     let bytes = Bytes::from_slice(alloc, input)?;
@@ -78,6 +90,7 @@ pub fn run_words(
         disk,
         &mut clock,
         &mut random,
+        people,
     );
     let written = Vec::from_slice(alloc, sink.taken().as_slice())?;
     Ok((status, written, disk))

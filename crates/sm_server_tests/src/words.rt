@@ -6,7 +6,7 @@ use std::alloc::Global;
 use std::test::Fail;
 
 /// The words of a line, and how a run with them ends over no input.
-const LINES: [(&str, Status); 12] = [
+const LINES: [(&str, Status); 13] = [
     ("", Status::Done),
     ("--mode exec --number 0", Status::Done),
     ("--data ignored --rotator local", Status::Done),
@@ -17,7 +17,8 @@ const LINES: [(&str, Status); 12] = [
     ("--help", Status::Words),
     ("--mode check", Status::NotBuilt),
     ("--mode drill --number 1", Status::NotBuilt),
-    ("--people p", Status::NotBuilt),
+    ("--people p", Status::Done),
+    ("--people p --rotator 127.0.0.1:9000", Status::NotBuilt),
     ("--rotator 127.0.0.1:9000", Status::NotBuilt),
 ];
 

@@ -1,20 +1,16 @@
-use Rattle.std.proofs.Common.{◌≡◌, subst, ◌∙◌, inl, arith}
+use Rattle.std.proofs.Common.{◌≡◌, refl, subst, ◌∙◌, inl, arith}
 use Rattle.std.proofs.lemmas.Bool.{not-true, not-false}
 use Rattle.sm_table.specs.Sound.{Sound}
 use Rattle.sm_core.specs.Histories.{replay}
 use Rattle.sm_account.specs.Accounts.{history, base, disk}
 use Rattle.sm_account.specs.History.{entries_in}
 use Rattle.sm_account.specs.States.{Base}
-use Rattle.sm_http.specs.declared.answer.Next.{Next}
-use Rattle.sm_http.specs.declared.answer.Next.TheVariants as next
-use Rattle.sm_http.specs.Reading.{Reads}
-use Rattle.sm_server.specs.Incoming.{Ends}
+use Rattle.sm_session.specs.Endings.{Sides}
+use Rattle.sm_session.specs.Replies.{reply_of}
+use Rattle.sm_session.proofs.UnsureLemmas.{unsure_since}
 use Rattle.sm_server.specs.Outside.{Outside}
-use Rattle.sm_server.specs.Replies.{reply_made, framed_answer}
-use Rattle.sm_server.proofs.EndLemmas.{ends_of, run_enough, run_stops, stops_opened, comes_message}
 use Rattle.sm_server.proofs.OriginLemmas.{same_origin, same_origin_still}
-use Rattle.sm_server.proofs.RunLemmas.{Point, Step, Turned, Later, sent_since, progress_first, progress_more, run_cut}
-use Rattle.sm_server.proofs.UnsureLemmas.{unsure_since}
+use Rattle.sm_server.proofs.RunLemmas.{Point, Step, Turned, Later, progress_first, progress_more, run_cut, run_enough, run_stops}
 use Rattle.sm_server.proofs.answering.answer_source.Goals as goal
 
 pub loop-number-init : goal.loop-number-init
@@ -38,8 +34,8 @@ loop-number-init g c =
       sink_later = omega arith;
       disk_later = omega arith;
       random_later = omega arith;
-      progress = progress_first (base c.args.account.now) before c.new-reader.result (history c.args.account.now)
-          c.new-reader.ensures c.requires;
+      progress = progress_first c.args.people.now (base c.args.account.now) before c.new-reader.result
+          (history c.args.account.now) c.new-reader.ensures c.requires;
     }
 
 pub returns-in-Err-clause-runs : goal.returns-in-Err-clause-runs
@@ -57,55 +53,36 @@ returns-in-Err-clause-runs g c =
         random = g.W.Words.faults c.args.random.now;
       };
     } in
-    let now : Outside = record {
-      left = g.Q.Source.left c.loop-number.source;
-      taken = g.K.Sink.taken c.loop-number.sink;
-      readings = g.C.Clock.readings c.loop-number.clock;
-      drawn = g.W.Words.drawn c.loop-number.random;
-      counts = record {
-        source = g.Q.Source.source_faults c.loop-number.source;
-        sink = g.K.Sink.sink_faults c.loop-number.sink;
-        disk = g.D.Disk.faults (disk c.loop-number.account);
-        random = g.W.Words.faults c.loop-number.random;
-      };
-    } in
     let at : Point = record {
-      now = now;
+      now = record {
+        left = g.Q.Source.left c.loop-number.source;
+        taken = g.K.Sink.taken c.loop-number.sink;
+        readings = g.C.Clock.readings c.loop-number.clock;
+        drawn = g.W.Words.drawn c.loop-number.random;
+        counts = record {
+          source = g.Q.Source.source_faults c.loop-number.source;
+          sink = g.K.Sink.sink_faults c.loop-number.sink;
+          disk = g.D.Disk.faults (disk c.loop-number.account);
+          random = g.W.Words.faults c.loop-number.random;
+        };
+      };
       reader = c.loop-number.reader;
       history = history c.loop-number.account;
       count = c.loop-number.count;
     } in
-    let ends : Ends = record {
+    let sides : Sides = record {
       left = g.Q.Source.left c.next_message.new.source;
-      taken = g.K.Sink.taken c.next_message.new.sink;
+      taken = g.K.Sink.taken c.finish.new.sink;
       source = g.Q.Source.source_faults c.next_message.new.source;
-      sink = g.K.Sink.sink_faults c.next_message.new.sink;
+      sink = g.K.Sink.sink_faults c.finish.new.sink;
     } in
-    let comes = c.in-Err.ensures.comes in
-    run_stops (base c.args.account.now) before c.loop-number.number at i.progress c.loop-number-test.true
-    c.next_message.new.reader ends i.source_later i.sink_later comes.0 c.in-Err.status comes.1 comes.2
-
-pub returns-in-Err-clause-opened : goal.returns-in-Err-clause-opened
-returns-in-Err-clause-opened g c =
-    let old : Ends = record {
-      left = g.Q.Source.left c.loop-number.source;
-      taken = g.K.Sink.taken c.loop-number.sink;
-      source = g.Q.Source.source_faults c.loop-number.source;
-      sink = g.K.Sink.sink_faults c.loop-number.sink;
-    } in
-    let new : Ends = record {
-      left = g.Q.Source.left c.next_message.new.source;
-      taken = g.K.Sink.taken c.next_message.new.sink;
-      source = g.Q.Source.source_faults c.next_message.new.source;
-      sink = g.K.Sink.sink_faults c.next_message.new.sink;
-    } in
-    let comes = c.in-Err.ensures.comes in
-    stops_opened c.loop-number.reader c.loop-number.count comes.0 c.in-Err.status old new comes.2
+    run_stops c.args.people.now (base c.args.account.now) before c.loop-number.number at i.progress
+    c.next_message.new.reader sides c.in-Err.stop c.finish.result c.loop-number-test.true c.in-Err.ensures.reads
+    c.in-Err.ensures.stops c.next_message.ensures.later c.finish.ensures.finishes
 
 pub returns-then-not-sent-clause-runs : goal.returns-then-not-sent-clause-runs
 returns-then-not-sent-clause-runs g c =
     let i = c.loop-number.invariant in
-    let account_base = base c.args.account.now in
     let before : Outside = record {
       left = g.Q.Source.left c.args.source.now;
       taken = g.K.Sink.taken c.args.sink.now;
@@ -118,81 +95,70 @@ returns-then-not-sent-clause-runs g c =
         random = g.W.Words.faults c.args.random.now;
       };
     } in
-    let now : Outside = record {
-      left = g.Q.Source.left c.loop-number.source;
-      taken = g.K.Sink.taken c.loop-number.sink;
-      readings = g.C.Clock.readings c.loop-number.clock;
-      drawn = g.W.Words.drawn c.loop-number.random;
-      counts = record {
-        source = g.Q.Source.source_faults c.loop-number.source;
-        sink = g.K.Sink.sink_faults c.loop-number.sink;
-        disk = g.D.Disk.faults (disk c.loop-number.account);
-        random = g.W.Words.faults c.loop-number.random;
+    let at : Point = record {
+      now = record {
+        left = g.Q.Source.left c.loop-number.source;
+        taken = g.K.Sink.taken c.loop-number.sink;
+        readings = g.C.Clock.readings c.loop-number.clock;
+        drawn = g.W.Words.drawn c.loop-number.random;
+        counts = record {
+          source = g.Q.Source.source_faults c.loop-number.source;
+          sink = g.K.Sink.sink_faults c.loop-number.sink;
+          disk = g.D.Disk.faults (disk c.loop-number.account);
+          random = g.W.Words.faults c.loop-number.random;
+        };
       };
-    } in
-    let after : Outside = record {
-      left = g.Q.Source.left c.next_message.new.source;
-      taken = g.K.Sink.taken c.send-sent.new.sink;
-      readings = g.C.Clock.readings c.take_turn-reply.new.clock;
-      drawn = g.W.Words.drawn c.take_turn-reply.new.random;
-      counts = record {
-        source = g.Q.Source.source_faults c.next_message.new.source;
-        sink = g.K.Sink.sink_faults c.send-sent.new.sink;
-        disk = g.D.Disk.faults (disk c.take_turn-reply.new.account);
-        random = g.W.Words.faults c.take_turn-reply.new.random;
-      };
-    } in
-    let step : Step = record {
-      now = now;
       reader = c.loop-number.reader;
       history = history c.loop-number.account;
       count = c.loop-number.count;
+    } in
+    let step : Step = record {
+      now = at.now;
+      history = at.history;
       message = c.in-Ok.message;
-      after = after;
-      reader' = c.next_message.new.reader;
-      history' = history c.take_turn-reply.new.account;
-      reply = reply_made c.take_turn-reply.result;
+      after = record {
+        left = g.Q.Source.left c.next_message.new.source;
+        taken = g.K.Sink.taken c.send-sent.new.sink;
+        readings = g.C.Clock.readings c.take_turn-said.new.clock;
+        drawn = g.W.Words.drawn c.take_turn-said.new.random;
+        counts = record {
+          source = g.Q.Source.source_faults c.next_message.new.source;
+          sink = g.K.Sink.sink_faults c.send-sent.new.sink;
+          disk = g.D.Disk.faults (disk c.take_turn-said.new.account);
+          random = g.W.Words.faults c.take_turn-said.new.random;
+        };
+      };
+      history' = history c.take_turn-said.new.account;
+      reply = reply_of c.take_turn-said.result;
     } in
-    let ends : Ends = record {
-      left = g.Q.Source.left c.next_message.new.source;
-      taken = g.K.Sink.taken c.next_message.new.sink;
-      source = g.Q.Source.source_faults c.next_message.new.source;
-      sink = g.K.Sink.sink_faults c.next_message.new.sink;
-    } in
-    let comes = c.in-Ok.ensures.comes in
-    let handed = comes_message c.loop-number.reader c.loop-number.count comes.0 c.in-Ok.message (ends_of now) ends
-    comes.2 in
-    let reads : Reads step.reader (next.Message step.message) step.reader' now.left after.left =
-    subst (λ (a : Next). Reads step.reader a step.reader' now.left after.left) handed.0 comes.1 in
-    let stays : base c.loop-number.account ≡ account_base = i.origin.base_stays in
-    let turned : Turned account_base step =
-    subst (λ (b : Base). Turned b step) stays c.take_turn-reply.ensures.turn in
-    let later : Later account_base step = record {
-      disk = c.take_turn-reply.ensures.disk_later;
-      random = c.take_turn-reply.ensures.random_later;
-      sound = subst (λ (b : Base). Sound (replay b.rows (entries_in (history c.take_turn-reply.new.account))))
-          (c.take_turn-reply.ensures.origin.base_stays ∙ stays)
+    let stays : base c.loop-number.account ≡ base c.args.account.now = i.origin.base_stays in
+    let turned : Turned c.args.people.now (base c.args.account.now) step =
+    subst (λ (b : Base). Turned c.args.people.now b step) stays c.take_turn-said.ensures.turn in
+    let later : Later (base c.args.account.now) step = record {
+      disk = c.take_turn-said.ensures.disk_later;
+      random = c.take_turn-said.ensures.random_later;
+      sound = subst (λ (b : Base). Sound (replay b.rows (entries_in (history c.take_turn-said.new.account))))
+          (c.take_turn-said.ensures.origin.base_stays ∙ stays)
           (subst Sound c.standing.ensures.rows c.standing.ensures.sound);
     } in
-    let sends = sent_since c.send-sent.result (framed_answer step.reply) now.taken ends.taken after.taken
-    now.counts.sink ends.sink after.counts.sink handed.1 c.next_message.ensures.sink_later c.send-sent.ensures.sent in
-    run_cut account_base before c.loop-number.number step i.progress reads turned later c.send-sent.result sends
-    c.saturating_add-count.result c.saturating_add-count.ensures i.sink_later c.loop-number-test.true
+    run_cut c.args.people.now (base c.args.account.now) before c.loop-number.number at i.progress
+    c.next_message.new.reader step refl refl turned later c.in-Ok.ensures.reads c.next_message.ensures.later
+    c.send-sent.ensures.later c.send-sent.result c.send-sent.ensures.sent c.saturating_add-count.result
+    c.saturating_add-count.ensures c.loop-number-test.true
     (not-true c.send-sent.result.whole c.if-not-sent.true)
 
 pub returns-then-not-sent-clause-origin : goal.returns-then-not-sent-clause-origin
 returns-then-not-sent-clause-origin g c =
-    same_origin _ _ _ c.loop-number.invariant.origin c.take_turn-reply.ensures.origin
+    same_origin _ _ _ c.loop-number.invariant.origin c.take_turn-said.ensures.origin
 
 pub returns-then-not-sent-clause-unsure : goal.returns-then-not-sent-clause-unsure
 returns-then-not-sent-clause-unsure g c =
-    unsure_since _ _ _ _ _ _ c.loop-number.invariant.unsure c.take_turn-reply.ensures.unsure
-    c.loop-number.invariant.disk_later c.take_turn-reply.ensures.disk_later
+    unsure_since _ _ _ _ _ _ c.loop-number.invariant.unsure c.take_turn-said.ensures.unsure
+    c.loop-number.invariant.disk_later c.take_turn-said.ensures.disk_later
 
 pub loop-number-preserved : goal.loop-number-preserved
 loop-number-preserved g c =
     let i = c.loop-number.invariant in
-    let account_base = base c.args.account.now in
     let before : Outside = record {
       left = g.Q.Source.left c.args.source.now;
       taken = g.K.Sink.taken c.args.sink.now;
@@ -205,74 +171,64 @@ loop-number-preserved g c =
         random = g.W.Words.faults c.args.random.now;
       };
     } in
-    let now : Outside = record {
-      left = g.Q.Source.left c.loop-number.source;
-      taken = g.K.Sink.taken c.loop-number.sink;
-      readings = g.C.Clock.readings c.loop-number.clock;
-      drawn = g.W.Words.drawn c.loop-number.random;
-      counts = record {
-        source = g.Q.Source.source_faults c.loop-number.source;
-        sink = g.K.Sink.sink_faults c.loop-number.sink;
-        disk = g.D.Disk.faults (disk c.loop-number.account);
-        random = g.W.Words.faults c.loop-number.random;
+    let at : Point = record {
+      now = record {
+        left = g.Q.Source.left c.loop-number.source;
+        taken = g.K.Sink.taken c.loop-number.sink;
+        readings = g.C.Clock.readings c.loop-number.clock;
+        drawn = g.W.Words.drawn c.loop-number.random;
+        counts = record {
+          source = g.Q.Source.source_faults c.loop-number.source;
+          sink = g.K.Sink.sink_faults c.loop-number.sink;
+          disk = g.D.Disk.faults (disk c.loop-number.account);
+          random = g.W.Words.faults c.loop-number.random;
+        };
       };
-    } in
-    let after : Outside = record {
-      left = g.Q.Source.left c.next_message.new.source;
-      taken = g.K.Sink.taken c.send-sent.new.sink;
-      readings = g.C.Clock.readings c.take_turn-reply.new.clock;
-      drawn = g.W.Words.drawn c.take_turn-reply.new.random;
-      counts = record {
-        source = g.Q.Source.source_faults c.next_message.new.source;
-        sink = g.K.Sink.sink_faults c.send-sent.new.sink;
-        disk = g.D.Disk.faults (disk c.take_turn-reply.new.account);
-        random = g.W.Words.faults c.take_turn-reply.new.random;
-      };
-    } in
-    let step : Step = record {
-      now = now;
       reader = c.loop-number.reader;
       history = history c.loop-number.account;
       count = c.loop-number.count;
+    } in
+    let step : Step = record {
+      now = at.now;
+      history = at.history;
       message = c.in-Ok.message;
-      after = after;
-      reader' = c.next_message.new.reader;
-      history' = history c.take_turn-reply.new.account;
-      reply = reply_made c.take_turn-reply.result;
+      after = record {
+        left = g.Q.Source.left c.next_message.new.source;
+        taken = g.K.Sink.taken c.send-sent.new.sink;
+        readings = g.C.Clock.readings c.take_turn-said.new.clock;
+        drawn = g.W.Words.drawn c.take_turn-said.new.random;
+        counts = record {
+          source = g.Q.Source.source_faults c.next_message.new.source;
+          sink = g.K.Sink.sink_faults c.send-sent.new.sink;
+          disk = g.D.Disk.faults (disk c.take_turn-said.new.account);
+          random = g.W.Words.faults c.take_turn-said.new.random;
+        };
+      };
+      history' = history c.take_turn-said.new.account;
+      reply = reply_of c.take_turn-said.result;
     } in
-    let ends : Ends = record {
-      left = g.Q.Source.left c.next_message.new.source;
-      taken = g.K.Sink.taken c.next_message.new.sink;
-      source = g.Q.Source.source_faults c.next_message.new.source;
-      sink = g.K.Sink.sink_faults c.next_message.new.sink;
-    } in
-    let comes = c.in-Ok.ensures.comes in
-    let handed = comes_message c.loop-number.reader c.loop-number.count comes.0 c.in-Ok.message (ends_of now) ends
-    comes.2 in
-    let reads : Reads step.reader (next.Message step.message) step.reader' now.left after.left =
-    subst (λ (a : Next). Reads step.reader a step.reader' now.left after.left) handed.0 comes.1 in
-    let stays : base c.loop-number.account ≡ account_base = i.origin.base_stays in
-    let turned : Turned account_base step =
-    subst (λ (b : Base). Turned b step) stays c.take_turn-reply.ensures.turn in
-    let later : Later account_base step = record {
-      disk = c.take_turn-reply.ensures.disk_later;
-      random = c.take_turn-reply.ensures.random_later;
-      sound = subst (λ (b : Base). Sound (replay b.rows (entries_in (history c.take_turn-reply.new.account))))
-          (c.take_turn-reply.ensures.origin.base_stays ∙ stays)
+    let stays : base c.loop-number.account ≡ base c.args.account.now = i.origin.base_stays in
+    let turned : Turned c.args.people.now (base c.args.account.now) step =
+    subst (λ (b : Base). Turned c.args.people.now b step) stays c.take_turn-said.ensures.turn in
+    let later : Later (base c.args.account.now) step = record {
+      disk = c.take_turn-said.ensures.disk_later;
+      random = c.take_turn-said.ensures.random_later;
+      sound = subst (λ (b : Base). Sound (replay b.rows (entries_in (history c.take_turn-said.new.account))))
+          (c.take_turn-said.ensures.origin.base_stays ∙ stays)
           (subst Sound c.standing.ensures.rows c.standing.ensures.sound);
     } in
-    let sends = sent_since c.send-sent.result (framed_answer step.reply) now.taken ends.taken after.taken
-    now.counts.sink ends.sink after.counts.sink handed.1 c.next_message.ensures.sink_later c.send-sent.ensures.sent in
     record {
-      origin = same_origin _ _ _ i.origin c.take_turn-reply.ensures.origin;
-      unsure = unsure_since _ _ _ _ _ _ i.unsure c.take_turn-reply.ensures.unsure i.disk_later
-          c.take_turn-reply.ensures.disk_later;
-      source_later = omega (arith, i.source_later, c.next_message.ensures.source_later);
-      sink_later = omega (arith, i.sink_later, c.next_message.ensures.sink_later, c.send-sent.ensures.later);
-      disk_later = omega (arith, i.disk_later, c.take_turn-reply.ensures.disk_later);
-      random_later = omega (arith, i.random_later, c.take_turn-reply.ensures.random_later);
-      progress = progress_more account_base before c.loop-number.number step i.progress reads turned later
-          c.send-sent.result sends c.saturating_add-count.result c.saturating_add-count.ensures
+      origin = same_origin _ _ _ i.origin c.take_turn-said.ensures.origin;
+      unsure = unsure_since _ _ _ _ _ _ i.unsure c.take_turn-said.ensures.unsure i.disk_later
+          c.take_turn-said.ensures.disk_later;
+      source_later = omega (arith, i.source_later, c.next_message.ensures.later);
+      sink_later = omega (arith, i.sink_later, c.send-sent.ensures.later);
+      disk_later = omega (arith, i.disk_later, c.take_turn-said.ensures.disk_later);
+      random_later = omega (arith, i.random_later, c.take_turn-said.ensures.random_later);
+      progress = progress_more c.args.people.now (base c.args.account.now) before c.loop-number.number at i.progress
+          c.next_message.new.reader step refl refl turned later c.in-Ok.ensures.reads c.next_message.ensures.later
+          c.send-sent.ensures.later c.send-sent.result c.send-sent.ensures.sent c.saturating_add-count.result
+          c.saturating_add-count.ensures
           (not-false c.send-sent.result.whole c.if-not-sent.false);
     }
 
@@ -290,23 +246,22 @@ returns-clause-runs g c =
         random = g.W.Words.faults c.args.random.now;
       };
     } in
-    let now : Outside = record {
-      left = g.Q.Source.left c.loop-number.source;
-      taken = g.K.Sink.taken c.loop-number.sink;
-      readings = g.C.Clock.readings c.loop-number.clock;
-      drawn = g.W.Words.drawn c.loop-number.random;
-      counts = record {
-        source = g.Q.Source.source_faults c.loop-number.source;
-        sink = g.K.Sink.sink_faults c.loop-number.sink;
-        disk = g.D.Disk.faults (disk c.loop-number.account);
-        random = g.W.Words.faults c.loop-number.random;
-      };
-    } in
     let at : Point = record {
-      now = now;
+      now = record {
+        left = g.Q.Source.left c.loop-number.source;
+        taken = g.K.Sink.taken c.loop-number.sink;
+        readings = g.C.Clock.readings c.loop-number.clock;
+        drawn = g.W.Words.drawn c.loop-number.random;
+        counts = record {
+          source = g.Q.Source.source_faults c.loop-number.source;
+          sink = g.K.Sink.sink_faults c.loop-number.sink;
+          disk = g.D.Disk.faults (disk c.loop-number.account);
+          random = g.W.Words.faults c.loop-number.random;
+        };
+      };
       reader = c.loop-number.reader;
       history = history c.loop-number.account;
       count = c.loop-number.count;
     } in
-    run_enough (base c.args.account.now) before c.loop-number.number at c.loop-number.invariant.progress
-    (omega (arith, c.loop-number.auto.number-end, c.loop-number-test.false))
+    run_enough c.args.people.now (base c.args.account.now) before c.loop-number.number at
+    c.loop-number.invariant.progress (omega (arith, c.loop-number.auto.number-end, c.loop-number-test.false))

@@ -14,7 +14,7 @@ invariant-loop-number g l = record {
   sink_later : g.K.Sink.sink_faults l.initial.sink ≤ g.K.Sink.sink_faults l.sink;
   disk_later : g.D.Disk.faults (disk l.initial.account) ≤ g.D.Disk.faults (disk l.account);
   random_later : g.W.Words.faults l.initial.random ≤ g.W.Words.faults l.random;
-  progress : Progress (base l.initial.account)
+  progress : Progress l.people (base l.initial.account)
       (record {
         left = g.Q.Source.left l.initial.source;
         taken = g.K.Sink.taken l.initial.sink;

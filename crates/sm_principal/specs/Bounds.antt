@@ -1,0 +1,27 @@
+-- How long the texts of persons are.
+use Rattle.std.specs.Prelude.{◌≡◌, ℕ, ◌≤◌, List, length, All, Option, Ok, ⊤}
+use Rattle.sm_model.specs.declared.person.Person.{Person}
+use Rattle.sm_principal.specs.declared.people.People.{People}
+use Rattle.sm_principal.specs.declared.people.People.TheVariants.{Everybody, Listed}
+use Rattle.sm_principal.specs.Callers.{people_of, caller_of}
+
+-- the key has at most 128 bytes
+abbrev pub HasShortKey : Person → Type 0
+HasShortKey person = length person.key ≤ 128
+
+-- and the ARN at most 154
+abbrev pub IsShort : Person → Type 0
+IsShort person = HasShortKey person × (length person.arn ≤ 154)
+
+abbrev pub AreShort : People → Type 0
+AreShort Everybody = ⊤
+AreShort (Listed persons) = All IsShort persons
+
+-- the persons of a people text are short
+abbrev pub ReadsShort : Type 0
+ReadsShort = (text : List ℕ) (people : People) → people_of text ≡ Ok people → AreShort people
+
+-- who asks has a short key, whoever may ask
+abbrev pub AsksShort : Type 0
+AsksShort = (people : People) (header : Option (List ℕ)) (person : Person) → caller_of people header ≡ Ok person
+    → HasShortKey person

@@ -1,0 +1,104 @@
+use Rattle.std.proofs.Common.{◌≡◌, ◌≤◌, ℕ, List, sym, refl, ap, subst, ◌∙◌}
+use Rattle.sm_model.specs.declared.entry.Entry.{Entry}
+use Rattle.sm_journal.specs.Openings.{ReadsAs}
+use Rattle.sm_store.specs.Entries.{HasEntries}
+use Rattle.sm_store.specs.declared.files.TheConstants.{JOURNAL}
+use Rattle.sm_server.specs.Outside.{Outside}
+use Rattle.sm_server.specs.Ran.{Runs, course_of}
+use Rattle.sm_server.specs.Status.{WasFollowed}
+use Rattle.sm_server.specs.Stored.{Leaves, Stands, status_unopened, disk_unopened}
+use Rattle.sm_server.proofs.EndLemmas.{opened_followed}
+use Rattle.sm_server.proofs.StoredLemmas.{leaves_opened}
+use Rattle.sm_server.proofs.UnopenedLemmas.{no_story, leaves_unopened, later_unopened, runs_unopened, unopened_followed}
+use Rattle.sm_server.proofs.run.run_over.Goals as goal
+
+pub returns-in-Ok-clause-ran : goal.returns-in-Ok-clause-ran
+returns-in-Ok-clause-ran g c =
+    let run = c.run_opened in
+    let opened = c.in-Ok.ensures.opened in
+    let story = run.ensures.ran.0 in
+    let before : ℕ → Outside = λ (faults : ℕ). record {
+      left = g.Q.Source.left c.args.source.now;
+      taken = g.K.Sink.taken c.args.sink.now;
+      readings = g.C.Clock.readings c.args.clock.now;
+      drawn = g.W.Words.drawn c.args.random.now;
+      counts = record {
+        source = g.Q.Source.source_faults c.args.source.now;
+        sink = g.K.Sink.sink_faults c.args.sink.now;
+        disk = faults;
+        random = g.W.Words.faults c.args.random.now;
+      };
+    } in
+    let after : Outside = record {
+      left = g.Q.Source.left c.run_opened.new.source;
+      taken = g.K.Sink.taken c.run_opened.new.sink;
+      readings = g.C.Clock.readings c.run_opened.new.clock;
+      drawn = g.W.Words.drawn c.run_opened.new.random;
+      counts = record {
+        source = g.Q.Source.source_faults c.run_opened.new.source;
+        sink = g.K.Sink.sink_faults c.run_opened.new.sink;
+        disk = g.D.Disk.faults run.result.1;
+        random = g.W.Words.faults c.run_opened.new.random;
+      };
+    } in (
+      story,
+      run.ensures.ran.1,
+      subst (λ d. Runs (course_of story) run.result.0 (before (g.D.Disk.faults d)) after) opened.began_is
+          run.ensures.ran.3,
+      leaves_opened g.D.Disk run.result.0 story c.args.disk run.result.1 run.ensures.opened (record {
+        recovered = subst (λ (t : List Entry). ReadsAs JOURNAL (λ bytes. HasEntries bytes t)
+            (g.D.Disk.sight c.args.disk)) (sym run.ensures.ran.2) c.in-Ok.ensures.list;
+        stands = subst (λ d. Stands g.D.Disk story d run.result.1) opened.began_is run.ensures.ran.4;
+      }),
+    )
+
+pub returns-in-Ok-clause-followed : goal.returns-in-Ok-clause-followed
+returns-in-Ok-clause-followed g c = opened_followed c.run_opened.result.0 c.run_opened.ensures.opened
+
+pub returns-in-Err-clause-ran : goal.returns-in-Err-clause-ran
+returns-in-Err-clause-ran g c =
+    let refused = c.in-Err.refused in
+    let why = c.in-Err.ensures.refused in
+    let now = c.end_unopened.result.1 in
+    let people = c.args.people.now in
+    let before : Outside = record {
+      left = g.Q.Source.left c.args.source.now;
+      taken = g.K.Sink.taken c.args.sink.now;
+      readings = g.C.Clock.readings c.args.clock.now;
+      drawn = g.W.Words.drawn c.args.random.now;
+      counts = record {
+        source = g.Q.Source.source_faults c.args.source.now;
+        sink = g.K.Sink.sink_faults c.args.sink.now;
+        disk = g.D.Disk.faults c.args.disk;
+        random = g.W.Words.faults c.args.random.now;
+      };
+    } in
+    let after : Outside = record before { counts = record before.counts { disk = g.D.Disk.faults now } } in
+    let same : disk_unopened refused ≡ now = sym c.end_unopened.ensures.disk in (
+      no_story people,
+      refl,
+      subst (λ s. Runs (course_of (no_story people)) s before after) (sym c.end_unopened.ensures.status)
+          (runs_unopened g.D.Disk people c.args.disk refused before after why refl (ap g.D.Disk.faults (sym same))
+          (record {
+            left = refl;
+            taken = refl;
+            readings = refl;
+            drawn = refl;
+            disk = subst (λ d. g.D.Disk.faults c.args.disk ≤ g.D.Disk.faults d) same
+                (later_unopened g.D.Disk people c.args.disk refused why);
+            random = refl;
+          })),
+      subst (λ s. Leaves g.D.Disk s (no_story people) c.args.disk now) (sym c.end_unopened.ensures.status)
+          (subst (λ d. Leaves g.D.Disk (status_unopened refused) (no_story people) c.args.disk d) same
+          (leaves_unopened g.D.Disk people c.args.disk refused why)),
+    )
+
+pub returns-in-Err-clause-followed : goal.returns-in-Err-clause-followed
+returns-in-Err-clause-followed g c =
+    subst WasFollowed (sym c.end_unopened.ensures.status)
+    (unopened_followed g.D.Disk c.args.people.now c.args.disk c.in-Err.refused)
+
+pub returns-in-Err-clause-disk_later : goal.returns-in-Err-clause-disk_later
+returns-in-Err-clause-disk_later g c =
+    subst (λ d. g.D.Disk.faults c.args.disk ≤ g.D.Disk.faults d) (sym c.end_unopened.ensures.disk)
+    (later_unopened g.D.Disk c.args.people.now c.args.disk c.in-Err.refused c.in-Err.ensures.refused)

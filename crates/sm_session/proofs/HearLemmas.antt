@@ -1,0 +1,27 @@
+-- What a message names, and who asks by it.
+use Rattle.std.proofs.Common.{◌≡◌, ℕ, ◌+◌, ◌<◌, ◌≤◌, List, ◌∷◌, drop, length, get_or, map, sym, ap, ◌∙◌, cond, subst}
+use Rattle.std.proofs.lemmas.List.{at_drop_more}
+use Rattle.std.specs.Str.{str_eq_ignore_ascii_case}
+use Rattle.sm_model.specs.declared.person.Person.{Person}
+use Rattle.sm_http.specs.declared.answer.Field.{Field}
+use Rattle.sm_http.specs.Heads.{values_of}
+use Rattle.sm_http.specs.Reading.{pair_of}
+use Rattle.sm_session.specs.declared.heard.Heard.{Heard}
+use Rattle.sm_session.specs.declared.heard.Heard.TheVariants.{Ask, Refused, Memory}
+use Rattle.sm_session.specs.Hearing.{IfAsks}
+
+-- the values from a place on: that of the field there, where it has the name, and those behind it
+pub fields_at : (name : List ℕ) (fields : List Field) (i : ℕ) (x : Field) → i < length fields → x ≡ get_or fields i x
+    → values_of name (map pair_of (drop i fields))
+    ≡ cond (str_eq_ignore_ascii_case x.name name) (x.value ∷ values_of name (map pair_of (drop (i + 1) fields)))
+    (values_of name (map pair_of (drop (i + 1) fields)))
+fields_at name fields i x h e =
+    at_drop_more (λ (xs : List Field). values_of name (map pair_of xs)) fields i x h
+    ∙ ap (λ (y : Field). values_of name (map pair_of (y ∷ drop (i + 1) fields))) (sym e)
+
+-- who asks has a short key
+pub asks_short : (heard : Heard) (person : Person) → IfAsks heard (λ asker. asker ≡ person) → length person.key ≤ 128
+    → IfAsks heard (λ asker. length asker.key ≤ 128)
+asks_short (Ask asker request) person same short = subst (λ (p : Person). length p.key ≤ 128) (sym same) short
+asks_short (Refused why) person same short = tt
+asks_short Memory person same short = tt

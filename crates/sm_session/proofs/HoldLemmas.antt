@@ -1,0 +1,114 @@
+-- One hold of the lock, and the turn that it is a part of.
+use Rattle.std.proofs.Common.{◌≡◌, ◌⊎◌, ◌≤◌, ℕ, List, [], ◌∷◌, ◌++◌, length, drop, Option, Some, None, Result, Ok, refl, sym, ap, ◌∙◌, subst, inl, inr, append-nil}
+use Rattle.sm_base.specs.Faults.{Rose}
+use Rattle.sm_disk.specs.declared.disk.Disk.{Ghosts as DiskGhosts}
+use Rattle.sm_model.specs.declared.entry.Entry.{Entry as entries}
+use Rattle.sm_model.specs.declared.entry.Mark.{Mark}
+use Rattle.sm_model.specs.declared.entry.Mark.TheVariants.{Entry, Fault}
+use Rattle.sm_model.specs.declared.why.Why.{Why}
+use Rattle.sm_rotator.specs.declared.rotator.Rotator.{Ghosts as RotatorGhosts}
+use Rattle.sm_account.specs.Accounts.{SameOrigin, base, began, taken}
+use Rattle.sm_account.specs.Handled.{marks_of, OnDiskFault}
+use Rattle.sm_account.specs.History.{by_seat}
+use Rattle.sm_account.specs.Outcome.{Outcome, Refuses, Replies}
+use Rattle.sm_account.specs.States.{Base, base_of}
+use Rattle.sm_account.specs.declared.account.Account.{Account}
+use Rattle.sm_account.specs.declared.handled.Handled.{Handled}
+use Rattle.sm_account.specs.declared.handled.Handled.TheVariants as handled
+use Rattle.sm_account.specs.declared.storied.Opened.{Opened}
+use Rattle.sm_lock.specs.Handles.{number, seen, built, mine, IsIn}
+use Rattle.sm_lock.specs.Story.{Grows, entries_of}
+use Rattle.sm_lock.specs.declared.gate.Gate.{Gate}
+use Rattle.sm_lock.specs.declared.pass.Pass.{Pass}
+use Rattle.sm_lock.specs.declared.storied.Storied.{Ghosts}
+use Rattle.sm_lock.proofs.Stories.{grows-same}
+use Rattle.sm_reply.specs.Shown.{Answered}
+use Rattle.sm_spells.specs.Spells.{History, Spell, marks_in}
+use Rattle.sm_spells.proofs.SpellLaws.{spell_mine}
+use Rattle.sm_session.specs.declared.trace.TraceItem.{TraceItem}
+use Rattle.sm_session.specs.Answer.{Asked}
+use Rattle.sm_session.specs.Sessions.{Place, Standing, MessageTurn, turn_shape, item_at, TakesTurn}
+use Rattle.sm_session.specs.Told.{nothing_told, told_once}
+use Rattle.sm_session.specs.Turns.{Turn, Untouched, IsTurn}
+use Rattle.sm_session.proofs.KnownLemmas.{append_known-nil}
+use Rattle.sm_session.proofs.TurnLemmas.{untouched}
+
+-- what an account was opened over
+module _ {D R : Type 0} {G : DiskGhosts D} {V : RotatorGhosts R} where
+  abbrev pub origin_of : Account D R G V → Opened D
+  origin_of account =
+      record { taken = taken account; limit = (base account).limit; began = began account }
+
+  pub origin_stays : (old new : Account D R G V) → SameOrigin old new → origin_of new ≡ origin_of old
+  origin_stays old new same =
+      let of : List entries → ℕ → D → Opened D = λ taken limit began.
+      record { taken = taken; limit = limit; began = began } in
+      ap (λ t. of t (base new).limit (began new)) same.taken_stays
+      ∙ ap (λ (b : Base). of (taken old) b.limit (began new)) same.base_stays
+      ∙ ap (of (taken old) (base old).limit) same.began_stays
+
+  pub same_base : (a b : Account D R G V) → origin_of a ≡ origin_of b → base a ≡ base b
+  same_base a b same = ap (λ (o : Opened D). base_of o.taken o.limit) same
+
+-- an answer leaves one mark at most
+one_more : (seat : ℕ) (before after : History) (mark : Mark) → after ≡ before ++ by_seat seat (mark ∷ [])
+    → (after ≡ before) ⊎ ((entry : Mark) × (after ≡ before ++ (seat, entry) ∷ []))
+one_more seat before after mark is = inr (mark, is)
+
+none_more : (seat : ℕ) (before after : History) → after ≡ before ++ []
+    → (after ≡ before) ⊎ ((entry : Mark) × (after ≡ before ++ (seat, entry) ∷ []))
+none_more seat before after is = inl (is ∙ append-nil before)
+
+pub at_most_one : (seat : ℕ) (before after : History) (answered : Handled) (wanted : Outcome)
+    → after ≡ before ++ by_seat seat (marks_of answered wanted)
+    → (after ≡ before) ⊎ ((entry : Mark) × (after ≡ before ++ (seat, entry) ∷ []))
+at_most_one seat before after (handled.Answered reply) (Replies wanted (Some entry)) is =
+    one_more seat before after (Entry entry) is
+at_most_one seat before after (handled.Answered reply) (Replies wanted None) is = none_more seat before after is
+at_most_one seat before after (handled.Answered reply) (Refuses why) is = none_more seat before after is
+at_most_one seat before after (handled.Refused why) wanted is = none_more seat before after is
+at_most_one seat before after handled.DiskFault wanted is = one_more seat before after Fault is
+at_most_one seat before after handled.Memory wanted is = none_more seat before after is
+
+-- behind the lock a fault of the disk has no cause but its mark
+pub fault_stands : (answered : Handled) → OnDiskFault answered (Unit {0})
+fault_stands (handled.Answered reply) = tt
+fault_stands (handled.Refused why) = tt
+fault_stands handled.DiskFault = tt
+fault_stands handled.Memory = tt
+
+-- a turn for which the clock was read is not untouched
+pub is_touched : (now : ℕ) (bytes : List ℕ) (reply : Answered) (marks : List Mark) (P : Type 0)
+    → Untouched (record { told = told_once now bytes; reply = reply; marks = marks }) → P
+is_touched now bytes reply marks P none =
+    let readings : now ∷ [] ≡ [] = ap (λ t. t.readings) none.0 in absurd (cc)
+
+-- a turn that did not reach the account
+pub passed_by : (place : Place) (wanted : Result Asked Why) (old new : Standing) (reply : Answered) (item : TraceItem)
+    → new.seen ≡ old.seen → new.readings ≡ old.readings → new.drawn ≡ old.drawn → old.random ≤ new.random
+    → IsTurn (Unit {0}) (Rose old.random new.random) place.base old.seen wanted (untouched reply)
+    → item ≡ item_at (length old.seen) nothing_told reply.status → TakesTurn place wanted old new reply item
+passed_by place wanted old new reply item seen readings drawn later right traced = record {
+  before = old.seen;
+  told = nothing_told;
+  marks = [];
+  gap = grows-same (place.seat ∷ []) old.seen;
+  still = λ none. refl;
+  right = right;
+  stands = seen ∙ sym (append-nil old.seen);
+  readings = readings ∙ sym (append_known-nil old.readings);
+  drawn = drawn ∙ sym (append_known-nil old.drawn);
+  later = later;
+  traced = traced;
+}
+
+-- what a seat's own marks are after a session
+module _ {T O : Type 0} {g : Ghosts T O Mark} (gate : Gate T O Mark) (pass after : Pass T O Mark g) where
+  pub session_mine : (right : MessageTurn → Type 0) (turns : List MessageTurn) → IsIn gate pass → IsIn gate after
+      → number after ≡ number pass
+      → Spell turn_shape (Grows (number pass ∷ [])) (number pass) right (seen pass) turns (seen after)
+      → mine after ≡ mine pass ++ marks_in turn_shape turns
+  session_mine right turns in_gate after_in same spell =
+      ap (λ (b : History). entries_of (number after) (drop (length b) (seen after))) (after_in.2 ∙ sym in_gate.2)
+      ∙ ap (λ n. entries_of n (drop (length (built pass)) (seen after))) same
+      ∙ spell_mine turn_shape (number pass) right (built pass) (seen pass) (seen after) turns pass.begins spell

@@ -1,0 +1,10 @@
+pub mod KnownLemmas
+pub mod HearLemmas
+pub mod ReplyLemmas
+pub mod TurnLemmas
+pub mod UnsureLemmas
+pub mod StreamLemmas
+pub mod WireLemmas
+pub mod SessionLemmas
+pub mod HoldLemmas
+pub mod CompleteLemmas

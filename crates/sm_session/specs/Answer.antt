@@ -1,0 +1,117 @@
+-- The answer to a message at a history: the model of the API that every reply is compared with.
+use Rattle.std.specs.Prelude.{ℕ, Bool, true, ◌&&◌, if◌then◌else◌, List, [], Option, Some, None, Result, Ok, Err, option_and_then, codes}
+use Rattle.std.specs.Str.{bytes_eq}
+use Rattle.sm_model.specs.declared.entry.Entry.{Entry}
+use Rattle.sm_model.specs.declared.person.Person.{Person}
+use Rattle.sm_model.specs.declared.request.Request.{Request}
+use Rattle.sm_model.specs.declared.why.Why.{Why}
+use Rattle.sm_model.specs.declared.why.Why.TheVariants as whys
+use Rattle.sm_account.specs.Outcome.{Outcome, Refuses, Replies, Question, outcome}
+use Rattle.sm_account.specs.States.{Base, state_at}
+use Rattle.sm_http.specs.Heads.{field_of}
+use Rattle.sm_http.specs.Messages.{Message}
+use Rattle.sm_json.specs.declared.operation.Operation.{Operation}
+use Rattle.sm_json.specs.declared.requests.ReadRequest.{ReadRequest}
+use Rattle.sm_json.specs.declared.requests.ReadRequest.TheVariants as answers
+use Rattle.sm_json.specs.Asks.{asks_of}
+use Rattle.sm_json.specs.Operations.{operation_of}
+use Rattle.sm_principal.specs.declared.people.People.{People}
+use Rattle.sm_principal.specs.Callers.{Nobody, no_credential, unknown, caller_of}
+use Rattle.sm_reply.specs.Shown.{Answered, refused, shown}
+use Rattle.sm_spells.specs.Spells.{History}
+
+-- what counts of a message: its method, its path, its X-Amz-Target, its Authorization and its body
+pub record Envelope : Type 0 where
+  pub method : List ℕ
+  pub path : List ℕ
+  pub target : Option (List ℕ)
+  pub authorization : Option (List ℕ)
+  pub body : List ℕ
+
+abbrev pub envelope_of : Message → Envelope
+envelope_of message = record {
+  method = message.method;
+  path = message.path;
+  target = field_of (codes "x-amz-target") message.fields;
+  authorization = field_of (codes "authorization") message.fields;
+  body = message.body;
+}
+
+-- a request is POST to /
+abbrev pub is_request : List ℕ → List ℕ → Bool
+is_request method path = bytes_eq method (codes "POST") && bytes_eq path (codes "/")
+
+-- the operation that a message names
+abbrev pub operation_in : Envelope → Option Operation
+operation_in envelope =
+    if is_request envelope.method envelope.path then option_and_then operation_of envelope.target else None
+
+-- what is asked, and by whom
+pub record Asked : Type 0 where
+  pub person : Person
+  pub request : Request
+
+-- why nobody asks
+abbrev pub why_nobody : Nobody → Why
+why_nobody no_credential = whys.NoCredential
+why_nobody (unknown key) = whys.UnknownKey key
+
+-- the request of a person by what was read of a body, or the cause of a refusal
+abbrev pub asked_by : Person → ReadRequest → Result Asked Why
+asked_by person (answers.Ok request) = Ok (record { person = person; request = request })
+asked_by person answers.Unknown = Err whys.UnknownOperation
+asked_by person answers.NotJson = Err whys.NotJson
+asked_by person (answers.BadMember name) = Err (whys.BadMember name)
+asked_by person (answers.Left name) = Err (whys.Left name)
+asked_by person answers.Memory = Err whys.Memory
+
+-- who asks comes before the body
+abbrev pub asked_of : Result Person Nobody → Operation → List ℕ → Result Asked Why
+asked_of (Err nobody) operation body = Err (why_nobody nobody)
+asked_of (Ok person) operation body = asked_by person (asks_of operation body)
+
+-- and the operation's name comes before who asks
+abbrev pub heard_if : People → Option Operation → Envelope → Result Asked Why
+heard_if people None envelope = Err whys.UnknownOperation
+heard_if people (Some operation) envelope =
+    asked_of (caller_of people envelope.authorization) operation envelope.body
+
+-- who asks for what by a message, or the first refusal: of the operation's name, of who asks, of the body's JSON and of
+-- its members
+abbrev pub heard_of : People → Envelope → Result Asked Why
+heard_of people envelope = heard_if people (operation_in envelope) envelope
+
+abbrev pub heard : People → Message → Result Asked Why
+heard people message = heard_of people (envelope_of message)
+
+-- an answer: the reply, and the entry that is made, if one is due
+pub record Answer : Type 0 where
+  pub reply : Answered
+  pub entry : Option Entry
+
+-- a refusal makes no entry
+abbrev pub refusing : Why → Answer
+refusing why = record { reply = refused why; entry = None }
+
+-- what is asked of an account
+abbrev pub question_of : ℕ → List ℕ → Asked → Question
+question_of now drawn asked =
+    record { person = asked.person; now = record { 0 = now }; drawn = drawn; request = asked.request }
+
+-- an outcome as a reply and its entry
+abbrev pub answer_of : Outcome → Answer
+answer_of (Refuses why) = refusing why
+answer_of (Replies reply entry) = record { reply = shown reply; entry = entry }
+
+-- the answer to a person's request at a history: its forms, then access, then the tests on the rows, then the limits
+abbrev pub answer_asked : Base → History → ℕ → List ℕ → Asked → Answer
+answer_asked base history now drawn asked =
+    answer_of (outcome (state_at base history) (question_of now drawn asked))
+
+abbrev pub answer_heard : Base → History → ℕ → List ℕ → Result Asked Why → Answer
+answer_heard base history now drawn (Err why) = refusing why
+answer_heard base history now drawn (Ok asked) = answer_asked base history now drawn asked
+
+-- the answer to a message at a history over a base, with the clock's reading and the random bytes that were drawn
+abbrev pub answer : People → Base → History → ℕ → List ℕ → Message → Answer
+answer people base history now drawn message = answer_heard base history now drawn (heard people message)

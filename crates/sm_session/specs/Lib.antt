@@ -1,0 +1,9 @@
+pub mod Told
+pub mod Replies
+pub mod Answer
+pub mod Hearing
+pub mod Turns
+pub mod Streams
+pub mod Endings
+pub mod Sessions
+pub mod Complete

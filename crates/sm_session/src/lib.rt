@@ -1,0 +1,28 @@
+//! Sessions: who asks for what by a message, its answer, and the messages of a stream.
+#![tactic(auto)]
+
+mod drawing;
+pub mod ended;
+pub mod heard;
+mod hearing;
+mod holding;
+pub mod said;
+mod saying;
+mod sending;
+mod serving;
+mod streams;
+mod taking;
+pub mod trace;
+mod turns;
+
+pub use drawing::draw;
+pub use ended::Ended;
+pub use heard::Heard;
+pub use hearing::read;
+pub use said::Said;
+pub use saying::{say_handled, say_refusal};
+pub use sending::send;
+pub use serving::serve;
+pub use streams::{MESSAGE_LIMIT, finish, next_message};
+pub use trace::{Served, ServedBy, Trace, TraceItem};
+pub use turns::turn;

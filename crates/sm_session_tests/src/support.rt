@@ -1,0 +1,153 @@
+//! Sessions over memory, and the bytes of messages and replies.
+ghost use Rattle.std.specs.Prelude.{IfOk};
+ghost use Rattle.sm_lock.specs.Handles.{IsIn};
+
+use crate::gates::for_one;
+use sm_account::Account;
+use sm_disk::MemoryDisk;
+use sm_io::{CountWords, FixedClock, MemoryConn, MemorySink, MemorySource};
+use sm_lock::{Gate, Pass};
+use sm_model::limits::JOURNAL_LIMIT;
+use sm_model::{Bytes, Fails, List, Moment};
+use sm_principal::People;
+use sm_rotator::NoRotator;
+use sm_session::{Ended, serve};
+use std::alloc::Global;
+use std::sync::Wait;
+use std::test::Fail;
+
+pub type Kept = Account<MemoryDisk, NoRotator>;
+
+/// How the objects of the outside behave: how many bytes move at a time, and from which call on each fails.
+#[derive(Clone, Copy)]
+pub struct Outside {
+    pub take: usize,
+    pub put: usize,
+    pub source_from: Option<u64>,
+    pub sink_from: Option<u64>,
+    pub random_from: Option<u64>,
+    pub disk_from: Option<u64>,
+}
+
+pub const WELL: Outside = Outside {
+    take: 1_000_000,
+    put: 1_000_000,
+    source_from: None,
+    sink_from: None,
+    random_from: None,
+    disk_from: None,
+};
+
+/// How a session ended, what was written, and how many messages were answered.
+pub type Heard = (Ended, Vec<u8>, usize);
+
+fn fails(alloc: Global, from: Option<u64>) -> Fails {
+    Fails {
+        calls: List::empty(alloc),
+        from,
+    }
+}
+
+/// An account over an empty disk.
+pub fn account(alloc: Global, outside: &Outside) -> Option<Kept> {
+    let disk = MemoryDisk::new(
+        alloc,
+        Bytes::empty(alloc),
+        Bytes::empty(alloc),
+        Bytes::empty(alloc),
+        fails(alloc, outside.disk_from),
+    );
+    match disk {
+        Ok(disk) => Account::open(alloc, disk, 1, JOURNAL_LIMIT).ok(),
+        Err(_) => None,
+    }
+}
+
+fn connection(alloc: Global, input: &[u8], outside: &Outside) -> Result<MemoryConn, Fail> {
+    let bytes = Bytes::from_slice(alloc, input)?;
+    let source = MemorySource::new(
+        bytes,
+        outside.take.max(1),
+        fails(alloc, outside.source_from),
+    );
+    let sink = MemorySink::new(alloc, outside.put.max(1), fails(alloc, outside.sink_from));
+    Ok(MemoryConn::new(source, sink))
+}
+
+/// A session of one connection, and the pass again.
+pub fn talk<R: Wait>(
+    rt: &R,
+    alloc: Global,
+    gate: &Gate<Kept>,
+    pass: Pass<Kept>,
+    input: &[u8],
+    outside: &Outside,
+) -> Result<(Pass<Kept>, Heard), Fail>
+    requires { IsIn gate.now pass }
+    ensures { IfOk result (λ r. IsIn gate.now r.0) }
+{
+    let mut conn = connection(alloc, input, outside)?;
+    let mut clock = FixedClock::new(Moment(1_700_000_000));
+    let mut words = CountWords::new(alloc, 0, fails(alloc, outside.random_from));
+    let served = serve(
+        rt,
+        alloc,
+        gate,
+        pass,
+        &mut conn,
+        &mut clock,
+        &mut words,
+        &People::Everybody,
+    );
+    let written = Vec::from_slice(alloc, conn.sink().taken().as_slice())?;
+    let count = served.trace.items.as_slice().len();
+    Ok((served.pass, (served.ended, written, count)))
+}
+
+/// A session of one connection at an account of its own.
+pub fn session<R: Wait>(
+    rt: &R,
+    alloc: Global,
+    input: &[u8],
+    outside: &Outside,
+) -> Result<Option<Heard>, Fail> {
+    let Some(account) = account(alloc, outside) else {
+        return Ok(None);
+    };
+    let Ok((gate, pass)) = for_one(alloc, account) else {
+        return Ok(None);
+    };
+    let (_pass, heard) = talk(rt, alloc, &gate, pass, input, outside)?;
+    Ok(Some(heard))
+}
+
+/// Adds a message that asks for an operation.
+pub fn add_message(
+    alloc: Global,
+    input: &mut Vec<u8>,
+    operation: &str,
+    body: &[u8],
+) -> Result<(), Fail> {
+    let size = body.len();
+    let head = format!(in alloc;
+        "POST / HTTP/1.1\r\nX-Amz-Target: secretsmanager.{operation}\r\nContent-Length: {size}\r\n\r\n"
+    )?;
+    input.extend_from_slice(head.as_bytes())?;
+    input.extend_from_slice(body)?;
+    Ok(())
+}
+
+/// Adds a reply.
+pub fn add_reply(
+    alloc: Global,
+    output: &mut Vec<u8>,
+    status: &str,
+    body: &str,
+) -> Result<(), Fail> {
+    let size = body.len();
+    let reply = format!(in alloc;
+        "HTTP/1.1 {status}\r\nContent-Type: application/x-amz-json-1.1\r\nContent-Length: {size}\r\n\r\n{body}"
+    )?;
+    output.extend_from_slice(reply.as_bytes())?;
+    Ok(())
+}
