@@ -47,6 +47,7 @@ use Rattle.sm_values.specs.NewValue.{token_of, placed_by, judged_by}
 use Rattle.sm_values.specs.PutSecretValue.{put_call, labels_placed, put_into, put_accepted, put_repeated, put_on, put_judgement_of, put_effect_of}
 use Rattle.sm_values.specs.UpdateSecret.{update_call, redescribed, with_value, update_into, update_placed, update_accepted, update_repeated, update_on, update_judgement, update_effect}
 use Rattle.sm_labels.specs.UpdateSecretVersionStage.{move_call, move_in}
+use Rattle.sm_policies.specs.Kept.{with_policy}
 use Rattle.sm_rotations.specs.CancelRotateSecret.{cancelled}
 use Rattle.sm_rotations.specs.declared.rotate_secret.Plan.{Plan}
 use Rattle.sm_rotations.specs.Begun.{begun_effect}
@@ -105,12 +106,12 @@ create_vouched replies rows moment drawn create vouched =
 -- a value that is put where an entry is due was not there
 due_added : (done : PutDone) (after : SecretRow) (token : List ℕ) (accept : SecretRow → Judged) (repeat : Judged)
     → (IsDue repeat → ⊥) → IsDue (judged_by (placed_by done after token) accept repeat) → done ≡ puts.Added
-due_added puts.Added after token accept repeat no due = refl
-due_added (puts.Same labels) after token accept repeat no due = absurd (no due)
-due_added puts.Exists after token accept repeat no due = absurd due
-due_added (puts.TooMany limit) after token accept repeat no due = absurd due
-due_added (puts.TooManyLabels limit) after token accept repeat no due = absurd due
-due_added puts.Memory after token accept repeat no due = absurd due
+due_added puts.Added after token accept repeat never due = refl
+due_added (puts.Same labels) after token accept repeat never due = absurd (never due)
+due_added puts.Exists after token accept repeat never due = absurd due
+due_added (puts.TooMany limit) after token accept repeat never due = absurd due
+due_added (puts.TooManyLabels limit) after token accept repeat never due = absurd due
+due_added puts.Memory after token accept repeat never due = absurd due
 
 no_change_due : IsSome {T = Change} None → ⊥
 no_change_due due = cc
@@ -140,12 +141,12 @@ with_value_vouched : (replies : Replies) (row : SecretRow) (moment : Moment) (va
     (accept : SecretRow → Judged) (repeat : Judged) → (IsDue repeat → ⊥)
     → IsDue (judged_by (update_placed value row moment) accept repeat) → CurrentKept row → RowVouched replies row
     → RowVouched replies (with_value value moment row)
-with_value_vouched replies row moment None accept repeat no due kept h = h
-with_value_vouched replies row moment (Some new) accept repeat no due kept h =
+with_value_vouched replies row moment None accept repeat never due kept h = h
+with_value_vouched replies row moment (Some new) accept repeat never due kept h =
     let labels : List (List ℕ) = aws_current ∷ [] in
     put_vouched replies row new.token new.value labels moment
     (due_added (put_answer row new.token new.value labels) (put_row row new.token new.value labels moment) new.token
-    accept repeat no due)
+    accept repeat never due)
     kept h
 
 update_on_vouched : (replies : Replies) (row : SecretRow) (moment : Moment) (call : UpdateCall)
@@ -233,8 +234,9 @@ request_vouched replies rows moment drawn (requests.UpdateSecretVersionStage upd
     (λ row. record { arn = refl; versions = refl; job = refl }) vouched
 request_vouched replies rows moment drawn (requests.BatchGetSecretValue r) sound due vouched =
     stay_vouched replies rows moment vouched
-request_vouched replies rows moment drawn (requests.DeleteResourcePolicy r) sound due vouched =
-    stay_vouched replies rows moment vouched
+request_vouched replies rows moment drawn (requests.DeleteResourcePolicy delete) sound due vouched =
+    others_vouched replies rows moment (secret_id delete.secret_id) (with_policy None)
+    (λ row. record { arn = refl; versions = refl; job = refl }) vouched
 request_vouched replies rows moment drawn (requests.DescribeSecret r) sound due vouched =
     stay_vouched replies rows moment vouched
 request_vouched replies rows moment drawn (requests.GetRandomPassword r) sound due vouched =
@@ -247,8 +249,9 @@ request_vouched replies rows moment drawn (requests.ListSecretVersionIds r) soun
     stay_vouched replies rows moment vouched
 request_vouched replies rows moment drawn (requests.ListSecrets r) sound due vouched =
     stay_vouched replies rows moment vouched
-request_vouched replies rows moment drawn (requests.PutResourcePolicy r) sound due vouched =
-    stay_vouched replies rows moment vouched
+request_vouched replies rows moment drawn (requests.PutResourcePolicy put) sound due vouched =
+    others_vouched replies rows moment (secret_id put.secret_id) (with_policy (Some put.resource_policy))
+    (λ row. record { arn = refl; versions = refl; job = refl }) vouched
 request_vouched replies rows moment drawn (requests.ValidateResourcePolicy r) sound due vouched =
     stay_vouched replies rows moment vouched
 
