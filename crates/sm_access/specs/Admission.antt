@@ -1,6 +1,6 @@
 -- Whether a person may make a request.
--- AWS Secrets Manager User Guide: "Resource-based policies"; IAM User Guide: "Policy evaluation logic" (an explicit deny
--- overrides an allow, and what is not allowed is denied). That a person who is full needs no allowance is this
+-- AWS Secrets Manager User Guide: "Resource-based policies"; IAM User Guide: "Policy evaluation logic" (an explicit
+-- deny overrides an allow, and what is not allowed is denied). That a person who is full needs no allowance is this
 -- server's own.
 use Rattle.std.specs.Prelude.{ℕ, if◌then◌else◌, List, Option, Some, None, Result, Ok, Err}
 use Rattle.sm_base.specs.declared.moment.Moment.{Moment}

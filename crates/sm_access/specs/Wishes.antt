@@ -59,7 +59,8 @@ validation_wish validate = option_map (wish_on (codes "secretsmanager:ValidateRe
 -- what a request asks, where it names a secret
 abbrev pub wish_of : Request → Option PlainWish
 wish_of (requests.BatchGetSecretValue batch) = None
-wish_of (requests.CancelRotateSecret cancel) = Some (wish_on (codes "secretsmanager:CancelRotateSecret") cancel.secret_id)
+wish_of (requests.CancelRotateSecret cancel) =
+    Some (wish_on (codes "secretsmanager:CancelRotateSecret") cancel.secret_id)
 wish_of (requests.CreateSecret create) = None
 wish_of (requests.DeleteResourcePolicy delete) =
     Some (wish_on (codes "secretsmanager:DeleteResourcePolicy") delete.secret_id)
@@ -68,7 +69,8 @@ wish_of (requests.DescribeSecret describe) = Some (wish_on (codes "secretsmanage
 wish_of (requests.GetRandomPassword get) = None
 wish_of (requests.GetResourcePolicy get) = Some (wish_on (codes "secretsmanager:GetResourcePolicy") get.secret_id)
 wish_of (requests.GetSecretValue get) = Some (get_wish get)
-wish_of (requests.ListSecretVersionIds list) = Some (wish_on (codes "secretsmanager:ListSecretVersionIds") list.secret_id)
+wish_of (requests.ListSecretVersionIds list) =
+    Some (wish_on (codes "secretsmanager:ListSecretVersionIds") list.secret_id)
 wish_of (requests.ListSecrets list) = None
 wish_of (requests.PutResourcePolicy put) = Some (wish_on (codes "secretsmanager:PutResourcePolicy") put.secret_id)
 wish_of (requests.PutSecretValue put) = Some (wish_on (codes "secretsmanager:PutSecretValue") put.secret_id)

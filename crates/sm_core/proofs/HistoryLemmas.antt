@@ -13,6 +13,7 @@ use Rattle.sm_judging.specs.declared.judged.Judged.{Judged}
 use Rattle.sm_judging.specs.declared.judged.Judged.TheVariants.{Accept, Refuse, Memory}
 use Rattle.sm_judging.specs.Changes.{settled, IsChange}
 use Rattle.sm_judging.specs.Judged.{IfChange}
+use Rattle.sm_lists.specs.BatchGetSecretValue.{no_question}
 use Rattle.sm_core.specs.Effects.{act_effect, effect}
 use Rattle.sm_core.specs.Histories.{replay, IsDue, LegalAct, Legal, InTime}
 use Rattle.sm_core.specs.Judging.{judgement}
@@ -31,7 +32,7 @@ act_keeps : (rows : Rows) (moment : Moment) (drawn : List ℕ) (act : Act) → S
     → LegalAct rows moment drawn act → Sound (settled (act_effect (sweep rows moment) moment drawn act))
 act_keeps rows moment drawn (Asked request) sound early legal =
     due_keeps rows _ moment (judgement rows moment drawn request) sound legal.2
-    (change_is_entry rows moment [] drawn request sound early legal.1 legal.0)
+    (change_is_entry no_question rows moment [] drawn request sound early legal.1 legal.0)
 act_keeps rows moment drawn (Begun arn) sound early legal = absurd legal
 act_keeps rows moment drawn (Reported arn at answer) sound early legal = absurd legal
 

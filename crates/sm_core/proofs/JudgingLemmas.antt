@@ -1,10 +1,14 @@
 -- Judging a request: when it is refused, when it changes nothing, and what its change is.
-use Rattle.std.proofs.Common.{◌≡◌, ℕ, ◌≤◌, Bool, false, ◌||◌, List, length, Option, Some, None, is_none, IsSome, IsTrue, refl, sym, subst, arith}
+use Rattle.std.proofs.Common.{◌≡◌, ℕ, ◌≤◌, false, ◌||◌, List, length, Option, Some, None, is_none, IsSome, IsTrue, Result, Ok, Err, IfOk, refl, sym, ◌∙◌, subst, arith}
 use Rattle.std.proofs.lemmas.Bool.Decides.{nat_tests}
 use Rattle.std.proofs.Math.Bool.{or-false}
+use Rattle.sm_base.specs.declared.memory.NoMemory.{NoMemory}
 use Rattle.sm_base.specs.declared.moment.Moment.{Moment}
 use Rattle.sm_base.specs.declared.moment.TheConstants.{LAST_READING}
 use Rattle.sm_base.specs.Outcomes.{OrMemory}
+use Rattle.sm_model.specs.declared.entry.Act.TheVariants.{Asked}
+use Rattle.sm_model.specs.declared.person.Person.{Person}
+use Rattle.sm_model.specs.declared.request.BatchGetSecretValue.{BatchGetSecretValue}
 use Rattle.sm_model.specs.declared.request.CreateSecret.{CreateSecret}
 use Rattle.sm_model.specs.declared.request.DeleteSecret.{DeleteSecret}
 use Rattle.sm_model.specs.declared.request.Request.{Request}
@@ -26,41 +30,47 @@ use Rattle.sm_values.proofs.GetSecretValueLemmas.{get_refuses, get_reads, get_ch
 use Rattle.sm_values.proofs.PutSecretValueLemmas.{put_refuses, put_repeats, put_change}
 use Rattle.sm_values.proofs.UpdateSecretLemmas.{update_refuses, update_repeats, update_change}
 use Rattle.sm_labels.proofs.UpdateSecretVersionStageLemmas.{move_refuses, move_changes, move_change}
+use Rattle.sm_lists.specs.BatchGetSecretValue.{value_question}
 use Rattle.sm_lists.proofs.BatchGetSecretValueLemmas.{batch_refuses, batch_reads}
 use Rattle.sm_lists.proofs.GetRandomPasswordLemmas.{password_refuses, password_reads}
 use Rattle.sm_lists.proofs.ListSecretVersionIdsLemmas.{versions_refuses, versions_reads, versions_change}
 use Rattle.sm_lists.proofs.ListSecretsLemmas.{list_refuses, list_reads}
+use Rattle.sm_policies.proofs.DeleteResourcePolicyLemmas.{delete_policy_refuses, delete_policy_changes, delete_policy_change}
+use Rattle.sm_policies.proofs.GetResourcePolicyLemmas.{get_policy_refuses, get_policy_reads, get_policy_change}
+use Rattle.sm_policies.proofs.PutResourcePolicyLemmas.{put_policy_refuses, put_policy_changes, put_policy_change}
+use Rattle.sm_policies.proofs.ValidateResourcePolicyLemmas.{validate_refuses, validate_reads, validate_change}
 use Rattle.sm_upkeep.specs.DeleteSecret.{delete_judgement, deletes_nobody}
 use Rattle.sm_upkeep.proofs.DeleteSecretLemmas.{delete_refuses, delete_changes, delete_change}
 use Rattle.sm_upkeep.proofs.RestoreSecretLemmas.{restore_refuses, restore_changes, restore_change}
 use Rattle.sm_upkeep.proofs.TagResourceLemmas.{tag_refuses, tag_changes, tag_change}
 use Rattle.sm_upkeep.proofs.UntagResourceLemmas.{untag_refuses, untag_changes, untag_change}
 use Rattle.sm_core.specs.Effects.{effect, entry_of}
-use Rattle.sm_core.specs.Judging.{judgement, refusal, IsUnchanged}
+use Rattle.sm_core.specs.Histories.{IsDue, LegalAct}
+use Rattle.sm_core.specs.Judging.{judgement_asking, judgement_for, judgement, is_batch, refusal, IsUnchanged}
 
 -- it is refused exactly by the first test that fails
-pub is_refused : (rows : Rows) (moment : Moment) (drawn : List ℕ) (request : Request)
-    → refusal_told (judgement rows moment drawn request) ≡ Some (refusal rows moment drawn request)
-is_refused rows moment drawn (requests.BatchGetSecretValue batch) = batch_refuses rows moment batch
-is_refused rows moment drawn (requests.CreateSecret create) = create_refuses rows moment drawn create
-is_refused rows moment drawn (requests.DeleteSecret delete) = delete_refuses rows moment delete
-is_refused rows moment drawn (requests.DescribeSecret describe) = describe_refuses rows moment describe
-is_refused rows moment drawn (requests.GetRandomPassword get) = password_refuses drawn get
-is_refused rows moment drawn (requests.GetSecretValue get) = get_refuses rows moment get
-is_refused rows moment drawn (requests.ListSecretVersionIds list) = versions_refuses rows moment list
-is_refused rows moment drawn (requests.ListSecrets list) = list_refuses rows moment list
-is_refused rows moment drawn (requests.PutSecretValue put) = put_refuses rows moment drawn put
-is_refused rows moment drawn (requests.RestoreSecret restore) = restore_refuses rows moment restore
-is_refused rows moment drawn (requests.TagResource tag) = tag_refuses rows moment tag
-is_refused rows moment drawn (requests.UntagResource untag) = untag_refuses rows moment untag
-is_refused rows moment drawn (requests.UpdateSecret update) = update_refuses rows moment drawn update
-is_refused rows moment drawn (requests.UpdateSecretVersionStage update) = move_refuses rows moment update
-is_refused rows moment drawn (requests.CancelRotateSecret r) = refl
-is_refused rows moment drawn (requests.DeleteResourcePolicy r) = refl
-is_refused rows moment drawn (requests.GetResourcePolicy r) = refl
-is_refused rows moment drawn (requests.PutResourcePolicy r) = refl
-is_refused rows moment drawn (requests.RotateSecret r) = refl
-is_refused rows moment drawn (requests.ValidateResourcePolicy r) = refl
+pub is_refused : (question : List ℕ → Option Why) (rows : Rows) (moment : Moment) (drawn : List ℕ) (request : Request)
+    → refusal_told (judgement_asking question rows moment drawn request) ≡ Some (refusal rows moment drawn request)
+is_refused question rows moment drawn (requests.BatchGetSecretValue batch) = batch_refuses question rows moment batch
+is_refused question rows moment drawn (requests.CreateSecret create) = create_refuses rows moment drawn create
+is_refused question rows moment drawn (requests.DeleteSecret delete) = delete_refuses rows moment delete
+is_refused question rows moment drawn (requests.DescribeSecret describe) = describe_refuses rows moment describe
+is_refused question rows moment drawn (requests.GetRandomPassword get) = password_refuses drawn get
+is_refused question rows moment drawn (requests.GetSecretValue get) = get_refuses rows moment get
+is_refused question rows moment drawn (requests.ListSecretVersionIds list) = versions_refuses rows moment list
+is_refused question rows moment drawn (requests.ListSecrets list) = list_refuses rows moment list
+is_refused question rows moment drawn (requests.PutSecretValue put) = put_refuses rows moment drawn put
+is_refused question rows moment drawn (requests.RestoreSecret restore) = restore_refuses rows moment restore
+is_refused question rows moment drawn (requests.TagResource tag) = tag_refuses rows moment tag
+is_refused question rows moment drawn (requests.UntagResource untag) = untag_refuses rows moment untag
+is_refused question rows moment drawn (requests.UpdateSecret update) = update_refuses rows moment drawn update
+is_refused question rows moment drawn (requests.UpdateSecretVersionStage update) = move_refuses rows moment update
+is_refused question rows moment drawn (requests.CancelRotateSecret r) = refl
+is_refused question rows moment drawn (requests.DeleteResourcePolicy delete) = delete_policy_refuses rows moment delete
+is_refused question rows moment drawn (requests.GetResourcePolicy get) = get_policy_refuses rows moment get
+is_refused question rows moment drawn (requests.PutResourcePolicy put) = put_policy_refuses rows moment put
+is_refused question rows moment drawn (requests.RotateSecret r) = refl
+is_refused question rows moment drawn (requests.ValidateResourcePolicy validate) = validate_refuses rows moment validate
 
 -- a deletion has no repeat
 deletes_unchanged : (rows : Rows) (moment : Moment) (delete : DeleteSecret)
@@ -71,28 +81,29 @@ deletes_unchanged rows moment delete =
     (sym (or-false (deletes_nobody rows moment delete))) (delete_changes rows moment delete)
 
 -- nothing is changed exactly by what only reads, by the forced deletion of a secret that is not there, and by a repeat
-pub is_unchanged : (rows : Rows) (moment : Moment) (drawn : List ℕ) (request : Request)
-    → IfAccepted (judgement rows moment drawn request) (IsUnchanged rows moment drawn request)
-is_unchanged rows moment drawn (requests.BatchGetSecretValue batch) = batch_reads rows moment batch
-is_unchanged rows moment drawn (requests.CreateSecret create) = create_repeats rows moment drawn create
-is_unchanged rows moment drawn (requests.DeleteSecret delete) = deletes_unchanged rows moment delete
-is_unchanged rows moment drawn (requests.DescribeSecret describe) = describe_reads rows moment describe
-is_unchanged rows moment drawn (requests.GetRandomPassword get) = password_reads drawn get
-is_unchanged rows moment drawn (requests.GetSecretValue get) = get_reads rows moment get
-is_unchanged rows moment drawn (requests.ListSecretVersionIds list) = versions_reads rows moment list
-is_unchanged rows moment drawn (requests.ListSecrets list) = list_reads rows moment list
-is_unchanged rows moment drawn (requests.PutSecretValue put) = put_repeats rows moment drawn put
-is_unchanged rows moment drawn (requests.RestoreSecret restore) = restore_changes rows moment restore
-is_unchanged rows moment drawn (requests.TagResource tag) = tag_changes rows moment tag
-is_unchanged rows moment drawn (requests.UntagResource untag) = untag_changes rows moment untag
-is_unchanged rows moment drawn (requests.UpdateSecret update) = update_repeats rows moment drawn update
-is_unchanged rows moment drawn (requests.UpdateSecretVersionStage update) = move_changes rows moment update
-is_unchanged rows moment drawn (requests.CancelRotateSecret r) = tt
-is_unchanged rows moment drawn (requests.DeleteResourcePolicy r) = tt
-is_unchanged rows moment drawn (requests.GetResourcePolicy r) = tt
-is_unchanged rows moment drawn (requests.PutResourcePolicy r) = tt
-is_unchanged rows moment drawn (requests.RotateSecret r) = tt
-is_unchanged rows moment drawn (requests.ValidateResourcePolicy r) = tt
+pub is_unchanged : (question : List ℕ → Option Why) (rows : Rows) (moment : Moment) (drawn : List ℕ) (request : Request)
+    → IfAccepted (judgement_asking question rows moment drawn request) (IsUnchanged rows moment drawn request)
+is_unchanged question rows moment drawn (requests.BatchGetSecretValue batch) = batch_reads question rows moment batch
+is_unchanged question rows moment drawn (requests.CreateSecret create) = create_repeats rows moment drawn create
+is_unchanged question rows moment drawn (requests.DeleteSecret delete) = deletes_unchanged rows moment delete
+is_unchanged question rows moment drawn (requests.DescribeSecret describe) = describe_reads rows moment describe
+is_unchanged question rows moment drawn (requests.GetRandomPassword get) = password_reads drawn get
+is_unchanged question rows moment drawn (requests.GetSecretValue get) = get_reads rows moment get
+is_unchanged question rows moment drawn (requests.ListSecretVersionIds list) = versions_reads rows moment list
+is_unchanged question rows moment drawn (requests.ListSecrets list) = list_reads rows moment list
+is_unchanged question rows moment drawn (requests.PutSecretValue put) = put_repeats rows moment drawn put
+is_unchanged question rows moment drawn (requests.RestoreSecret restore) = restore_changes rows moment restore
+is_unchanged question rows moment drawn (requests.TagResource tag) = tag_changes rows moment tag
+is_unchanged question rows moment drawn (requests.UntagResource untag) = untag_changes rows moment untag
+is_unchanged question rows moment drawn (requests.UpdateSecret update) = update_repeats rows moment drawn update
+is_unchanged question rows moment drawn (requests.UpdateSecretVersionStage update) = move_changes rows moment update
+is_unchanged question rows moment drawn (requests.CancelRotateSecret r) = tt
+is_unchanged question rows moment drawn (requests.DeleteResourcePolicy delete) =
+    delete_policy_changes rows moment delete
+is_unchanged question rows moment drawn (requests.GetResourcePolicy get) = get_policy_reads rows moment get
+is_unchanged question rows moment drawn (requests.PutResourcePolicy put) = put_policy_changes rows moment put
+is_unchanged question rows moment drawn (requests.RotateSecret r) = tt
+is_unchanged question rows moment drawn (requests.ValidateResourcePolicy validate) = validate_reads rows moment validate
 
 -- a moment that a clock can give is a date that a secret may keep
 is_kept_date : (moment : Moment) → moment.0 ≤ LAST_READING → IsTrue (is_date moment)
@@ -103,42 +114,47 @@ least : (create : CreateSecret) (n : ℕ) → n ≡ needed (requests.CreateSecre
 least create n e = omega (arith, e)
 
 -- the change of an accepted request is its entry's
-pub change_is_entry : (rows : Rows) (moment : Moment) (key drawn : List ℕ) (request : Request) → Sound rows
+pub change_is_entry : (question : List ℕ → Option Why) (rows : Rows) (moment : Moment) (key drawn : List ℕ)
+    (request : Request) → Sound rows
     → moment.0 ≤ LAST_READING
     → forms_of request ≡ None → length drawn ≡ needed request
-    → IfChange (judgement rows moment drawn request) (IsChange rows moment
+    → IfChange (judgement_asking question rows moment drawn request) (IsChange rows moment
     (effect rows (entry_of moment key drawn request)))
-change_is_entry rows moment key drawn (requests.BatchGetSecretValue batch) sound early forms room = tt
-change_is_entry rows moment key drawn (requests.CreateSecret create) sound early forms room =
+change_is_entry question rows moment key drawn (requests.BatchGetSecretValue batch) sound early forms room = tt
+change_is_entry question rows moment key drawn (requests.CreateSecret create) sound early forms room =
     create_change rows moment drawn create sound (is_kept_date moment early) forms (least create (length drawn) room)
-change_is_entry rows moment key drawn (requests.DeleteSecret delete) sound early forms room =
+change_is_entry question rows moment key drawn (requests.DeleteSecret delete) sound early forms room =
     delete_change rows moment delete sound early forms
-change_is_entry rows moment key drawn (requests.DescribeSecret describe) sound early forms room =
+change_is_entry question rows moment key drawn (requests.DescribeSecret describe) sound early forms room =
     describe_change rows moment describe _
-change_is_entry rows moment key drawn (requests.GetRandomPassword get) sound early forms room = tt
-change_is_entry rows moment key drawn (requests.GetSecretValue get) sound early forms room = get_change rows moment get
-    _
-change_is_entry rows moment key drawn (requests.ListSecretVersionIds list) sound early forms room =
+change_is_entry question rows moment key drawn (requests.GetRandomPassword get) sound early forms room = tt
+change_is_entry question rows moment key drawn (requests.GetSecretValue get) sound early forms room =
+    get_change rows moment get _
+change_is_entry question rows moment key drawn (requests.ListSecretVersionIds list) sound early forms room =
     versions_change rows moment list _
-change_is_entry rows moment key drawn (requests.ListSecrets list) sound early forms room = tt
-change_is_entry rows moment key drawn (requests.PutSecretValue put) sound early forms room =
+change_is_entry question rows moment key drawn (requests.ListSecrets list) sound early forms room = tt
+change_is_entry question rows moment key drawn (requests.PutSecretValue put) sound early forms room =
     put_change rows moment drawn put sound (is_kept_date moment early) forms
-change_is_entry rows moment key drawn (requests.RestoreSecret restore) sound early forms room =
+change_is_entry question rows moment key drawn (requests.RestoreSecret restore) sound early forms room =
     restore_change rows moment restore sound (is_kept_date moment early)
-change_is_entry rows moment key drawn (requests.TagResource tag) sound early forms room =
+change_is_entry question rows moment key drawn (requests.TagResource tag) sound early forms room =
     tag_change rows moment tag sound (is_kept_date moment early) forms
-change_is_entry rows moment key drawn (requests.UntagResource untag) sound early forms room =
+change_is_entry question rows moment key drawn (requests.UntagResource untag) sound early forms room =
     untag_change rows moment untag sound (is_kept_date moment early)
-change_is_entry rows moment key drawn (requests.UpdateSecret update) sound early forms room =
+change_is_entry question rows moment key drawn (requests.UpdateSecret update) sound early forms room =
     update_change rows moment drawn update sound (is_kept_date moment early) forms
-change_is_entry rows moment key drawn (requests.UpdateSecretVersionStage update) sound early forms room =
+change_is_entry question rows moment key drawn (requests.UpdateSecretVersionStage update) sound early forms room =
     move_change rows moment update sound (is_kept_date moment early)
-change_is_entry rows moment key drawn (requests.CancelRotateSecret r) sound early forms room = tt
-change_is_entry rows moment key drawn (requests.DeleteResourcePolicy r) sound early forms room = tt
-change_is_entry rows moment key drawn (requests.GetResourcePolicy r) sound early forms room = tt
-change_is_entry rows moment key drawn (requests.PutResourcePolicy r) sound early forms room = tt
-change_is_entry rows moment key drawn (requests.RotateSecret r) sound early forms room = tt
-change_is_entry rows moment key drawn (requests.ValidateResourcePolicy r) sound early forms room = tt
+change_is_entry question rows moment key drawn (requests.CancelRotateSecret r) sound early forms room = tt
+change_is_entry question rows moment key drawn (requests.DeleteResourcePolicy delete) sound early forms room =
+    delete_policy_change rows moment delete sound (is_kept_date moment early)
+change_is_entry question rows moment key drawn (requests.GetResourcePolicy get) sound early forms room =
+    get_policy_change rows moment get _
+change_is_entry question rows moment key drawn (requests.PutResourcePolicy put) sound early forms room =
+    put_policy_change rows moment put sound (is_kept_date moment early) forms
+change_is_entry question rows moment key drawn (requests.RotateSecret r) sound early forms room = tt
+change_is_entry question rows moment key drawn (requests.ValidateResourcePolicy validate) sound early forms room =
+    validate_change rows moment validate _
 
 -- no request is judged as want of memory
 no_memory : (judged : Judged) (refusal : Option Why) → refusal_told judged ≡ Some refusal → IsSome (judged_told judged)
@@ -146,31 +162,79 @@ no_memory (Accept reply change) refusal e = refl
 no_memory (Refuse why) refusal e = refl
 no_memory Memory refusal e = absurd (let f : None ≡ Some refusal = e in cc)
 
-pub judgement_is_no_memory : (rows : Rows) (moment : Moment) (drawn : List ℕ) (request : Request)
-    → IsSome (judged_told (judgement rows moment drawn request))
-judgement_is_no_memory rows moment drawn request =
-    no_memory (judgement rows moment drawn request) (refusal rows moment drawn request)
-    (is_refused rows moment drawn request)
+pub judgement_is_no_memory : (question : List ℕ → Option Why) (rows : Rows) (moment : Moment) (drawn : List ℕ)
+    (request : Request) → IsSome (judged_told (judgement_asking question rows moment drawn request))
+judgement_is_no_memory question rows moment drawn request =
+    no_memory (judgement_asking question rows moment drawn request) (refusal rows moment drawn request)
+    (is_refused question rows moment drawn request)
+
+-- ---- whatever is asked of the secrets of a batch
+
+-- an entry is due for the same requests
+due_alike : (question : List ℕ → Option Why) (rows : Rows) (moment : Moment) (drawn : List ℕ) (request : Request)
+    → IsDue (judgement_asking question rows moment drawn request) → IsDue (judgement rows moment drawn request)
+due_alike question rows moment drawn (requests.BatchGetSecretValue batch) due = absurd (cc)
+due_alike question rows moment drawn request due = due
+
+-- so one is due for a person's request only where it is due whoever asks
+pub due_for : (rows : Rows) (person : Person) (moment : Moment) (drawn : List ℕ) (request : Request)
+    → IsDue (judgement_for rows person moment drawn request) → IsDue (judgement rows moment drawn request)
+due_for rows person moment drawn request due =
+    due_alike (value_question rows person moment) rows moment drawn request due
+
+-- and any other request is judged alike
+alone_alike : (question : List ℕ → Option Why) (rows : Rows) (moment : Moment) (drawn : List ℕ) (request : Request)
+    → is_batch request ≡ false
+    → judgement rows moment drawn request ≡ judgement_asking question rows moment drawn request
+alone_alike question rows moment drawn (requests.BatchGetSecretValue batch) alone = absurd (cc)
+alone_alike question rows moment drawn request alone = refl
+
+pub is_alone : (request : Request)
+    → ((batch : BatchGetSecretValue) → request ≡ requests.BatchGetSecretValue batch → ⊥) → is_batch request ≡ false
+is_alone (requests.BatchGetSecretValue batch) other = absurd (other batch refl)
+is_alone request other = refl
+
+pub judged_alone : (result : Result Judged NoMemory) (question : List ℕ → Option Why) (rows : Rows) (moment : Moment)
+    (drawn : List ℕ) (request : Request) → is_batch request ≡ false
+    → IfOk result (λ judged. judged ≡ judgement rows moment drawn request)
+    → IfOk result (λ judged. judged ≡ judgement_asking question rows moment drawn request)
+judged_alone (Ok judged) question rows moment drawn request alone is =
+    is ∙ alone_alike question rows moment drawn request alone
+judged_alone (Err e) question rows moment drawn request alone is = tt
+
+-- ---- all of it
+
+-- there is a change only where an entry is due
+if_due : (judged : Judged) (L : Type 0) → (IsDue judged → L) → IfChange judged (λ _. L)
+if_due (Accept reply None) L f = tt
+if_due (Accept reply (Some change)) L f = f refl
+if_due (Refuse why) L f = tt
+if_due Memory L f = tt
 
 -- all that is said of a request that is judged so
-pub record IsJudged (rows : Rows) (moment : Moment) (key drawn : List ℕ) (request : Request)
-    (result : Judged) : Type 0 where
-  pub judged : OrMemory (judged_told result) (judgement rows moment drawn request)
+pub record IsJudged (question : List ℕ → Option Why) (rows : Rows) (moment : Moment) (key drawn : List ℕ)
+    (request : Request) (result : Judged) : Type 0 where
+  pub judged : OrMemory (judged_told result) (judgement_asking question rows moment drawn request)
   pub refused : OrMemory (refusal_told result) (refusal rows moment drawn request)
   pub unchanged : IfAccepted result (IsUnchanged rows moment drawn request)
+  pub legal : IfChange result (λ _. LegalAct rows moment drawn (Asked request))
   pub change : IfChange result (IsChange rows moment (effect rows (entry_of moment key drawn request)))
 
-pub judges : (rows : Rows) (moment : Moment) (key drawn : List ℕ) (request : Request) (judged : Judged) → Sound rows
-    → moment.0 ≤ LAST_READING → forms_of request ≡ None → length drawn ≡ needed request → judged
-    ≡ judgement rows moment drawn request
-    → IsJudged rows moment key drawn request judged
-judges rows moment key drawn request judged sound early forms room e = record {
-  judged = told_same judged (judgement rows moment drawn request) e;
-  refused = subst (λ j. OrMemory (refusal_told j) (refusal rows moment drawn request)) (sym e)
-      (told_refusal (judgement rows moment drawn request) (refusal rows moment drawn request)
-      (is_refused rows moment drawn request));
-  unchanged = subst (λ j. IfAccepted j (IsUnchanged rows moment drawn request)) (sym e)
-      (is_unchanged rows moment drawn request);
-  change = subst (λ j. IfChange j (IsChange rows moment (effect rows (entry_of moment key drawn request)))) (sym e)
-      (change_is_entry rows moment key drawn request sound early forms room);
-}
+pub judges : (question : List ℕ → Option Why) (rows : Rows) (moment : Moment) (key drawn : List ℕ) (request : Request)
+    (judged : Judged) → Sound rows → moment.0 ≤ LAST_READING → forms_of request ≡ None
+    → length drawn ≡ needed request → judged ≡ judgement_asking question rows moment drawn request
+    → IsJudged question rows moment key drawn request judged
+judges question rows moment key drawn request judged sound early forms room e =
+    let model = judgement_asking question rows moment drawn request in
+    record {
+      judged = told_same judged model e;
+      refused = subst (λ j. OrMemory (refusal_told j) (refusal rows moment drawn request)) (sym e)
+          (told_refusal model (refusal rows moment drawn request) (is_refused question rows moment drawn request));
+      unchanged = subst (λ j. IfAccepted j (IsUnchanged rows moment drawn request)) (sym e)
+          (is_unchanged question rows moment drawn request);
+      legal = subst (λ j. IfChange j (λ _. LegalAct rows moment drawn (Asked request))) (sym e)
+          (if_due model (LegalAct rows moment drawn (Asked request))
+          (λ due. (room, forms, due_alike question rows moment drawn request due)));
+      change = subst (λ j. IfChange j (IsChange rows moment (effect rows (entry_of moment key drawn request)))) (sym e)
+          (change_is_entry question rows moment key drawn request sound early forms room);
+    }

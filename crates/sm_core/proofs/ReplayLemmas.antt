@@ -8,6 +8,8 @@ use Rattle.sm_model.specs.declared.entry.Act.{Act}
 use Rattle.sm_model.specs.declared.entry.Act.TheVariants.{Asked, Begun, Reported}
 use Rattle.sm_model.specs.declared.entry.Change.{Change}
 use Rattle.sm_model.specs.declared.entry.Entry.{Entry}
+use Rattle.sm_model.specs.declared.request.Request.{Request}
+use Rattle.sm_model.specs.declared.request.Request.TheVariants as requests
 use Rattle.sm_model.specs.declared.rows.Rows.{Rows}
 use Rattle.sm_model.specs.declared.why.Why.{Why}
 use Rattle.sm_model.specs.Needed.{needed}
@@ -18,11 +20,12 @@ use Rattle.sm_judging.specs.declared.judged.Judged.{Judged}
 use Rattle.sm_judging.specs.declared.judged.Judged.TheVariants as judged
 use Rattle.sm_judging.specs.Changes.{settled, IsChange}
 use Rattle.sm_judging.specs.Judged.{IfChange}
+use Rattle.sm_lists.specs.BatchGetSecretValue.{no_question}
 use Rattle.sm_core.specs.declared.replaying.Replayed.{Replayed}
 use Rattle.sm_core.specs.declared.replaying.Replayed.TheVariants.{Accept, Refuse, Memory}
 use Rattle.sm_core.specs.Effects.{act_effect, effect}
 use Rattle.sm_core.specs.Histories.{IsDue, LegalAct}
-use Rattle.sm_core.specs.Judging.{judgement}
+use Rattle.sm_core.specs.Judging.{judgement, is_batch}
 use Rattle.sm_core.specs.Replaying.{again_told, IfReplayed, AsLegal, change_of, change_unless, replayed_act, replayed}
 use Rattle.sm_core.proofs.JudgingLemmas.{change_is_entry}
 
@@ -56,7 +59,7 @@ act_agrees rows moment drawn (Asked request) sound early =
     request_agrees (length drawn) (needed request) (nat_eq (length drawn) (needed request)) (forms_of request)
     (IsDue (judgement rows moment drawn request)) _ (change_of (judgement rows moment drawn request)) refl
     (λ room forms. judged_agrees (judgement rows moment drawn request) _
-    (change_is_entry rows moment [] drawn request sound early forms room))
+    (change_is_entry no_question rows moment [] drawn request sound early forms room))
 act_agrees rows moment drawn (Begun arn) sound early = λ legal. legal
 act_agrees rows moment drawn (Reported arn at answer) sound early = λ legal. legal
 
@@ -85,6 +88,12 @@ pub replays : (rows : Rows) (entry : Entry) (result : Replayed) → Sound rows �
     → OrMemory (again_told result) (replayed rows entry) → IsReplayed rows entry result
 replays rows entry result sound early e =
     by_change rows entry result (replayed rows entry) e (act_agrees rows entry.moment entry.drawn entry.act sound early)
+
+-- a batch makes no entry
+pub batch_unchanged : (rows : Rows) (moment : Moment) (drawn : List ℕ) (request : Request) → is_batch request ≡ true
+    → None ≡ change_of (judgement rows moment drawn request)
+batch_unchanged rows moment drawn (requests.BatchGetSecretValue batch) is = refl
+batch_unchanged rows moment drawn request is = absurd (cc)
 
 -- one part of what is asked of a change
 pub if_replayed_then : (result : Replayed) (P Q : Change → Type 0) → ((change : Change) → P change → Q change)

@@ -15,6 +15,8 @@ use Rattle.sm_values.specs.CreateSecret.{create_effect}
 use Rattle.sm_values.specs.PutSecretValue.{put_effect}
 use Rattle.sm_values.specs.UpdateSecret.{update_effect}
 use Rattle.sm_labels.specs.UpdateSecretVersionStage.{move_effect}
+use Rattle.sm_policies.specs.DeleteResourcePolicy.{delete_policy_effect}
+use Rattle.sm_policies.specs.PutResourcePolicy.{put_policy_effect}
 use Rattle.sm_upkeep.specs.DeleteSecret.{delete_effect}
 use Rattle.sm_upkeep.specs.RestoreSecret.{restore_effect}
 use Rattle.sm_upkeep.specs.TagResource.{tag_effect}
@@ -23,7 +25,9 @@ use Rattle.sm_upkeep.specs.UntagResource.{untag_effect}
 -- the rows after an accepted request, of those that are still there at its moment
 abbrev pub request_effect : Rows → Moment → List ℕ → Request → Rows
 request_effect rows moment drawn (requests.CreateSecret create) = create_effect rows moment drawn create
+request_effect rows moment drawn (requests.DeleteResourcePolicy delete) = delete_policy_effect rows moment delete
 request_effect rows moment drawn (requests.DeleteSecret delete) = delete_effect rows moment delete
+request_effect rows moment drawn (requests.PutResourcePolicy put) = put_policy_effect rows moment put
 request_effect rows moment drawn (requests.PutSecretValue put) = put_effect rows moment drawn put
 request_effect rows moment drawn (requests.RestoreSecret restore) = restore_effect rows moment restore
 request_effect rows moment drawn (requests.TagResource tag) = tag_effect rows moment tag
@@ -32,14 +36,12 @@ request_effect rows moment drawn (requests.UpdateSecret update) = update_effect 
 request_effect rows moment drawn (requests.UpdateSecretVersionStage update) = move_effect rows moment update
 request_effect rows moment drawn (requests.BatchGetSecretValue r) = rows
 request_effect rows moment drawn (requests.CancelRotateSecret r) = rows
-request_effect rows moment drawn (requests.DeleteResourcePolicy r) = rows
 request_effect rows moment drawn (requests.DescribeSecret r) = rows
 request_effect rows moment drawn (requests.GetRandomPassword r) = rows
 request_effect rows moment drawn (requests.GetResourcePolicy r) = rows
 request_effect rows moment drawn (requests.GetSecretValue r) = rows
 request_effect rows moment drawn (requests.ListSecretVersionIds r) = rows
 request_effect rows moment drawn (requests.ListSecrets r) = rows
-request_effect rows moment drawn (requests.PutResourcePolicy r) = rows
 request_effect rows moment drawn (requests.RotateSecret r) = rows
 request_effect rows moment drawn (requests.ValidateResourcePolicy r) = rows
 

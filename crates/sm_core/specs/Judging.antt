@@ -2,6 +2,7 @@
 use Rattle.std.specs.Prelude.{◌≡◌, ℕ, Bool, true, false, ◌||◌, List, Option, Some, is_none}
 use Rattle.sm_base.specs.declared.moment.Moment.{Moment}
 use Rattle.sm_model.specs.declared.entry.Change.{Change}
+use Rattle.sm_model.specs.declared.person.Person.{Person}
 use Rattle.sm_model.specs.declared.request.Request.{Request}
 use Rattle.sm_model.specs.declared.request.Request.TheVariants as requests
 use Rattle.sm_model.specs.declared.rows.Rows.{Rows}
@@ -15,60 +16,83 @@ use Rattle.sm_values.specs.GetSecretValue.{get_judgement, get_refusal}
 use Rattle.sm_values.specs.PutSecretValue.{put_judgement, put_refusal, put_repeat}
 use Rattle.sm_values.specs.UpdateSecret.{update_judgement, update_refusal, update_repeat}
 use Rattle.sm_labels.specs.UpdateSecretVersionStage.{move_judgement, move_refusal}
-use Rattle.sm_lists.specs.BatchGetSecretValue.{batch_judgement, batch_refusal}
+use Rattle.sm_lists.specs.BatchGetSecretValue.{value_question, no_question, batch_judgement, batch_refusal}
 use Rattle.sm_lists.specs.GetRandomPassword.{password_judgement, password_refusal}
 use Rattle.sm_lists.specs.ListSecretVersionIds.{versions_judgement, versions_refusal}
 use Rattle.sm_lists.specs.ListSecrets.{list_judgement, list_refusal}
+use Rattle.sm_policies.specs.DeleteResourcePolicy.{delete_policy_judgement, delete_policy_refusal}
+use Rattle.sm_policies.specs.GetResourcePolicy.{get_policy_judgement, get_policy_refusal}
+use Rattle.sm_policies.specs.PutResourcePolicy.{put_policy_judgement, put_policy_refusal}
+use Rattle.sm_policies.specs.ValidateResourcePolicy.{validate_judgement, validate_refusal}
 use Rattle.sm_upkeep.specs.DeleteSecret.{delete_judgement, delete_refusal, deletes_nobody}
 use Rattle.sm_upkeep.specs.RestoreSecret.{restore_judgement, restore_refusal}
 use Rattle.sm_upkeep.specs.TagResource.{tag_judgement, tag_refusal}
 use Rattle.sm_upkeep.specs.UntagResource.{untag_judgement, untag_refusal}
 
--- the first test after the forms that fails, or the reply and, where an entry is due, the change
+-- the first test after the forms that fails, or the reply and, where an entry is due, the change; of each secret of a
+-- batch a question is asked
+abbrev pub judgement_asking : (List ℕ → Option Why) → Rows → Moment → List ℕ → Request → Judged
+judgement_asking question rows moment drawn (requests.BatchGetSecretValue batch) =
+    batch_judgement question rows moment batch
+judgement_asking question rows moment drawn (requests.CancelRotateSecret r) = Refuse NotBuilt
+judgement_asking question rows moment drawn (requests.CreateSecret create) = create_judgement rows moment drawn create
+judgement_asking question rows moment drawn (requests.DeleteResourcePolicy delete) =
+    delete_policy_judgement rows moment delete
+judgement_asking question rows moment drawn (requests.DeleteSecret delete) = delete_judgement rows moment delete
+judgement_asking question rows moment drawn (requests.DescribeSecret describe) = describe_judgement rows moment describe
+judgement_asking question rows moment drawn (requests.GetRandomPassword get) = password_judgement drawn get
+judgement_asking question rows moment drawn (requests.GetResourcePolicy get) = get_policy_judgement rows moment get
+judgement_asking question rows moment drawn (requests.GetSecretValue get) = get_judgement rows moment get
+judgement_asking question rows moment drawn (requests.ListSecretVersionIds list) = versions_judgement rows moment list
+judgement_asking question rows moment drawn (requests.ListSecrets list) = list_judgement rows moment list
+judgement_asking question rows moment drawn (requests.PutResourcePolicy put) = put_policy_judgement rows moment put
+judgement_asking question rows moment drawn (requests.PutSecretValue put) = put_judgement rows moment drawn put
+judgement_asking question rows moment drawn (requests.RestoreSecret restore) = restore_judgement rows moment restore
+judgement_asking question rows moment drawn (requests.RotateSecret r) = Refuse NotBuilt
+judgement_asking question rows moment drawn (requests.TagResource tag) = tag_judgement rows moment tag
+judgement_asking question rows moment drawn (requests.UntagResource untag) = untag_judgement rows moment untag
+judgement_asking question rows moment drawn (requests.UpdateSecret update) = update_judgement rows moment drawn update
+judgement_asking question rows moment drawn (requests.UpdateSecretVersionStage update) =
+    move_judgement rows moment update
+judgement_asking question rows moment drawn (requests.ValidateResourcePolicy validate) =
+    validate_judgement rows moment validate
+
+-- a person's request: of each secret of a batch it is asked whether the person may have its value
+abbrev pub judgement_for : Rows → Person → Moment → List ℕ → Request → Judged
+judgement_for rows person moment drawn request =
+    judgement_asking (value_question rows person moment) rows moment drawn request
+
+-- an entry, which is none of a batch: nobody asks
 abbrev pub judgement : Rows → Moment → List ℕ → Request → Judged
-judgement rows moment drawn (requests.BatchGetSecretValue batch) = batch_judgement rows moment batch
-judgement rows moment drawn (requests.CreateSecret create) = create_judgement rows moment drawn create
-judgement rows moment drawn (requests.DeleteSecret delete) = delete_judgement rows moment delete
-judgement rows moment drawn (requests.DescribeSecret describe) = describe_judgement rows moment describe
-judgement rows moment drawn (requests.GetRandomPassword get) = password_judgement drawn get
-judgement rows moment drawn (requests.GetSecretValue get) = get_judgement rows moment get
-judgement rows moment drawn (requests.ListSecretVersionIds list) = versions_judgement rows moment list
-judgement rows moment drawn (requests.ListSecrets list) = list_judgement rows moment list
-judgement rows moment drawn (requests.PutSecretValue put) = put_judgement rows moment drawn put
-judgement rows moment drawn (requests.RestoreSecret restore) = restore_judgement rows moment restore
-judgement rows moment drawn (requests.TagResource tag) = tag_judgement rows moment tag
-judgement rows moment drawn (requests.UntagResource untag) = untag_judgement rows moment untag
-judgement rows moment drawn (requests.UpdateSecret update) = update_judgement rows moment drawn update
-judgement rows moment drawn (requests.UpdateSecretVersionStage update) = move_judgement rows moment update
-judgement rows moment drawn (requests.CancelRotateSecret r) = Refuse NotBuilt
-judgement rows moment drawn (requests.DeleteResourcePolicy r) = Refuse NotBuilt
-judgement rows moment drawn (requests.GetResourcePolicy r) = Refuse NotBuilt
-judgement rows moment drawn (requests.PutResourcePolicy r) = Refuse NotBuilt
-judgement rows moment drawn (requests.RotateSecret r) = Refuse NotBuilt
-judgement rows moment drawn (requests.ValidateResourcePolicy r) = Refuse NotBuilt
+judgement rows moment drawn request = judgement_asking no_question rows moment drawn request
+
+-- a request that asks for several values
+abbrev pub is_batch : Request → Bool
+is_batch (requests.BatchGetSecretValue batch) = true
+is_batch _ = false
 
 -- the first test after the forms that fails, by the rows alone
 abbrev pub refusal : Rows → Moment → List ℕ → Request → Option Why
 refusal rows moment drawn (requests.BatchGetSecretValue batch) = batch_refusal rows moment batch
+refusal rows moment drawn (requests.CancelRotateSecret r) = Some NotBuilt
 refusal rows moment drawn (requests.CreateSecret create) = create_refusal rows moment drawn create
+refusal rows moment drawn (requests.DeleteResourcePolicy delete) = delete_policy_refusal rows moment delete
 refusal rows moment drawn (requests.DeleteSecret delete) = delete_refusal rows moment delete
 refusal rows moment drawn (requests.DescribeSecret describe) = describe_refusal rows moment describe
 refusal rows moment drawn (requests.GetRandomPassword get) = password_refusal get
+refusal rows moment drawn (requests.GetResourcePolicy get) = get_policy_refusal rows moment get
 refusal rows moment drawn (requests.GetSecretValue get) = get_refusal rows moment get
 refusal rows moment drawn (requests.ListSecretVersionIds list) = versions_refusal rows moment list
 refusal rows moment drawn (requests.ListSecrets list) = list_refusal rows moment list
+refusal rows moment drawn (requests.PutResourcePolicy put) = put_policy_refusal rows moment put
 refusal rows moment drawn (requests.PutSecretValue put) = put_refusal rows moment drawn put
 refusal rows moment drawn (requests.RestoreSecret restore) = restore_refusal rows moment restore
+refusal rows moment drawn (requests.RotateSecret r) = Some NotBuilt
 refusal rows moment drawn (requests.TagResource tag) = tag_refusal rows moment tag
 refusal rows moment drawn (requests.UntagResource untag) = untag_refusal rows moment untag
 refusal rows moment drawn (requests.UpdateSecret update) = update_refusal rows moment drawn update
 refusal rows moment drawn (requests.UpdateSecretVersionStage update) = move_refusal rows moment update
-refusal rows moment drawn (requests.CancelRotateSecret r) = Some NotBuilt
-refusal rows moment drawn (requests.DeleteResourcePolicy r) = Some NotBuilt
-refusal rows moment drawn (requests.GetResourcePolicy r) = Some NotBuilt
-refusal rows moment drawn (requests.PutResourcePolicy r) = Some NotBuilt
-refusal rows moment drawn (requests.RotateSecret r) = Some NotBuilt
-refusal rows moment drawn (requests.ValidateResourcePolicy r) = Some NotBuilt
+refusal rows moment drawn (requests.ValidateResourcePolicy validate) = validate_refusal rows moment validate
 
 -- what was carried out before, with the same token
 abbrev pub repeat : Rows → Moment → List ℕ → Request → Bool

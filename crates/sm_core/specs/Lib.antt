@@ -1,4 +1,3 @@
-pub mod Admission
 pub mod Judging
 pub mod Effects
 pub mod Histories

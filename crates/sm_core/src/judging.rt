@@ -1,12 +1,14 @@
 //! Judging a request on the secrets of an account.
-ghost use Rattle.std.specs.Prelude.{◌≡◌, ◌≤◌, IfOk, IsSome, None, length};
+ghost use Rattle.std.specs.Prelude.{◌≡◌, ◌≤◌, false, IfOk, IsSome, None, length};
 ghost use Rattle.sm_base.specs.Outcomes.{OrMemory};
 ghost use Rattle.sm_base.specs.declared.moment.TheConstants.{LAST_READING};
 ghost use Rattle.sm_core.specs.Effects.{entry_of, Makes};
-ghost use Rattle.sm_core.specs.Judging.{judgement, refusal, IsUnchanged};
+ghost use Rattle.sm_core.specs.Histories.{LegalAct};
+ghost use Rattle.sm_core.specs.Judging.{judgement_for, judgement, is_batch, refusal, IsUnchanged};
 ghost use Rattle.sm_forms.specs.Forms.{forms_of};
 ghost use Rattle.sm_judging.specs.Judged.{judged_told, refusal_told, IfAccepted, IfChange};
 ghost use Rattle.sm_model.specs.Needed.{needed};
+ghost use Rattle.sm_model.specs.declared.entry.Act.TheVariants.{Asked};
 ghost use Rattle.sm_table.specs.Changes.{CanMake, StandsAt};
 ghost use Rattle.sm_table.specs.Sound.{ChangeSound, Sound};
 ghost use Rattle.sm_table.specs.Sweep.{sweep};
@@ -18,6 +20,10 @@ use sm_lists::get_random_password::judge_password;
 use sm_lists::list_secret_version_ids::judge_versions;
 use sm_lists::list_secrets::judge_list;
 use sm_model::{Moment, NoMemory, Person, Request, Why};
+use sm_policies::delete_resource_policy::judge_delete_policy;
+use sm_policies::get_resource_policy::judge_get_policy;
+use sm_policies::put_resource_policy::judge_put_policy;
+use sm_policies::validate_resource_policy::judge_validate;
 use sm_table::Table;
 use sm_upkeep::delete_secret::judge_delete;
 use sm_upkeep::restore_secret::judge_restore;
@@ -45,31 +51,35 @@ pub fn judge(
     requires drawn { length drawn.now ≡ needed request.now }
 
     // The judgement is never want of memory, so that only this call can answer it.
-    ensures judged { OrMemory (judged_told result) (judgement table.now moment drawn.now request.now) }
-    ensures judgement_is_no_memory { IsSome (judged_told (judgement table.now moment drawn.now request.now)) }
+    ensures judged { OrMemory (judged_told result)
+        (judgement_for table.now person.now moment drawn.now request.now) }
+    ensures judgement_is_no_memory { IsSome
+        (judged_told (judgement_for table.now person.now moment drawn.now request.now)) }
 
     // It is refused exactly by the first test that fails, and nothing is changed exactly by what only reads, by the
     // forced deletion of a secret that is not there, and by a repeat.
     ensures refused { OrMemory (refusal_told result) (refusal table.now moment drawn.now request.now) }
     ensures unchanged { IfAccepted result (IsUnchanged table.now moment drawn.now request.now) }
 
-    // A change makes the rows of the entry, meets what the table asks of a change, and leaves the rows sound.
+    // A change makes the rows of the entry, which is legal, meets what the table asks of a change, and leaves the rows
+    // sound.
+    ensures legal { IfChange result (λ _. LegalAct table.now moment drawn.now (Asked request.now)) }
     ensures makes { IfChange result (Makes table.now (entry_of moment person.now.key drawn.now request.now)) }
     ensures can { IfChange result (CanMake table.now) }
     ensures stands { IfChange result (StandsAt table.now moment) }
     ensures change_sound { IfChange result (ChangeSound (sweep table.now moment)) }
 {
-    let _person = person;
-    match judge_exactly(alloc, table, moment, drawn, request) {
+    match judge_exactly(alloc, table, person, moment, drawn, request) {
         Ok(judged) => judged,
         Err(NoMemory) => Judged::Memory,
     }
 }
 
-/// Judges a request, also on rows of which nothing is known.
+/// Judges a request of a person, also on rows of which nothing is known.
 pub fn judge_exactly(
     alloc: Global,
     table: &Table,
+    person: &Person,
     moment: Moment,
     drawn: &[u8],
     request: &Request,
@@ -77,28 +87,60 @@ pub fn judge_exactly(
     requires moment { moment.0 ≤ LAST_READING }
     requires forms { forms_of request.now ≡ None }
     requires drawn { length drawn.now ≡ needed request.now }
+    ensures { IfOk result
+        (λ judged. judged ≡ judgement_for table.now person.now moment drawn.now request.now) }
+{
+    match request {
+        Request::BatchGetSecretValue(batch) => judge_batch(alloc, table, person, moment, batch),
+        _ => judge_alone(alloc, table, moment, drawn, request),
+    }
+}
+
+/// Whether a request asks for several values.
+pub(crate) fn is_batch(request: &Request) -> bool
+    ensures { result ≡ is_batch request.now }
+{
+    match request {
+        Request::BatchGetSecretValue(_) => true,
+        _ => false,
+    }
+}
+
+/// Judges a request that is no batch, whoever asks.
+pub(crate) fn judge_alone(
+    alloc: Global,
+    table: &Table,
+    moment: Moment,
+    drawn: &[u8],
+    request: &Request,
+) -> Result<Judged, NoMemory>
+    requires alone { is_batch request.now ≡ false }
+    requires moment { moment.0 ≤ LAST_READING }
+    requires forms { forms_of request.now ≡ None }
+    requires drawn { length drawn.now ≡ needed request.now }
     ensures { IfOk result (λ judged. judged ≡ judgement table.now moment drawn.now request.now) }
 {
     match request {
-        Request::BatchGetSecretValue(batch) => judge_batch(alloc, table, moment, batch),
+        Request::BatchGetSecretValue(_) => unreachable!(),
         Request::CreateSecret(create) => judge_create(alloc, table, moment, drawn, create),
+        Request::DeleteResourcePolicy(delete) => judge_delete_policy(alloc, table, moment, delete),
         Request::DeleteSecret(delete) => judge_delete(alloc, table, moment, delete),
         Request::DescribeSecret(describe) => judge_describe(alloc, table, moment, describe),
         Request::GetRandomPassword(get) => judge_password(alloc, drawn, get),
+        Request::GetResourcePolicy(get) => judge_get_policy(alloc, table, moment, get),
         Request::GetSecretValue(get) => judge_get(alloc, table, moment, get),
         Request::ListSecretVersionIds(list) => judge_versions(alloc, table, moment, list),
         Request::ListSecrets(list) => judge_list(alloc, table, moment, list),
+        Request::PutResourcePolicy(put) => judge_put_policy(alloc, table, moment, put),
         Request::PutSecretValue(put) => judge_put(alloc, table, moment, drawn, put),
         Request::RestoreSecret(restore) => judge_restore(alloc, table, moment, restore),
         Request::TagResource(tag) => judge_tag(alloc, table, moment, tag),
         Request::UntagResource(untag) => judge_untag(alloc, table, moment, untag),
         Request::UpdateSecret(update) => judge_update(alloc, table, moment, drawn, update),
         Request::UpdateSecretVersionStage(update) => judge_move(alloc, table, moment, update),
-        Request::CancelRotateSecret(_)
-        | Request::DeleteResourcePolicy(_)
-        | Request::GetResourcePolicy(_)
-        | Request::PutResourcePolicy(_)
-        | Request::RotateSecret(_)
-        | Request::ValidateResourcePolicy(_) => Ok(Judged::Refuse(Why::NotBuilt)),
+        Request::ValidateResourcePolicy(validate) => judge_validate(alloc, table, moment, validate),
+        Request::CancelRotateSecret(_) | Request::RotateSecret(_) => {
+            Ok(Judged::Refuse(Why::NotBuilt))
+        }
     }
 }

@@ -3,13 +3,12 @@
 //! its own files below.
 #![tactic(auto)]
 
-pub mod admission;
 pub mod histories;
 pub mod judging;
 pub mod replaying;
 
-pub use admission::{Admitted, admit};
 pub use judging::judge;
 pub use replaying::{Replayed, again};
+pub use sm_access::{Admitted, admit};
 pub use sm_forms::forms;
 pub use sm_judging::Judged;

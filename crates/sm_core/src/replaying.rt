@@ -1,15 +1,18 @@
 //! Judging an entry of a history again.
-ghost use Rattle.std.specs.Prelude.{◌≡◌, ◌≤◌};
+ghost use Rattle.std.specs.Prelude.{◌≡◌, ◌≤◌, None, length};
 ghost use Rattle.sm_base.specs.Outcomes.{OrMemory};
 ghost use Rattle.sm_base.specs.declared.moment.TheConstants.{LAST_READING};
 ghost use Rattle.sm_core.specs.Effects.{Makes};
 ghost use Rattle.sm_core.specs.Histories.{LegalAct};
+ghost use Rattle.sm_core.specs.Judging.{judgement};
 ghost use Rattle.sm_core.specs.Replaying.{again_told, IfReplayed, AsLegal, change_of, replayed_request, replayed};
+ghost use Rattle.sm_forms.specs.Forms.{forms_of};
+ghost use Rattle.sm_model.specs.Needed.{needed};
 ghost use Rattle.sm_table.specs.Changes.{CanMake, StandsAt};
 ghost use Rattle.sm_table.specs.Sound.{ChangeSound, Sound};
 ghost use Rattle.sm_table.specs.Sweep.{sweep};
 
-use crate::judging::judge_exactly;
+use crate::judging::{is_batch, judge_alone};
 use sm_forms::forms;
 use sm_judging::Judged;
 use sm_model::{Act, Change, Entry, Moment, NoMemory, Request, Why, need};
@@ -58,6 +61,7 @@ pub fn replay_entry(alloc: Global, table: &Table, entry: &Entry) -> Replayed
 }
 
 /// Judges an entry of a request again.
+#[tactic(auto, using(sm_forms::proofs::PolicyLemmas::none_formed))]
 fn replay_request(
     alloc: Global,
     table: &Table,
@@ -74,10 +78,30 @@ fn replay_request(
     match forms(alloc, request) {
         Some(Why::Memory) => Replayed::Memory,
         Some(_) => Replayed::Refuse,
-        None => match judge_exactly(alloc, table, moment, drawn, request) {
-            Ok(judged) => replay_judged(judged),
-            Err(NoMemory) => Replayed::Memory,
-        },
+        None => replay_formed(alloc, table, moment, drawn, request),
+    }
+}
+
+/// Judges an entry of a request again whose forms pass. A batch makes no entry.
+#[tactic(auto, using(crate::proofs::ReplayLemmas::batch_unchanged))]
+fn replay_formed(
+    alloc: Global,
+    table: &Table,
+    moment: Moment,
+    drawn: &[u8],
+    request: &Request,
+) -> Replayed
+    requires moment { moment.0 ≤ LAST_READING }
+    requires forms { forms_of request.now ≡ None }
+    requires drawn { length drawn.now ≡ needed request.now }
+    ensures { OrMemory (again_told result) (change_of (judgement table.now moment drawn.now request.now)) }
+{
+    if is_batch(request) {
+        return Replayed::Refuse;
+    }
+    match judge_alone(alloc, table, moment, drawn, request) {
+        Ok(judged) => replay_judged(judged),
+        Err(NoMemory) => Replayed::Memory,
     }
 }
 

@@ -1,5 +1,5 @@
--- The form of a policy's text, and its first fault: AWS Secrets Manager API Reference, PutResourcePolicy (ResourcePolicy,
--- MalformedPolicyDocumentException).
+-- The form of a policy's text, and its first fault: AWS Secrets Manager API Reference, PutResourcePolicy
+-- (ResourcePolicy, MalformedPolicyDocumentException).
 use Rattle.std.specs.Prelude.{◌≡◌, ◌⊎◌, ℕ, List, Option, Some, None, Result, Ok, Err, codes}
 use Rattle.sm_model.specs.declared.why.Why.{Why}
 use Rattle.sm_model.specs.declared.why.Why.TheVariants.{Malformed, Memory}

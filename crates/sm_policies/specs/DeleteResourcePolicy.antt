@@ -1,4 +1,5 @@
--- DeleteResourcePolicy: its tests on the rows, its reply, what it changes. It is accepted also where there is no policy.
+-- DeleteResourcePolicy: its tests on the rows, its reply, what it changes. It is accepted also where there is no
+-- policy.
 -- AWS Secrets Manager API Reference, DeleteResourcePolicy.
 use Rattle.std.specs.Prelude.{Option, Some, None}
 use Rattle.sm_base.specs.declared.moment.Moment.{Moment}

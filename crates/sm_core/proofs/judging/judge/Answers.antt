@@ -2,6 +2,7 @@ use Rattle.sm_table.specs.Changes.{CanMake, StandsAt}
 use Rattle.sm_table.specs.Sound.{ChangeSound}
 use Rattle.sm_table.specs.Sweep.{sweep}
 use Rattle.sm_judging.proofs.JudgedLemmas.{if_change_then}
+use Rattle.sm_lists.specs.BatchGetSecretValue.{value_question}
 use Rattle.sm_core.specs.Effects.{entry_of, Makes}
 use Rattle.sm_core.proofs.JudgingLemmas.{judges, judgement_is_no_memory}
 use Rattle.sm_core.proofs.judging.judge.Goals as goal
@@ -14,13 +15,15 @@ returns-in-Ok c =
     let drawn = c.args.drawn.now in
     let request = c.args.request.now in
     let judged = c.in-Ok.judged in
-    let is = judges rows moment key drawn request judged c.requires.sound c.requires.moment c.requires.forms
+    let question = value_question rows c.args.person.now moment in
+    let is = judges question rows moment key drawn request judged c.requires.sound c.requires.moment c.requires.forms
     c.requires.drawn c.in-Ok.ensures in
     record {
       judged = is.judged;
-      judgement_is_no_memory = judgement_is_no_memory rows moment drawn request;
+      judgement_is_no_memory = judgement_is_no_memory question rows moment drawn request;
       refused = is.refused;
       unchanged = is.unchanged;
+      legal = is.legal;
       makes = if_change_then judged _ (Makes rows (entry_of moment key drawn request)) (λ change h. h.makes) is.change;
       can = if_change_then judged _ (CanMake rows) (λ change h. h.can) is.change;
       stands = if_change_then judged _ (StandsAt rows moment) (λ change h. h.stands) is.change;
@@ -30,9 +33,11 @@ returns-in-Ok c =
 pub returns-in-Err : goal.returns-in-Err
 returns-in-Err c = record {
   judged = tt;
-  judgement_is_no_memory = judgement_is_no_memory c.args.table.now c.args.moment c.args.drawn.now c.args.request.now;
+  judgement_is_no_memory = judgement_is_no_memory (value_question c.args.table.now c.args.person.now c.args.moment)
+      c.args.table.now c.args.moment c.args.drawn.now c.args.request.now;
   refused = tt;
   unchanged = tt;
+  legal = tt;
   makes = tt;
   can = tt;
   stands = tt;

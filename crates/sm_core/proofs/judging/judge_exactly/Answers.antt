@@ -1,0 +1,10 @@
+use Rattle.sm_lists.specs.BatchGetSecretValue.{value_question}
+use Rattle.sm_core.proofs.JudgingLemmas.{is_alone, judged_alone}
+use Rattle.sm_core.proofs.judging.judge_exactly.Goals as goal
+
+pub returns-in_default : goal.returns-in_default
+returns-in_default c =
+    let rows = c.args.table.now in
+    let request = c.args.request.now in
+    judged_alone c.judge_alone.result (value_question rows c.args.person.now c.args.moment) rows c.args.moment
+    c.args.drawn.now request (is_alone request c.in_default.not-BatchGetSecretValue) c.judge_alone.ensures
