@@ -9,14 +9,16 @@ use Rattle.sm_model.specs.declared.rows.Job.{Job}
 use Rattle.sm_model.specs.declared.rows.Rows.{Rows}
 use Rattle.sm_model.specs.declared.rows.SecretRow.{SecretRow}
 use Rattle.sm_claims.specs.Ready.{first_ready}
-use Rattle.sm_claims.specs.Works.{IsWorkOf, IsWorkOfJob}
+use Rattle.sm_claims.specs.Works.{AreWorkOf, IsWorkOf, IsWorkOfJob}
 use Rattle.sm_rotation.specs.Step.{at_of}
 use Rattle.sm_rotator.specs.declared.work.Work.{Work}
 use Rattle.sm_store.specs.Stores as stores
 use Rattle.sm_account.specs.declared.books.Books.{Books}
+use Rattle.sm_account.specs.declared.next_work.NextWork.TheVariants as works
 use Rattle.sm_account.specs.Books.{FaultsBound, IsLegal, MayFollowIf, Kept, all_entries, base_in, disk_in, history_in}
 use Rattle.sm_account.specs.Claims.{ClaimsReady, ClaimsReadyStep, IsAtStep}
 use Rattle.sm_account.specs.History.{entries_in, faults_in}
+use Rattle.sm_account.specs.NextWork.{NextAs}
 use Rattle.sm_account.specs.States.{State, state_at}
 use Rattle.sm_account.proofs.ClaimLaws.{claims_more}
 use Rattle.sm_account.proofs.StateLaws.{entries_more, faults_more, state_claimed}
@@ -31,6 +33,29 @@ of_ready : (ready : Option SecretRow) (work : Work) → IsSomeAnd ready (λ row.
     → IsSomeAnd ready (IsAtStep work.arn work.at)
 of_ready None work is = absurd is
 of_ready (Some row) work is = at_step row work row.job (λ i. row.job) is
+
+-- there is a work exactly where a step is ready
+pub work_is : (found : Option SecretRow) (ready : Option Work) (work : Work) → ready ≡ Some work
+    → AreWorkOf found ready
+    → IsSomeAnd found (λ row. IsWorkOf row work)
+work_is found ready work some are = of found (subst (AreWorkOf found) some are)
+  where
+    of : (found : Option SecretRow) → AreWorkOf found (Some work) → IsSomeAnd found (λ row. IsWorkOf row work)
+    of None are = absurd are
+    of (Some row) are = are
+
+pub next_is : (found : Option SecretRow) (work : Work) → IsSomeAnd found (λ row. IsWorkOf row work)
+    → NextAs (works.Work work) found
+next_is None work is = absurd is
+next_is (Some row) work is = is
+
+pub none_is : (found : Option SecretRow) (ready : Option Work) → ready ≡ None → AreWorkOf found ready
+    → NextAs works.None found
+none_is found ready none are = of found (subst (AreWorkOf found) none are)
+  where
+    of : (found : Option SecretRow) → AreWorkOf found None → NextAs works.None found
+    of None are = tt
+    of (Some row) are = absurd are
 
 module _ {D : Type 0} {G : Ghosts D} (old new : Books D G) (seat : ℕ) (work : Work) (moment : Moment)
     (rest : new ≡ record old { marks = new.marks })

@@ -1,10 +1,11 @@
 -- What calls leave of the books.
-use Rattle.std.proofs.Common.{◌≡◌, ℕ, ◌≤◌, [], ◌∷◌, ◌++◌, List, Option, Some, None, refl, sym, ap, ◌∙◌, subst, append-nil, arith}
+use Rattle.std.proofs.Common.{◌≡◌, ◌⊎◌, ℕ, ◌≤◌, [], ◌∷◌, ◌++◌, List, Option, Some, None, refl, sym, ap, ◌∙◌, subst, append-nil, arith}
+use Rattle.sm_base.specs.Faults.{Rose}
 use Rattle.sm_base.specs.declared.moment.Moment.{Moment}
 use Rattle.sm_disk.specs.declared.disk.Disk.{Ghosts}
 use Rattle.sm_model.specs.declared.entry.At.{At}
 use Rattle.sm_model.specs.declared.entry.Entry.{Entry as entries}
-use Rattle.sm_model.specs.declared.entry.Mark.TheVariants.{Claim}
+use Rattle.sm_model.specs.declared.entry.Mark.TheVariants.{Entry, Claim, Fault}
 use Rattle.sm_account.specs.declared.books.Books.{Books}
 use Rattle.sm_account.specs.Books.{SameOrigin, all_entries, disk_in, history_in, state_in}
 use Rattle.sm_account.specs.Crashes.{Throughout}
@@ -97,3 +98,32 @@ module _ {D : Type 0} {G : Ghosts D} (old mid new : Books D G) (seat : ℕ) (roo
         later = r.later;
         fault = r.fault;
       }
+
+-- an entry was made, or the disk failed at it
+module _ {D : Type 0} {G : Ghosts D} (old new : Books D G) (seat : ℕ) (entry : entries) (origin : SameOrigin old new)
+    (any_moment : Throughout G (all_entries old) old.failed.value entry (disk_in old) (disk_in new))
+    (later : G.faults (disk_in old) ≤ G.faults (disk_in new)) where
+  pub entry_made : history_in new ≡ history_in old ++ (seat, Entry entry) ∷ [] → new.failed.value ≡ None
+      → Leaves G old new seat (Made entry)
+  entry_made history sure = record {
+    history = history;
+    origin = origin;
+    stays = tt;
+    failed = sure;
+    any_moment = any_moment;
+    later = later;
+    fault = tt;
+  }
+
+  pub entry_failed : history_in new ≡ history_in old ++ (seat, Fault) ∷ [] → state_in new ≡ state_in old
+      → (new.failed.value ≡ old.failed.value) ⊎ (new.failed.value ≡ Some entry)
+      → Rose (G.faults (disk_in old)) (G.faults (disk_in new)) → Leaves G old new seat (Failed entry)
+  entry_failed history state failed rose = record {
+    history = history;
+    origin = origin;
+    stays = state;
+    failed = failed;
+    any_moment = any_moment;
+    later = later;
+    fault = rose;
+  }

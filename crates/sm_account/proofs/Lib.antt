@@ -3,6 +3,7 @@ pub mod ClaimLaws
 pub mod KeptLemmas
 pub mod MakeLemmas
 pub mod WriteLemmas
+pub mod MomentLemmas
 pub mod DeedLemmas
 pub mod HandleLemmas
 pub mod HandledLaws
@@ -16,3 +17,7 @@ pub mod ClaimedLemmas
 pub mod EffortLemmas
 pub mod AllowedLemmas
 pub mod SpellLaws
+pub mod AnswerLemmas
+pub mod TurnLemmas
+pub mod MayLemmas
+pub mod AccountLemmas

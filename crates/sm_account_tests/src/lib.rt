@@ -1,5 +1,5 @@
-//! Accounts on disks in memory: what an opening finds, what requests are answered, and each device call failing in
-//! turn.
+//! Accounts on disks in memory: what an opening finds, what requests are answered, rotations, and each device call
+//! failing in turn.
 #![tactic(auto)]
 
 #[cfg(test)]
@@ -10,3 +10,7 @@ mod faults;
 mod journals;
 #[cfg(test)]
 mod openings;
+#[cfg(test)]
+mod rotations;
+#[cfg(test)]
+mod scripts;

@@ -18,13 +18,22 @@ use Rattle.sm_pool.specs.declared.done.Trouble.{Trouble}
 use Rattle.sm_pool.specs.declared.done.Trouble.TheVariants as troubles
 use Rattle.sm_pool.specs.Holds.{Hold, FindsNothing, FindsWork, ReportsIn, StartsIn, is_due_in}
 
--- what a turn meets outside of the account, where it is told: the clock's readings, the random bytes, and how often the
--- random source and the rotator have failed
-pub record Outside : Type 0 where
-  pub readings : Option (List ℕ)
-  pub drawn : Option (List ℕ)
-  pub words : ℕ
-  pub rotator : ℕ
+-- what an object of the outside told before and after, where it tells something
+pub record Telling : Type 0 where
+  pub before : Option (List ℕ)
+  pub after : Option (List ℕ)
+
+-- how often an object of the outside had failed, before and after
+pub record Count : Type 0 where
+  pub before : ℕ
+  pub after : ℕ
+
+abbrev pub HasRisen : Count → Type 0
+HasRisen count = Rose count.before count.after
+
+-- it told this
+abbrev pub Tells : Telling → List ℕ → Type 0
+Tells telling told = telling.after ≡ append_known telling.before told
 
 abbrev pub readings_of : List Hold → List ℕ
 readings_of [] = []
@@ -64,12 +73,12 @@ WorkFailed Unasked P = ⊤
 WorkFailed (Asked answer hold reported) P = answer ≡ answers.Failed → P
 
 -- The course of a work: it ends so, the clock told these readings, and the rotator failed only where its count rose.
-pub record DoesWork (replies : Replies) (base : Base) (work : Work) (before after : Outside) (course : WorkCourse)
-    (done : Done) : Type 0 where
+pub record DoesWork (replies : Replies) (base : Base) (work : Work) (clock : Telling) (rotator : Count)
+    (course : WorkCourse) (done : Done) : Type 0 where
   pub is : IsWorkCourse replies base work course
   pub done_is : done ≡ work_ends work course
-  pub clock : after.readings ≡ append_known before.readings (readings_of (work_holds course))
-  pub failed : WorkFailed course (Rose before.rotator after.rotator)
+  pub readings : Tells clock (readings_of (work_holds course))
+  pub failed : WorkFailed course (HasRisen rotator)
 
 -- ---- a due rotation
 
@@ -121,12 +130,13 @@ StartFailed (Begins drawn hold started) P = ⊤
 
 -- The course of a start: it ends so, these readings and random bytes were told, and the random source failed only where
 -- its count rose.
-pub record StartsOne (base : Base) (before after : Outside) (course : StartCourse) (done : Done) : Type 0 where
+pub record StartsOne (base : Base) (clock words : Telling) (failures : Count) (course : StartCourse) (done : Done)
+    : Type 0 where
   pub is : IsStartCourse base course
   pub done_is : done ≡ start_ends course
-  pub clock : after.readings ≡ append_known before.readings (readings_of (start_holds course))
-  pub random : after.drawn ≡ append_known before.drawn (start_drawn course)
-  pub failed : StartFailed course (Rose before.words after.words)
+  pub readings : Tells clock (readings_of (start_holds course))
+  pub drawn : Tells words (start_drawn course)
+  pub failed : StartFailed course (HasRisen failures)
 
 -- ---- a turn
 
@@ -176,13 +186,21 @@ WordsFailed (Rests hold) P = ⊤
 WordsFailed (Starts hold course) P = StartFailed course P
 WordsFailed (Works hold work course) P = ⊤
 
+-- what passes between a turn and the outside: what the clock and the random source tell, and how often the random source
+-- and the rotator have failed
+pub record Passing : Type 0 where
+  pub clock : Telling
+  pub words : Telling
+  pub words_count : Count
+  pub rotator_count : Count
+
 -- The course of a turn: it ends so; these readings and random bytes were told, each once and in order; and the rotator
 -- and the random source failed only where their counts rose.
-pub record TakesTurn (replies : Replies) (base : Base) (before after : Outside) (course : Course) (done : Done)
+pub record TakesTurn (replies : Replies) (base : Base) (passing : Passing) (course : Course) (done : Done)
     : Type 0 where
   pub is : IsCourse replies base course
   pub done_is : done ≡ done_of course
-  pub clock : after.readings ≡ append_known before.readings (readings_of (holds_of course))
-  pub random : after.drawn ≡ append_known before.drawn (drawn_of course)
-  pub rotator : RotatorFailed course (Rose before.rotator after.rotator)
-  pub words : WordsFailed course (Rose before.words after.words)
+  pub readings : Tells passing.clock (readings_of (holds_of course))
+  pub drawn : Tells passing.words (drawn_of course)
+  pub rotator : RotatorFailed course (HasRisen passing.rotator_count)
+  pub words : WordsFailed course (HasRisen passing.words_count)

@@ -1,0 +1,135 @@
+-- What an account does for a rotation, at its history.
+use Rattle.std.proofs.Common.{◌≡◌, ℕ, Bool, true, false, cond, List, Option, Some, None, IfSome, IsSomeAnd, refl, sym, ap, ◌∙◌, subst}
+use Rattle.std.proofs.Math.Logic.{∥∥₁_map}
+use Rattle.std.specs.Prelude.{if◌then◌else◌}
+use Rattle.sm_base.specs.declared.moment.Moment.{Moment}
+use Rattle.sm_disk.specs.declared.disk.Disk.{Ghosts}
+use Rattle.sm_model.specs.Bounds.{is_small}
+use Rattle.sm_model.specs.declared.entry.Answer.{Answer}
+use Rattle.sm_model.specs.declared.entry.Answer.TheVariants as answers
+use Rattle.sm_model.specs.declared.entry.At.{At}
+use Rattle.sm_model.specs.declared.entry.Entry.{Entry}
+use Rattle.sm_model.specs.declared.rows.Job.{Job}
+use Rattle.sm_model.specs.declared.rows.Rows.{Rows}
+use Rattle.sm_model.specs.declared.rows.SecretRow.{SecretRow}
+use Rattle.sm_claims.specs.Fresh.{is_fresh, step_of}
+use Rattle.sm_claims.proofs.FreshLemmas.{fresh_accepts}
+use Rattle.sm_rotation.specs.Vouched.{AcceptsOnly, Replies}
+use Rattle.sm_rotator.specs.declared.work.Work.{Work}
+use Rattle.sm_table.specs.Found.{found_arn}
+use Rattle.sm_table.proofs.FoundLaws.{found_arn_is_exact}
+use Rattle.sm_account.specs.declared.books.Books.{Books}
+use Rattle.sm_account.specs.declared.entering.Passed.{Passed}
+use Rattle.sm_account.specs.declared.report.Reported.{Reported}
+use Rattle.sm_account.specs.declared.report.Reported.TheVariants as reports
+use Rattle.sm_account.specs.declared.start_due.StartedDue.{StartedDue}
+use Rattle.sm_account.specs.declared.start_due.StartedDue.TheVariants as starts
+use Rattle.sm_account.specs.Allowed.{DeedAllowed, EntriesAllowed, IsAllowedAt}
+use Rattle.sm_account.specs.Books.{Kept}
+use Rattle.sm_account.specs.Deeds.{Deed, Leaves}
+use Rattle.sm_account.specs.Efforts.{Effort, Undue, Over, Due, effort_within}
+use Rattle.sm_account.specs.Limits.{passed_at}
+use Rattle.sm_account.specs.Report.{entered_answer, report_of, reported_by, reported_entry}
+use Rattle.sm_account.specs.StartDue.{start_of, started_by}
+use Rattle.sm_account.specs.States.{State}
+use Rattle.sm_account.proofs.AllowedLemmas.{allowed_after}
+
+pub deed_kept : {D : Type 0} {G : Ghosts D} (replies : Replies) (old new : Books D G) (seat : ℕ) (deed : Deed)
+    → Kept G old → Leaves G old new seat deed → DeedAllowed replies old.table deed → ∥ EntriesAllowed replies old ∥₁
+    → ∥ EntriesAllowed replies new ∥₁
+deed_kept replies old new seat deed kept leaves is allowed =
+    ∥∥₁_map allowed (λ a. allowed_after replies old new seat kept a deed leaves is)
+
+module _ (replies : Replies) (rows : Rows) where
+  -- the entry that is due, if there is one, is allowed
+  abbrev IfDue : {A : Type 0} → Effort A → Type 0
+  IfDue (Undue none) = Unit {0}
+  IfDue (Over passed) = Unit {0}
+  IfDue (Due entry) = IsAllowedAt replies rows entry
+
+  within_due : {A : Type 0} (passed : Option Passed) (entry : Entry) → IsAllowedAt replies rows entry
+      → IfDue (effort_within {A = A} passed entry)
+  within_due None entry is = is
+  within_due (Some passed) entry is = tt
+
+  -- a start is always allowed
+  start_deed : (result : StartedDue) (wanted : Effort (Unit {0})) → IfDue wanted
+      → DeedAllowed replies rows (started_by result wanted)
+  start_deed (starts.Started arn) (Due entry) is = is
+  start_deed (starts.Started arn) (Undue none) is = tt
+  start_deed (starts.Started arn) (Over passed) is = tt
+  start_deed starts.None wanted is = tt
+  start_deed (starts.Limit limit) wanted is = tt
+  start_deed starts.DiskFault (Due entry) is = is
+  start_deed starts.DiskFault (Undue none) is = tt
+  start_deed starts.DiskFault (Over passed) is = tt
+  start_deed starts.Memory wanted is = tt
+
+  start_due_is : (state : State) (moment : Moment) (drawn : List ℕ) (found : Option SecretRow)
+      → IfDue (start_of state moment drawn found)
+  start_due_is state moment drawn None = tt
+  start_due_is state moment drawn (Some row) = within_due (passed_at state _) _ tt
+
+  pub start_allowed : (result : StartedDue) (state : State) (moment : Moment) (drawn : List ℕ)
+      (found : Option SecretRow) → DeedAllowed replies rows (started_by result (start_of state moment drawn found))
+  start_allowed result state moment drawn found =
+      start_deed result (start_of state moment drawn found) (start_due_is state moment drawn found)
+
+  -- an answer to a step
+  report_deed : (result : Reported) (wanted : Effort (Option At)) → IfDue wanted
+      → DeedAllowed replies rows (reported_by result wanted)
+  report_deed reports.Moved (Due entry) is = is
+  report_deed reports.Moved (Undue at) is = tt
+  report_deed reports.Moved (Over passed) is = tt
+  report_deed (reports.Stale at) wanted is = tt
+  report_deed (reports.Limit limit) wanted is = tt
+  report_deed reports.DiskFault (Due entry) is = is
+  report_deed reports.DiskFault (Undue at) is = tt
+  report_deed reports.DiskFault (Over passed) is = tt
+  report_deed reports.Memory wanted is = tt
+
+  -- only a yes is entered as yes
+  yes_so : (answer : Answer) → entered_answer answer ≡ answers.Yes → answer ≡ answers.Yes
+  yes_so (answers.Value value) yes = by (is_small value) yes
+    where
+      by : (b : Bool) → (if b then answers.Value value else answers.Failed) ≡ answers.Yes
+          → answers.Value value ≡ answers.Yes
+      by true e = absurd (cc)
+      by false e = absurd (cc)
+  yes_so answers.Yes e = refl
+  yes_so answers.No e = absurd (cc)
+  yes_so answers.Failed e = absurd (cc)
+
+  entered_accepts : (row : SecretRow) (job : Option Job) (answer : Answer)
+      → IfSome job (AcceptsOnly replies row answer) → IfSome job (AcceptsOnly replies row (entered_answer answer))
+  entered_accepts row None answer is = tt
+  entered_accepts row (Some job) answer is = λ stage e. is stage (yes_so answer e)
+
+  report_due_is : (state : State) (moment : Moment) (work : Work) (answer : Answer)
+      → replies work.arn work.at work.current work.pending answer ≡ true
+      → IfDue (report_of state moment work answer (found_arn rows moment work.arn))
+  report_due_is state moment work answer allowed =
+      by (is_fresh (found_arn rows moment work.arn) work) refl
+    where
+      accepts : (found : Option SecretRow) → found ≡ found_arn rows moment work.arn → is_fresh found work ≡ true
+          → IfSome found (λ row. IfSome row.job (AcceptsOnly replies row (entered_answer answer)))
+      accepts None is fresh = tt
+      accepts (Some row) is fresh =
+          entered_accepts row row.job answer
+          (fresh_accepts replies row work answer fresh (found_arn_is_exact rows moment work.arn (Some row) is) allowed)
+
+      by : (b : Bool) → b ≡ is_fresh (found_arn rows moment work.arn) work
+          → IfDue (if b then effort_within (passed_at state (reported_entry moment work answer))
+          (reported_entry moment work answer) else Undue (step_of (found_arn rows moment work.arn)))
+      by true is =
+          within_due (passed_at state (reported_entry moment work answer)) (reported_entry moment work answer)
+          (accepts (found_arn rows moment work.arn) refl (sym is))
+      by false is = tt
+
+  pub report_allowed : (result : Reported) (state : State) (moment : Moment) (work : Work) (answer : Answer)
+      → replies work.arn work.at work.current work.pending answer ≡ true
+      → DeedAllowed replies rows
+      (reported_by result (report_of state moment work answer (found_arn rows moment work.arn)))
+  report_allowed result state moment work answer allowed =
+      report_deed result (report_of state moment work answer (found_arn rows moment work.arn))
+      (report_due_is state moment work answer allowed)

@@ -1,0 +1,27 @@
+use Rattle.std.proofs.Common.{refl}
+use Rattle.sm_account.specs.Outcome.{Question}
+use Rattle.sm_account.proofs.AccountLemmas.{same_origin}
+use Rattle.sm_account.proofs.AnswerLemmas.{allowed_told, any_moment_told, fault_told, handled_told, history_told, stays_told, sure_told}
+use Rattle.sm_account.proofs.account.Account.handle.Goals as goal
+
+pub returns : goal.returns
+returns g c =
+    let old = c.args.self.now in
+    let new = c.handle.new.books in
+    let q : Question = record {
+      person = c.args.person.now;
+      now = c.args.now;
+      drawn = c.args.drawn.now;
+      request = c.args.request.now;
+    } in
+    let h = c.handle.ensures.handles in
+    record {
+      handled = handled_told old.books new c.args.seat q c.handle.result old.kept h;
+      history = history_told old.books new c.args.seat q c.handle.result old.kept h;
+      stays = stays_told old.books new c.args.seat q c.handle.result old.kept h;
+      origin = ?;
+      any_moment = any_moment_told old.books new c.args.seat q c.handle.result old.kept h;
+      acknowledged = sure_told old.books new c.args.seat q c.handle.result old.kept h;
+      later = h.leaves.later;
+      fault = fault_told old.books new c.args.seat q c.handle.result old.kept h;
+    }

@@ -1,0 +1,61 @@
+use Rattle.sm_account.proofs.DeedLemmas.{nothing_done, room_taken}
+use Rattle.sm_account.proofs.EffortLemmas.{enters_behind, leaves_behind}
+use Rattle.sm_account.proofs.RoomLemmas.{limits_aside, room_kept}
+use Rattle.sm_account.proofs.entering.enter.Goals as goal
+
+pub again-requires : goal.again-requires
+again-requires g c = record { sound = c.requires.kept.sound; moment = c.requires.may.bound }
+
+pub grow-requires : goal.grow-requires
+grow-requires g c = record {
+  can = c.in-Accept.ensures.can;
+  bound = c.requires.may.bound;
+  key = c.requires.may.key;
+  act = c.requires.may.act;
+}
+
+pub unreachable-requires : goal.unreachable-requires
+unreachable-requires g c = c.in-Refuse.ensures.legal c.requires.may.legal
+
+pub enter_due-requires : goal.enter_due-requires
+enter_due-requires g c =
+    let books = c.args.books.now in
+    let mid = c.grow.new.books in
+    record {
+      kept = room_kept books mid c.in_ok-due.ensures.same c.requires.kept;
+      due = limits_aside books mid c.in_ok-due.ensures.same c.args.entry c.in-Accept.change c.in_ok-due.due
+          c.in_ok-due.ensures.grown c.in-Accept.ensures.can c.in-Accept.ensures.stands c.in-Accept.ensures.makes
+          c.in-Accept.ensures.change_sound c.requires.may.legal c.requires.may.later c.requires.may.bound;
+      room = c.in_ok-due.ensures.room;
+    }
+
+pub returns-in-Accept : goal.returns-in-Accept
+returns-in-Accept g c =
+    let books = c.args.books.now in
+    let mid = c.grow.new.books in
+    let new = c.enter_due.new.books in
+    let is = c.in_ok-due.ensures.grown.entry_is in
+    record {
+      kept = c.enter_due.ensures.kept;
+      enters = enters_behind books mid new c.args.seat c.in_ok-due.ensures.same c.args.entry c.in_ok-due.due.entry is
+          c.enter_due.result c.enter_due.ensures.enters;
+      leaves = leaves_behind books mid new c.args.seat c.in_ok-due.ensures.same c.args.entry c.in_ok-due.due.entry is
+          c.enter_due.result c.enter_due.ensures.leaves;
+    }
+
+pub returns-in_err-due : goal.returns-in_err-due
+returns-in_err-due g c =
+    let books = c.args.books.now in
+    let mid = c.grow.new.books in
+    record {
+      kept = room_kept books mid c.grow.ensures.same c.requires.kept;
+      enters = tt;
+      leaves = room_taken books mid c.args.seat c.grow.ensures.same.rest c.grow.ensures.same.history;
+    }
+
+pub returns-in-Memory : goal.returns-in-Memory
+returns-in-Memory g c = record {
+  kept = c.requires.kept;
+  enters = tt;
+  leaves = nothing_done c.args.books.now c.args.seat;
+}

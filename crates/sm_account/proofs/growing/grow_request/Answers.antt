@@ -1,0 +1,20 @@
+use Rattle.std.proofs.Common.{◌≤◌, length, sym, subst}
+use Rattle.sm_base.specs.declared.moment.TheConstants.{LAST_READING}
+use Rattle.sm_model.specs.declared.entry.Entry.{Entry}
+use Rattle.sm_sizes.specs.Spellable.{IsSpellable}
+use Rattle.sm_account.proofs.growing.grow_request.Goals as goal
+
+pub grow-requires : goal.grow-requires
+grow-requires g c =
+    let is = c.in_ok-entry.ensures in
+    record {
+      can = c.requires.can;
+      bound = subst (λ (e : Entry). e.moment.0 ≤ LAST_READING) (sym is) c.requires.bound;
+      key = subst (λ (e : Entry). length e.caller ≤ 256) (sym is) c.requires.key;
+      act = subst (λ (e : Entry). IsSpellable e.drawn e.act) (sym is) (record {
+        drawn_for = c.requires.drawn;
+        forms = c.requires.forms;
+        changes = c.requires.changes;
+        few = c.requires.few;
+      });
+    }

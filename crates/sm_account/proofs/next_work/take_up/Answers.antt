@@ -1,0 +1,30 @@
+use Rattle.sm_claims.specs.Ready.{first_ready}
+use Rattle.sm_account.specs.Books.{history_in}
+use Rattle.sm_account.proofs.ClaimedLemmas.{claimed_kept, next_is}
+use Rattle.sm_account.proofs.DeedLemmas.{claim_added, room_taken}
+use Rattle.sm_account.proofs.RoomLemmas.{room_kept}
+use Rattle.sm_account.proofs.next_work.take_up.Goals as goal
+
+pub returns-in-Ok : goal.returns-in-Ok
+returns-in-Ok g c =
+    let old = c.args.books.now in
+    let new = c.claim.new.books in
+    let work = c.args.work in
+    record {
+      kept = claimed_kept old new c.args.seat work c.args.moment c.claim.ensures.rest c.in-Ok.ensures.claimed
+          c.requires.kept c.requires.ready;
+      next = next_is (first_ready (history_in old) c.args.moment old.table.secrets) work c.requires.ready;
+      leaves = claim_added old new c.args.seat c.claim.ensures.rest work.arn work.at c.args.moment
+          c.in-Ok.ensures.claimed;
+    }
+
+pub returns-in-Err : goal.returns-in-Err
+returns-in-Err g c =
+    let old = c.args.books.now in
+    let new = c.claim.new.books in
+    record {
+      kept = room_kept old new (record { history = c.in-Err.ensures.same; rest = c.claim.ensures.rest })
+          c.requires.kept;
+      next = tt;
+      leaves = room_taken old new c.args.seat c.claim.ensures.rest c.in-Err.ensures.same;
+    }
