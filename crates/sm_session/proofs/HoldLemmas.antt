@@ -1,6 +1,7 @@
 -- One hold of the lock, and the turn that it is a part of.
 use Rattle.std.proofs.Common.{◌≡◌, ◌⊎◌, ◌≤◌, ℕ, List, [], ◌∷◌, ◌++◌, length, drop, Option, Some, None, Result, Ok, refl, sym, ap, ◌∙◌, subst, inl, inr, append-nil}
 use Rattle.sm_base.specs.Faults.{Rose}
+use Rattle.sm_base.specs.declared.moment.Moment.{Moment}
 use Rattle.sm_disk.specs.declared.disk.Disk.{Ghosts as DiskGhosts}
 use Rattle.sm_model.specs.declared.entry.Entry.{Entry as entries}
 use Rattle.sm_model.specs.declared.entry.Mark.{Mark}
@@ -82,6 +83,16 @@ pub is_touched : (now : ℕ) (bytes : List ℕ) (reply : Answered) (marks : List
     → Untouched (record { told = told_once now bytes; reply = reply; marks = marks }) → P
 is_touched now bytes reply marks P none =
     let readings : now ∷ [] ≡ [] = ap (λ t. t.readings) none.0 in absurd (cc)
+
+-- what a trace has of a turn that reached the account
+pub traced_by : (position position' : ℕ) (now : Moment) (drawn : List ℕ) (status status' : ℕ) → position ≡ position'
+    → status ≡ status'
+    → (let item : TraceItem = record { position = position; moment = now; drawn = drawn; status = status } in item)
+    ≡ item_at position' (told_once now.0 drawn) status'
+traced_by position position' now drawn status status' placed same =
+    let of : ℕ → ℕ → TraceItem = λ position status.
+    record { position = position; moment = now; drawn = drawn; status = status } in
+    ap (λ p. of p status) placed ∙ ap (of position') same
 
 -- a turn that did not reach the account
 pub passed_by : (place : Place) (wanted : Result Asked Why) (old new : Standing) (reply : Answered) (item : TraceItem)

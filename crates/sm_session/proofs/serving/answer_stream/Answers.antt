@@ -1,0 +1,256 @@
+use Rattle.std.proofs.Common.{◌≡◌, ◌≤◌, refl, sym, subst, arith, ◌∙◌}
+use Rattle.std.proofs.lemmas.Bool.{not-true, not-false}
+use Rattle.sm_account.specs.Accounts.{base}
+use Rattle.sm_http.specs.declared.answer.Next.TheVariants as next
+use Rattle.sm_http.specs.Framed.{Sends}
+use Rattle.sm_http.specs.Reading.{Reads, content}
+use Rattle.sm_lock.specs.Handles.{built_with, number, seen}
+use Rattle.sm_session.specs.Answer.{heard}
+use Rattle.sm_session.specs.Endings.{Sides}
+use Rattle.sm_session.specs.Replies.{reply_of, framed_answer}
+use Rattle.sm_session.specs.Sessions.{Place, Standing, Around, TakesTurn}
+use Rattle.sm_session.proofs.SessionLemmas.{so_far_first, so_far_more, session_cut, session_enough, session_memory, session_stops}
+use Rattle.sm_session.proofs.serving.answer_stream.Goals as goal
+
+pub loop-number-init : goal.loop-number-init
+loop-number-init g c =
+    let place : Place = record { base = base (built_with c.args.gate.now); seat = number c.args.pass } in
+    let old : Around = record {
+      sides = record {
+        left = g.K.Source.left c.args.conn.now;
+        taken = g.K.Sink.taken c.args.conn.now;
+        source = g.K.Source.source_faults c.args.conn.now;
+        sink = g.K.Sink.sink_faults c.args.conn.now;
+      };
+      own = record {
+        seen = seen c.args.pass;
+        readings = g.C.Clock.readings c.args.clock.now;
+        drawn = g.W.Words.drawn c.args.words.now;
+        random = g.W.Words.faults c.args.words.now;
+      };
+    } in
+    record {
+      gate = c.requires.gate;
+      number = refl;
+      source_later = omega arith;
+      sink_later = omega arith;
+      random_later = omega arith;
+      so_far = so_far_first c.args.people.now place old c.new-reader.result c.args.items.now.items
+          c.new-reader.ensures c.requires.fresh;
+    }
+
+pub returns-in-Err-clause-served : goal.returns-in-Err-clause-served
+returns-in-Err-clause-served g c =
+    let i = c.loop-number.invariant in
+    let place : Place = record { base = base (built_with c.args.gate.now); seat = number c.args.pass } in
+    let old : Around = record {
+      sides = record {
+        left = g.K.Source.left c.args.conn.now;
+        taken = g.K.Sink.taken c.args.conn.now;
+        source = g.K.Source.source_faults c.args.conn.now;
+        sink = g.K.Sink.sink_faults c.args.conn.now;
+      };
+      own = record {
+        seen = seen c.args.pass;
+        readings = g.C.Clock.readings c.args.clock.now;
+        drawn = g.W.Words.drawn c.args.words.now;
+        random = g.W.Words.faults c.args.words.now;
+      };
+    } in
+    let now : Around = record {
+      sides = record {
+        left = g.K.Source.left c.loop-number.conn;
+        taken = g.K.Sink.taken c.loop-number.conn;
+        source = g.K.Source.source_faults c.loop-number.conn;
+        sink = g.K.Sink.sink_faults c.loop-number.conn;
+      };
+      own = record {
+        seen = seen c.loop-number.pass;
+        readings = g.C.Clock.readings c.loop-number.clock;
+        drawn = g.W.Words.drawn c.loop-number.words;
+        random = g.W.Words.faults c.loop-number.words;
+      };
+    } in
+    let sides : Sides = record {
+      left = g.K.Source.left c.conclude-ended.new.conn;
+      taken = g.K.Sink.taken c.conclude-ended.new.conn;
+      source = g.K.Source.source_faults c.conclude-ended.new.conn;
+      sink = g.K.Sink.sink_faults c.conclude-ended.new.conn;
+    } in
+    session_stops c.args.people.now place old c.loop-number.number now c.loop-number.reader c.loop-number.count
+    c.loop-number.items.items i.so_far c.receive.new.reader sides c.in-Err.stop c.conclude-ended.result
+    c.loop-number-test.true ? ? ?
+
+pub returns-then-not-sent-clause-served : goal.returns-then-not-sent-clause-served
+returns-then-not-sent-clause-served g c =
+    let i = c.loop-number.invariant in
+    let place : Place = record { base = base (built_with c.args.gate.now); seat = number c.args.pass } in
+    let old : Around = record {
+      sides = record {
+        left = g.K.Source.left c.args.conn.now;
+        taken = g.K.Sink.taken c.args.conn.now;
+        source = g.K.Source.source_faults c.args.conn.now;
+        sink = g.K.Sink.sink_faults c.args.conn.now;
+      };
+      own = record {
+        seen = seen c.args.pass;
+        readings = g.C.Clock.readings c.args.clock.now;
+        drawn = g.W.Words.drawn c.args.words.now;
+        random = g.W.Words.faults c.args.words.now;
+      };
+    } in
+    let now : Around = record {
+      sides = record {
+        left = g.K.Source.left c.loop-number.conn;
+        taken = g.K.Sink.taken c.loop-number.conn;
+        source = g.K.Source.source_faults c.loop-number.conn;
+        sink = g.K.Sink.sink_faults c.loop-number.conn;
+      };
+      own = record {
+        seen = seen c.loop-number.pass;
+        readings = g.C.Clock.readings c.loop-number.clock;
+        drawn = g.W.Words.drawn c.loop-number.words;
+        random = g.W.Words.faults c.loop-number.words;
+      };
+    } in
+    let taken = c.take_turn in
+    let sides : Sides = record {
+      left = g.K.Source.left c.reply-sent.new.conn;
+      taken = g.K.Sink.taken c.reply-sent.new.conn;
+      source = g.K.Source.source_faults c.reply-sent.new.conn;
+      sink = g.K.Sink.sink_faults c.reply-sent.new.conn;
+    } in
+    let own : Standing = record {
+      seen = seen taken.result.pass;
+      readings = g.C.Clock.readings taken.new.clock;
+      drawn = g.W.Words.drawn taken.new.words;
+      random = g.W.Words.faults taken.new.words;
+    } in
+    let turn : TakesTurn place (heard c.args.people.now (content c.in-Ok.message)) now.own own
+        (reply_of taken.result.said) taken.result.item =
+    subst (λ n. TakesTurn (record { base = place.base; seat = n }) (heard c.args.people.now (content c.in-Ok.message))
+    now.own own (reply_of taken.result.said) taken.result.item) i.number taken.ensures.turn in
+    let reads : Reads c.loop-number.reader (next.Message c.in-Ok.message) c.receive.new.reader now.sides.left sides.left =
+    subst (λ l. Reads c.loop-number.reader (next.Message c.in-Ok.message) c.receive.new.reader now.sides.left l)
+    (sym c.reply-sent.ensures.left) c.in-Ok.ensures.reads in
+    let sends : Sends c.reply-sent.result (framed_answer (reply_of taken.result.said)) now.sides.taken sides.taken
+        now.sides.sink sides.sink =
+    subst (λ t. Sends c.reply-sent.result (framed_answer (reply_of taken.result.said)) t sides.taken now.sides.sink
+    sides.sink) c.receive.ensures.taken
+    (subst (λ n. Sends c.reply-sent.result (framed_answer (reply_of taken.result.said))
+    (g.K.Sink.taken c.receive.new.conn) sides.taken n sides.sink) c.receive.ensures.sink c.reply-sent.ensures.sent) in
+    let source : now.sides.source ≤ sides.source = omega (arith, c.receive.ensures.later, c.reply-sent.ensures.source) in
+    let sink : now.sides.sink ≤ sides.sink = omega (arith, c.receive.ensures.sink, c.reply-sent.ensures.later) in
+    session_cut c.args.people.now place old c.loop-number.number now c.loop-number.reader c.loop-number.count
+    c.loop-number.items.items i.so_far c.receive.new.reader sides c.in-Ok.message own (reply_of taken.result.said)
+    taken.result.item turn reads source sink c.reply-sent.result sends c.saturating_add-count.result
+    c.saturating_add-count.ensures c.loop-number-test.true
+    (not-true c.reply-sent.result.whole c.if-not-sent.true)
+
+pub loop-number-preserved : goal.loop-number-preserved
+loop-number-preserved g c =
+    let i = c.loop-number.invariant in
+    let place : Place = record { base = base (built_with c.args.gate.now); seat = number c.args.pass } in
+    let old : Around = record {
+      sides = record {
+        left = g.K.Source.left c.args.conn.now;
+        taken = g.K.Sink.taken c.args.conn.now;
+        source = g.K.Source.source_faults c.args.conn.now;
+        sink = g.K.Sink.sink_faults c.args.conn.now;
+      };
+      own = record {
+        seen = seen c.args.pass;
+        readings = g.C.Clock.readings c.args.clock.now;
+        drawn = g.W.Words.drawn c.args.words.now;
+        random = g.W.Words.faults c.args.words.now;
+      };
+    } in
+    let now : Around = record {
+      sides = record {
+        left = g.K.Source.left c.loop-number.conn;
+        taken = g.K.Sink.taken c.loop-number.conn;
+        source = g.K.Source.source_faults c.loop-number.conn;
+        sink = g.K.Sink.sink_faults c.loop-number.conn;
+      };
+      own = record {
+        seen = seen c.loop-number.pass;
+        readings = g.C.Clock.readings c.loop-number.clock;
+        drawn = g.W.Words.drawn c.loop-number.words;
+        random = g.W.Words.faults c.loop-number.words;
+      };
+    } in
+    let taken = c.take_turn in
+    let sides : Sides = record {
+      left = g.K.Source.left c.reply-sent.new.conn;
+      taken = g.K.Sink.taken c.reply-sent.new.conn;
+      source = g.K.Source.source_faults c.reply-sent.new.conn;
+      sink = g.K.Sink.sink_faults c.reply-sent.new.conn;
+    } in
+    let own : Standing = record {
+      seen = seen taken.result.pass;
+      readings = g.C.Clock.readings taken.new.clock;
+      drawn = g.W.Words.drawn taken.new.words;
+      random = g.W.Words.faults taken.new.words;
+    } in
+    let turn : TakesTurn place (heard c.args.people.now (content c.in-Ok.message)) now.own own
+        (reply_of taken.result.said) taken.result.item =
+    subst (λ n. TakesTurn (record { base = place.base; seat = n }) (heard c.args.people.now (content c.in-Ok.message))
+    now.own own (reply_of taken.result.said) taken.result.item) i.number taken.ensures.turn in
+    let reads : Reads c.loop-number.reader (next.Message c.in-Ok.message) c.receive.new.reader now.sides.left sides.left =
+    subst (λ l. Reads c.loop-number.reader (next.Message c.in-Ok.message) c.receive.new.reader now.sides.left l)
+    (sym c.reply-sent.ensures.left) c.in-Ok.ensures.reads in
+    let sends : Sends c.reply-sent.result (framed_answer (reply_of taken.result.said)) now.sides.taken sides.taken
+        now.sides.sink sides.sink =
+    subst (λ t. Sends c.reply-sent.result (framed_answer (reply_of taken.result.said)) t sides.taken now.sides.sink
+    sides.sink) c.receive.ensures.taken
+    (subst (λ n. Sends c.reply-sent.result (framed_answer (reply_of taken.result.said))
+    (g.K.Sink.taken c.receive.new.conn) sides.taken n sides.sink) c.receive.ensures.sink c.reply-sent.ensures.sent) in
+    let source : now.sides.source ≤ sides.source = omega (arith, c.receive.ensures.later, c.reply-sent.ensures.source) in
+    let sink : now.sides.sink ≤ sides.sink = omega (arith, c.receive.ensures.sink, c.reply-sent.ensures.later) in
+    record {
+      gate = taken.ensures.gate;
+      number = taken.ensures.number ∙ i.number;
+      source_later = omega (arith, i.source_later, source);
+      sink_later = omega (arith, i.sink_later, sink);
+      random_later = omega (arith, i.random_later, taken.ensures.later);
+      so_far = so_far_more c.args.people.now place old c.loop-number.number now c.loop-number.reader c.loop-number.count
+          c.loop-number.items.items i.so_far c.receive.new.reader sides c.in-Ok.message own (reply_of taken.result.said)
+          taken.result.item turn reads source sink c.reply-sent.result sends c.saturating_add-count.result
+          c.saturating_add-count.ensures
+          (not-false c.reply-sent.result.whole c.if-not-sent.false);
+    }
+
+pub returns-clause-served : goal.returns-clause-served
+returns-clause-served g c =
+    let place : Place = record { base = base (built_with c.args.gate.now); seat = number c.args.pass } in
+    let old : Around = record {
+      sides = record {
+        left = g.K.Source.left c.args.conn.now;
+        taken = g.K.Sink.taken c.args.conn.now;
+        source = g.K.Source.source_faults c.args.conn.now;
+        sink = g.K.Sink.sink_faults c.args.conn.now;
+      };
+      own = record {
+        seen = seen c.args.pass;
+        readings = g.C.Clock.readings c.args.clock.now;
+        drawn = g.W.Words.drawn c.args.words.now;
+        random = g.W.Words.faults c.args.words.now;
+      };
+    } in
+    let now : Around = record {
+      sides = record {
+        left = g.K.Source.left c.loop-number.conn;
+        taken = g.K.Sink.taken c.loop-number.conn;
+        source = g.K.Source.source_faults c.loop-number.conn;
+        sink = g.K.Sink.sink_faults c.loop-number.conn;
+      };
+      own = record {
+        seen = seen c.loop-number.pass;
+        readings = g.C.Clock.readings c.loop-number.clock;
+        drawn = g.W.Words.drawn c.loop-number.words;
+        random = g.W.Words.faults c.loop-number.words;
+      };
+    } in
+    session_enough c.args.people.now place old c.loop-number.number now c.loop-number.reader c.loop-number.count
+    c.loop-number.items.items c.loop-number.invariant.so_far
+    (omega (arith, c.loop-number.auto.number-end, c.loop-number-test.false))

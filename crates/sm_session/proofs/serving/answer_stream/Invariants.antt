@@ -1,0 +1,46 @@
+use Rattle.std.proofs.Common.{◌≡◌, ◌≤◌}
+use Rattle.sm_account.specs.Accounts.{base}
+use Rattle.sm_lock.specs.Handles.{built_with, number, seen, IsIn}
+use Rattle.sm_session.proofs.SessionLemmas.{SoFar}
+use Rattle.sm_session.proofs.serving.answer_stream.Given as goal
+
+-- as many messages as the number says have been answered, under the seat that the pass has had all along
+abbrev pub invariant-loop-number : goal.invariant-loop-number
+invariant-loop-number g l = record {
+  gate : IsIn l.gate l.pass;
+  number : number l.pass ≡ number l.initial.pass;
+  source_later : g.K.Source.source_faults l.initial.conn ≤ g.K.Source.source_faults l.conn;
+  sink_later : g.K.Sink.sink_faults l.initial.conn ≤ g.K.Sink.sink_faults l.conn;
+  random_later : g.W.Words.faults l.initial.words ≤ g.W.Words.faults l.words;
+  so_far : SoFar l.people (record { base = base (built_with l.gate); seat = number l.initial.pass })
+      (record {
+        sides = record {
+          left = g.K.Source.left l.initial.conn;
+          taken = g.K.Sink.taken l.initial.conn;
+          source = g.K.Source.source_faults l.initial.conn;
+          sink = g.K.Sink.sink_faults l.initial.conn;
+        };
+        own = record {
+          seen = seen l.initial.pass;
+          readings = g.C.Clock.readings l.initial.clock;
+          drawn = g.W.Words.drawn l.initial.words;
+          random = g.W.Words.faults l.initial.words;
+        };
+      })
+      l.number
+      (record {
+        sides = record {
+          left = g.K.Source.left l.conn;
+          taken = g.K.Sink.taken l.conn;
+          source = g.K.Source.source_faults l.conn;
+          sink = g.K.Sink.sink_faults l.conn;
+        };
+        own = record {
+          seen = seen l.pass;
+          readings = g.C.Clock.readings l.clock;
+          drawn = g.W.Words.drawn l.words;
+          random = g.W.Words.faults l.words;
+        };
+      })
+      l.reader l.count l.items.items;
+}
