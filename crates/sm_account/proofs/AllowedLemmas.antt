@@ -30,7 +30,8 @@ module _ {D : Type 0} {G : Ghosts D} (replies : Replies) (old new : Books D G) (
   made_by : (deed : Deed) → DeedAllowed replies old.table deed
       → EachAllowed replies (base_in old).rows (entries_in (history_in old ++ by_seat seat (marks_by deed)))
   made_by Nothing is =
-      subst (λ h. EachAllowed replies (base_in old).rows (entries_in h)) (sym (append-nil (history_in old))) allowed.made
+      subst (λ h. EachAllowed replies (base_in old).rows (entries_in h)) (sym (append-nil (history_in old)))
+      allowed.made
   made_by (Claimed arn at moment) is =
       subst (EachAllowed replies (base_in old).rows) (sym (entries_more (history_in old) seat (Claim arn at moment)
       ∙ append-nil (entries_in (history_in old)))) allowed.made

@@ -87,7 +87,8 @@ fault_so passed is = subst (EntersAs ends.DiskFault) (sym is) tt
 -- an entry for whose mark there is room
 module _ {D : Type 0} {G : Ghosts D} (old mid new : Books D G) (seat : ℕ) (room : SameButRoom old mid)
     (entry : entries) (due : entries) (is : due ≡ entry) (entered : Entered) where
-  pub enters_behind : EntersAs entered (passed_at (state_in mid) due) → EntersAs entered (passed_at (state_in old) entry)
+  pub enters_behind : EntersAs entered (passed_at (state_in mid) due)
+      → EntersAs entered (passed_at (state_in old) entry)
   enters_behind enters =
       subst (λ e. EntersAs entered (passed_at (state_in old) e)) is
       (subst (λ s. EntersAs entered (passed_at s due)) (same_state old mid room) enters)

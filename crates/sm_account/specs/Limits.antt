@@ -17,7 +17,8 @@ use Rattle.sm_account.specs.States.{State, size_of}
 abbrev pub passed_at : State → Entry → Option Passed
 passed_at state entry =
     if nat_le ENTRIES_LIMIT state.made then Some (record { limit = ENTRIES_LIMIT; what = Entries })
-    else (if nat_lt state.limit (state.bytes + size_of entry) then Some (record { limit = state.limit; what = JournalBytes })
+    else (if nat_lt state.limit (state.bytes + size_of entry)
+    then Some (record { limit = state.limit; what = JournalBytes })
     else None)
 
 -- the refusal of a request by such a limit

@@ -1,5 +1,5 @@
--- Spells: what one seat does to a history, one thing after the other, and what comes between. A message, a connection, a
--- rotation turn, and all that a worker does are spells.
+-- Spells: what one seat does to a history, one thing after the other, and what comes between. A message, a connection,
+-- a rotation turn, and all that a worker does are spells.
 use Rattle.std.specs.Prelude.{◌≡◌, ℕ, List, [], ◌∷◌, ◌++◌}
 use Rattle.sm_model.specs.declared.entry.Mark.{Mark}
 use Rattle.sm_account.specs.History.{by_seat}

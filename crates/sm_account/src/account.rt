@@ -148,9 +148,9 @@ impl<D: Disk, R: Rotator> Account<D, R> {
         start_due(&mut self.books, seat, now, drawn)
     }
 
-    /// Enters what a rotator answered to its work, at a reading of the clock. A verdict on a step that is past is stale,
-    /// and so is one on a secret or a version that is gone, or that has another value by now. A value of more than 65,536
-    /// bytes is entered as a failure.
+    /// Enters what a rotator answered to its work, at a reading of the clock. A verdict on a step that is past is
+    /// stale, and so is one on a secret or a version that is gone, or that has another value by now. A value of more
+    /// than 65,536 bytes is entered as a failure.
     pub fn report(&mut self, seat: u32, now: Moment, verdict: &Verdict<R>) -> Reported
         requires { now.0 ≤ LAST_READING }
         ensures reports { ReportsAs result (report_at (state self.old) now verdict.now.work verdict.now.answer) }

@@ -24,7 +24,8 @@ returns-in-Ok g c = record {
 pub returns-in-Err : goal.returns-in-Err
 returns-in-Err g c = record {
   kept = c.make.ensures.kept;
-  enters = fault_so (passed_at (state_in c.args.books.now) c.args.due.entry) (sym c.passed_limit.ensures ∙ c.in-None.is);
+  enters = fault_so (passed_at (state_in c.args.books.now) c.args.due.entry)
+      (sym c.passed_limit.ensures ∙ c.in-None.is);
   leaves = entry_failed c.args.books.now c.make.new.books c.args.seat c.args.due.entry c.make.ensures.origin
       c.make.ensures.any_moment c.make.ensures.cause.later c.in-Err.ensures.history c.in-Err.ensures.fault
       c.in-Err.ensures.torn (c.in-Err.ensures.cause.failed refl);

@@ -98,7 +98,8 @@ returns-in-Memory g c = record {
 pub returns-in-Err : goal.returns-in-Err
 returns-in-Err g c = record {
   kept = room_kept c.args.books.now c.grow_request.new.books c.grow_request.ensures.same c.requires.kept;
-  handles = after_room c.args.books.now c.grow_request.new.books c.grow_request.new.books c.args.seat c.grow_request.ensures.same Memory _
+  handles = after_room c.args.books.now c.grow_request.new.books c.grow_request.new.books c.args.seat
+      c.grow_request.ensures.same Memory _
       (wanted_memory c.grow_request.new.books c.args.seat _);
 }
 
@@ -112,7 +113,8 @@ returns-in-Ok g c =
     } in
     record {
       kept = c.finish.ensures.kept;
-      handles = made_so c.args.books.now c.args.seat q c.max.result c.max.ensures c.grow_request.new.books c.finish.new.books
+      handles = made_so c.args.books.now c.args.seat q c.max.result c.max.ensures c.grow_request.new.books
+          c.finish.new.books
           c.in-Ok.ensures.same c.in-Ok.due c.in-Accept.reply c.in-Accept.change c.in-Some.change c.in-Some.is
           c.in-Accept.ensures.considered c.in-Ok.ensures.grown.entry_is c.finish.result c.finish.ensures.handles;
     }

@@ -1,5 +1,6 @@
-use Rattle.std.proofs.Common.{arith, subst}
+use Rattle.std.proofs.Common.{IsSomeAnd, arith, subst}
 use Rattle.sm_claims.specs.Ready.{first_ready}
+use Rattle.sm_claims.specs.Works.{IsWorkOf}
 use Rattle.sm_account.specs.Books.{history_in}
 use Rattle.sm_account.specs.Deeds.{Leaves}
 use Rattle.sm_account.specs.NextWork.{NextAs, next_by}
@@ -15,7 +16,10 @@ ready_work-requires g c = c.requires.kept.sound
 pub take_up-requires : goal.take_up-requires
 take_up-requires g c = record {
   kept = c.requires.kept;
-  ready = work_is _ c.in-Ok.ready c.in-Some.work c.in-Some.is c.in-Ok.ensures;
+  ready = subst
+      (λ marks. IsSomeAnd (first_ready marks (record { 0 = c.max.result }) c.args.books.now.table.secrets)
+      (λ row. IsWorkOf row c.in-Some.work)) c.as_slice.ensures
+      (work_is _ c.in-Ok.ready c.in-Some.work c.in-Some.is c.in-Ok.ensures);
 }
 
 pub returns-in-Some : goal.returns-in-Some
@@ -37,7 +41,8 @@ returns-in-None g c =
     record {
       kept = c.requires.kept;
       next = subst (λ m. NextAs works.None (first_ready (history_in old) m old.table.secrets)) at
-          (none_is _ c.in-Ok.ready c.in-None.is c.in-Ok.ensures);
+          (subst (λ marks. NextAs works.None (first_ready marks (record { 0 = c.max.result }) old.table.secrets))
+          c.as_slice.ensures (none_is _ c.in-Ok.ready c.in-None.is c.in-Ok.ensures));
       leaves = nothing_done old c.args.seat;
     }
 
