@@ -13,12 +13,12 @@ use Rattle.sm_model.specs.declared.why.What.TheVariants.{Entries, JournalBytes}
 use Rattle.sm_model.specs.declared.why.Why.{Why}
 use Rattle.sm_model.specs.declared.why.Why.TheVariants as whys
 use Rattle.sm_forms.specs.Forms.{forms_of}
+use Rattle.sm_access.specs.Admission.{admission}
 use Rattle.sm_judging.specs.declared.judged.Judged.{Judged}
 use Rattle.sm_judging.specs.declared.judged.Judged.TheVariants.{Accept, Refuse, Memory}
-use Rattle.sm_core.specs.Admission.{admission}
 use Rattle.sm_core.specs.Effects.{entry_of}
 use Rattle.sm_core.specs.Histories.{later}
-use Rattle.sm_core.specs.Judging.{judgement}
+use Rattle.sm_core.specs.Judging.{judgement_for}
 use Rattle.sm_account.specs.States.{State, size_of}
 
 -- a refusal, or a reply and the entry that is due
@@ -40,7 +40,7 @@ unless_denied None next = next
 abbrev pub considered : Rows → Person → Moment → List ℕ → Request → Judged
 considered rows person moment drawn request =
     unless_malformed (forms_of request)
-    (unless_denied (admission rows person moment request) (judgement rows moment drawn request))
+    (unless_denied (admission rows person moment request) (judgement_for rows person moment drawn request))
 
 -- The limit that one entry more would pass: so many entries since the opening, or so long a journal.
 abbrev pub limit_passed : State → Entry → Option Why

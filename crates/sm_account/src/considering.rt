@@ -2,10 +2,10 @@
 ghost use Rattle.std.specs.Prelude.{◌≡◌, ◌≤◌, length, false, None};
 ghost use Rattle.sm_base.specs.Outcomes.{OrMemory};
 ghost use Rattle.sm_base.specs.declared.moment.TheConstants.{LAST_READING};
+ghost use Rattle.sm_access.specs.Admission.{admission};
 ghost use Rattle.sm_core.specs.Effects.{entry_of, Makes};
 ghost use Rattle.sm_core.specs.Histories.{LegalAct};
-ghost use Rattle.sm_core.specs.Admission.{admission};
-ghost use Rattle.sm_core.specs.Judging.{is_reading, judgement};
+ghost use Rattle.sm_core.specs.Judging.{is_reading, judgement_for};
 ghost use Rattle.sm_forms.specs.Forms.{forms_of};
 ghost use Rattle.sm_judging.specs.Judged.{judged_told, IfChange};
 ghost use Rattle.sm_model.specs.Needed.{needed};
@@ -67,7 +67,8 @@ fn judge_admitted(
     requires forms { forms_of request.now ≡ None }
     requires drawn { length drawn.now ≡ needed request.now }
     ensures considered { OrMemory (judged_told result) (unless_denied
-        (admission table.now person.now moment request.now) (judgement table.now moment drawn.now request.now)) }
+        (admission table.now person.now moment request.now)
+        (judgement_for table.now person.now moment drawn.now request.now)) }
     ensures makes { IfChange result (Makes table.now (entry_of moment person.now.key drawn.now request.now)) }
     ensures can { IfChange result (CanMake table.now) }
     ensures stands { IfChange result (StandsAt table.now moment) }

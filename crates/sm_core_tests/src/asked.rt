@@ -15,7 +15,7 @@ pub fn column(row: &str, index: usize) -> &str {
 }
 
 /// The word of a text, counted from 0.
-fn word(text: &str, index: usize) -> &str {
+pub fn word(text: &str, index: usize) -> &str {
     text.split_whitespace().nth(index).unwrap_or(".")
 }
 
@@ -40,7 +40,7 @@ fn token(alloc: Global, text: &str) -> Result<Option<Text>, Fail> {
 }
 
 /// A name, or for a text with a hyphen the ARN that ends so.
-fn secret_id(alloc: Global, text: &str) -> Result<Text, Fail> {
+pub fn secret_id(alloc: Global, text: &str) -> Result<Text, Fail> {
     let mut id = String::new(alloc);
     if text.contains("-") {
         id.push_str(BEGINNING)?;

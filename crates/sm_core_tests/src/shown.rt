@@ -1,8 +1,9 @@
 //! What a request is answered, as a line says it.
 use sm_core::Judged;
 use sm_model::{
-    BatchError, Change, DeletedSecret, Described, GotSecret, Label, List, NamedSecret, PutValue,
-    Reply, SecretBatch, SecretPage, Text, Token, VersionItem, VersionPage, VersionedSecret, Why,
+    BatchError, Change, DeletedSecret, Described, GotSecret, Label, List, NamedSecret,
+    PolicyOfSecret, PolicyValidation, PutValue, Reply, SecretBatch, SecretPage, Text, Token,
+    VersionItem, VersionPage, VersionedSecret, Why,
 };
 use std::alloc::Global;
 use std::test::Fail;
@@ -50,7 +51,7 @@ fn why_text(alloc: Global, why: &Why) -> Result<String, Fail> {
         }
         Why::BadToken => plain(alloc, "bad token"),
         Why::NotBuilt => plain(alloc, "not built"),
-        _ => plain(alloc, "another refusal"),
+        _ => plain(alloc, why.message(alloc)?.as_str()),
     }
 }
 
@@ -164,6 +165,32 @@ fn deleted_text(alloc: Global, reply: &DeletedSecret) -> Result<String, Fail> {
     Ok(shown)
 }
 
+/// The secret, and its policy where it has one.
+fn policy_text(alloc: Global, reply: &PolicyOfSecret) -> Result<String, Fail> {
+    let mut shown = secret_text(alloc, &reply.arn, &reply.name)?;
+    push_given(&mut shown, &reply.resource_policy)?;
+    Ok(shown)
+}
+
+/// Whether a policy passes, and what each check found.
+fn validation_text(alloc: Global, reply: &PolicyValidation) -> Result<String, Fail> {
+    let mut shown = plain(
+        alloc,
+        if reply.policy_validation_passed {
+            "passed"
+        } else {
+            "not passed"
+        },
+    )?;
+    for fault in reply.validation_errors.as_slice() {
+        shown.push_str(", ")?;
+        shown.push_str(fault.check_name.as_str())?;
+        shown.push_str(" ")?;
+        shown.push_str(fault.error_message.as_str())?;
+    }
+    Ok(shown)
+}
+
 fn push_next(shown: &mut String, next: &Option<Text>) -> Result<(), Fail> {
     if let Some(next) = next {
         shown.push_str("next ")?;
@@ -232,18 +259,22 @@ fn reply_text(alloc: Global, reply: &Reply) -> Result<String, Fail> {
     match reply {
         Reply::BatchGetSecretValue(reply) => batch_text(alloc, reply),
         Reply::CreateSecret(reply) => created_text(alloc, reply),
+        Reply::DeleteResourcePolicy(reply) => named_text(alloc, reply),
         Reply::DeleteSecret(reply) => deleted_text(alloc, reply),
         Reply::DescribeSecret(reply) => described_text(alloc, reply),
         Reply::GetRandomPassword(reply) => plain(alloc, reply.random_password.as_str()),
+        Reply::GetResourcePolicy(reply) => policy_text(alloc, reply),
         Reply::GetSecretValue(reply) => got_text(alloc, reply),
         Reply::ListSecretVersionIds(reply) => versions_text(alloc, reply),
         Reply::ListSecrets(reply) => page_text(alloc, reply),
+        Reply::PutResourcePolicy(reply) => named_text(alloc, reply),
         Reply::PutSecretValue(reply) => put_text(alloc, reply),
         Reply::RestoreSecret(reply) => named_text(alloc, reply),
         Reply::TagResource => plain(alloc, "tagged"),
         Reply::UntagResource => plain(alloc, "untagged"),
         Reply::UpdateSecret(reply) => created_text(alloc, reply),
         Reply::UpdateSecretVersionStage(reply) => named_text(alloc, reply),
+        Reply::ValidateResourcePolicy(reply) => validation_text(alloc, reply),
         _ => plain(alloc, "another reply"),
     }
 }

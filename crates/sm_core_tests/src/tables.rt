@@ -13,8 +13,8 @@ use crate::rows::{secret, table_of};
 use crate::shown::{number, plain, show_once};
 use sm_base::moment::LAST_READING;
 use sm_core::judging::judge_exactly;
-use sm_core::{Judged, forms, judge};
-use sm_model::{Change, Moment, Person, Request, SecretRow, Text, need};
+use sm_core::{Admitted, Judged, admit, forms, judge};
+use sm_model::{Change, Moment, Person, Request, SecretRow, Text, Why, need};
 use sm_table::Table;
 use std::alloc::Global;
 use std::marker::Model;
@@ -318,8 +318,8 @@ a secret that is gone has no tags to take off | untag app k | no secret | 9";
 
 /// Secrets that are as they are between any two requests.
 #[derive(Drop)]
-struct Secrets {
-    table: Table,
+pub struct Secrets {
+    pub table: Table,
 }
 
 impl Model for Secrets {
@@ -341,7 +341,7 @@ fn root() -> Person {
     }
 }
 
-fn no_secrets(alloc: Global) -> Secrets {
+pub fn no_secrets(alloc: Global) -> Secrets {
     Secrets {
         table: Table::new(alloc),
     }
@@ -380,8 +380,13 @@ fn carry_out(secrets: &mut Secrets, judged: Judged) -> Result<(), Fail>
     }
 }
 
-/// Judges the request, and makes its change.
-fn judge_and_commit(alloc: Global, secrets: &mut Secrets, request: &Request) -> Result<String, Fail>
+/// Judges the request of a person, and makes its change.
+fn judge_and_commit(
+    alloc: Global,
+    secrets: &mut Secrets,
+    person: &Person,
+    request: &Request,
+) -> Result<String, Fail>
     requires { forms_of request.now ≡ None }
 {
     let Some(drawn) = DRAWN.get(..need(request)) else {
@@ -389,30 +394,57 @@ fn judge_and_commit(alloc: Global, secrets: &mut Secrets, request: &Request) -> 
     };
     let shown = show_once(
         alloc,
-        judge(alloc, &secrets.table, &root(), NOW, drawn, request),
+        judge(alloc, &secrets.table, person, NOW, drawn, request),
     )?;
-    let judged = judge(alloc, &secrets.table, &root(), NOW, drawn, request);
+    let judged = judge(alloc, &secrets.table, person, NOW, drawn, request);
     carry_out(secrets, judged)?;
     Ok(shown)
 }
 
-fn answer(alloc: Global, secrets: &mut Secrets, request: &Request) -> Result<String, Fail> {
+/// Asks whether the person may make the request, and judges it.
+fn admit_and_judge(
+    alloc: Global,
+    secrets: &mut Secrets,
+    person: &Person,
+    request: &Request,
+) -> Result<String, Fail>
+    requires { forms_of request.now ≡ None }
+{
+    match admit(alloc, &secrets.table, person, NOW, request) {
+        Admitted::Ok => judge_and_commit(alloc, secrets, person, request),
+        Admitted::Denied(statement) => show_once(alloc, Why::Denied(statement)),
+        Admitted::Memory => plain(alloc, "out of memory"),
+    }
+}
+
+#[tactic(auto, using(sm_forms::proofs::PolicyLemmas::none_formed))]
+fn answer(
+    alloc: Global,
+    secrets: &mut Secrets,
+    person: &Person,
+    request: &Request,
+) -> Result<String, Fail> {
     match forms(alloc, request) {
         Some(why) => show_once(alloc, why),
-        None => judge_and_commit(alloc, secrets, request),
+        None => admit_and_judge(alloc, secrets, person, request),
     }
 }
 
 /// What can be answered on secrets, or on a table at a moment.
-trait Answered: Drop {
-    fn answer(&self, alloc: Global, secrets: &mut Secrets) -> Result<String, Fail>;
+pub trait Answered: Drop {
+    fn answer(&self, alloc: Global, secrets: &mut Secrets, person: &Person) -> Result<String, Fail>;
 
     fn answer_there(&self, alloc: Global, table: &Table, moment: Moment) -> Result<String, Fail>;
 }
 
 impl Answered for Request {
-    fn answer(&self, alloc: Global, secrets: &mut Secrets) -> Result<String, Fail> {
-        answer(alloc, secrets, self)
+    fn answer(
+        &self,
+        alloc: Global,
+        secrets: &mut Secrets,
+        person: &Person,
+    ) -> Result<String, Fail> {
+        answer(alloc, secrets, person, self)
     }
 
     fn answer_there(&self, alloc: Global, table: &Table, moment: Moment) -> Result<String, Fail> {
@@ -421,12 +453,13 @@ impl Answered for Request {
 }
 
 /// Lets the request go. Where its type is not known that is proved once and not for each operation.
-fn answer_once<T: Answered>(
+pub fn answer_once<T: Answered>(
     alloc: Global,
     secrets: &mut Secrets,
+    person: &Person,
     asked: T,
 ) -> Result<String, Fail> {
-    asked.answer(alloc, secrets)
+    asked.answer(alloc, secrets, person)
 }
 
 fn answer_there_once<T: Answered>(
@@ -440,7 +473,7 @@ fn answer_there_once<T: Answered>(
 
 /// What the request of a row is answered.
 fn answer_row(alloc: Global, secrets: &mut Secrets, row: &str) -> Result<String, Fail> {
-    answer_once(alloc, secrets, request(alloc, column(row, 1))?)
+    answer_once(alloc, secrets, &root(), request(alloc, column(row, 1))?)
 }
 
 fn pairs_text(alloc: Global, row: &SecretRow) -> Result<String, Fail> {
@@ -463,7 +496,7 @@ fn left_text(alloc: Global, table: &Table) -> Result<String, Fail> {
 }
 
 /// The name of the row, what came and what was wanted, where they differ in a column.
-fn difference(alloc: Global, row: &str, index: usize, came: &str) -> Result<String, Fail> {
+pub fn difference(alloc: Global, row: &str, index: usize, came: &str) -> Result<String, Fail> {
     let wanted = column(row, index);
     if came.trim() == wanted {
         return Ok(String::new(alloc));
@@ -499,9 +532,13 @@ fn judge_there(
     if moment.0 > LAST_READING {
         return plain(alloc, "later than a clock can read");
     }
-    show_once(alloc, judge_exactly(alloc, table, moment, drawn, request)?)
+    show_once(
+        alloc,
+        judge_exactly(alloc, table, &root(), moment, drawn, request)?,
+    )
 }
 
+#[tactic(auto, using(sm_forms::proofs::PolicyLemmas::none_formed))]
 fn answer_there(
     alloc: Global,
     table: &Table,

@@ -7,12 +7,13 @@ use Rattle.sm_model.specs.declared.reply.Reply.{Reply}
 use Rattle.sm_model.specs.declared.request.Request.{Request}
 use Rattle.sm_model.specs.declared.why.Why.{Why}
 use Rattle.sm_model.specs.Needed.{needed}
+use Rattle.sm_access.specs.Admission.{admission}
 use Rattle.sm_forms.specs.Forms.{forms_of}
 use Rattle.sm_judging.specs.declared.judged.Judged.{Judged}
 use Rattle.sm_judging.specs.declared.judged.Judged.TheVariants.{Accept, Refuse, Memory}
-use Rattle.sm_core.specs.Admission.{admission}
 use Rattle.sm_core.specs.Histories.{replay, last_moment, IsDue, LegalAct, Legal}
-use Rattle.sm_core.specs.Judging.{judgement}
+use Rattle.sm_core.specs.Judging.{judgement_for}
+use Rattle.sm_core.proofs.JudgingLemmas.{due_for}
 use Rattle.sm_account.specs.History.{entries_in, by_seat}
 use Rattle.sm_account.specs.Outcome.{Outcome, unless_malformed, unless_denied, considered, limit_passed, outcome_within, outcome_judged, Question, moment_at, entry_at, outcome}
 use Rattle.sm_account.specs.States.{Base, State, state_at}
@@ -61,13 +62,15 @@ outcome_follows : (base : Base) (history : List (ℕ × Mark)) (question : Quest
     → MayFollow base (entries_in history) entry
 outcome_follows base history question entry size is =
     let state = state_at base history in
-    let judged = judgement state.rows (moment_at state question) question.drawn question.request in
-    let denied = admission state.rows question.person (moment_at state question) question.request in
+    let moment = moment_at state question in
+    let judged = judgement_for state.rows question.person moment question.drawn question.request in
+    let denied = admission state.rows question.person moment question.request in
     let due = judged_due state (entry_at state question)
     (considered state.rows question.person (moment_at state question) question.drawn question.request) entry is in
     let formed = formed_due (forms_of question.request) (unless_denied denied judged) due.1 in
     subst (MayFollow base (entries_in history)) (sym due.0)
-    (omega arith, (size, formed.0, admitted_due denied judged formed.1))
+    (omega arith, (size, formed.0, due_for state.rows question.person moment question.drawn question.request
+    (admitted_due denied judged formed.1)))
 
 made_follows : (base : Base) (history : List (ℕ × Mark)) (request : Request) (told : Told) (answer : Answer)
     → AnswerAt base history request told answer
