@@ -14,7 +14,8 @@ no_flaw (Ok policy) h = refl
 no_flaw (Err flaw) h = cc
 
 -- a text that passes both may be the resource policy of a secret
-pub policy_passes : (text : List ℕ) → policy_form text ≡ None → policy_flaw text ≡ None → IsTrue (is_resource_policy text)
-policy_passes text form flaw =
-    and_from (has_policy_length text) (is_policy text) (passes (has_policy_length text) _ form)
-    (no_flaw (policy_of text) flaw)
+pub policy_passes : (t : List ℕ) → policy_form t ≡ None → policy_flaw t ≡ None → IsTrue (is_resource_policy t)
+unfolding is_policy is_resource_policy
+policy_passes t form flaw =
+    and_from (has_policy_length t) (is_policy t) (passes (has_policy_length t) _ form)
+    (no_flaw (policy_of t) flaw)

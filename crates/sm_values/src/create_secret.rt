@@ -145,7 +145,11 @@ fn judge_call(
     ensures { IfOk result (λ judged. judged ≡ create_judged table.now moment call) }
 {
     match table.find_name(&call.names.name, moment) {
-        Some(row) => create_unless_scheduled(alloc, row, &call),
+        Some(row) => {
+            let judged = create_unless_scheduled(alloc, row, &call);
+            drop(call);
+            judged
+        }
         None => create_new(alloc, table, moment, call),
     }
 }
