@@ -1,39 +1,35 @@
 -- What holds of the rows after each entry of a legal history.
-use Rattle.std.proofs.Common.{ℕ, ◌≤◌, List, [], ◌∷◌, Some, None, subst}
+use Rattle.std.proofs.Common.{ℕ, ◌≤◌, List, [], ◌∷◌, Option, Some, None, subst}
 use Rattle.sm_base.specs.declared.moment.Moment.{Moment}
 use Rattle.sm_base.specs.declared.moment.TheConstants.{LAST_READING}
 use Rattle.sm_model.specs.declared.entry.Act.{Act}
-use Rattle.sm_model.specs.declared.entry.Act.TheVariants.{Asked, Begun, Reported}
+use Rattle.sm_model.specs.declared.entry.Change.{Change}
 use Rattle.sm_model.specs.declared.entry.Entry.{Entry}
 use Rattle.sm_model.specs.declared.rows.Rows.{Rows}
 use Rattle.sm_table.specs.Sound.{Sound}
 use Rattle.sm_table.specs.Sweep.{sweep}
 use Rattle.sm_table.proofs.SoundLaws.{commit_sound}
-use Rattle.sm_judging.specs.declared.judged.Judged.{Judged}
-use Rattle.sm_judging.specs.declared.judged.Judged.TheVariants.{Accept, Refuse, Memory}
 use Rattle.sm_judging.specs.Changes.{settled, IsChange}
-use Rattle.sm_judging.specs.Judged.{IfChange}
+use Rattle.sm_rotations.proofs.ActLemmas.{Agrees}
 use Rattle.sm_core.specs.Effects.{act_effect, effect}
-use Rattle.sm_core.specs.Histories.{replay, IsDue, LegalAct, Legal, InTime}
-use Rattle.sm_core.specs.Judging.{judgement}
-use Rattle.sm_core.proofs.JudgingLemmas.{change_is_entry}
+use Rattle.sm_core.specs.Histories.{replay, LegalAct, Legal, InTime}
+use Rattle.sm_core.specs.Replaying.{replayed_act}
+use Rattle.sm_core.proofs.ReplayLemmas.{act_agrees}
 
-due_keeps : (rows after : Rows) (moment : Moment) (judged : Judged) → Sound rows → IsDue judged
-    → IfChange judged (IsChange rows moment after)
-    → Sound after
-due_keeps rows after moment (Accept reply (Some change)) sound due is =
+-- the change of a legal act leaves sound rows
+agreed_keeps : (rows after : Rows) (moment : Moment) (L : Type 0) (change : Option Change) → Sound rows
+    → Agrees L (IsChange rows moment after) change → L → Sound after
+agreed_keeps rows after moment L None sound agrees legal = absurd (agrees legal)
+agreed_keeps rows after moment L (Some change) sound agrees legal =
+    let is = agrees.1 in
     subst Sound is.makes (commit_sound rows moment change is.can is.stands sound is.sound)
-due_keeps rows after moment (Accept reply None) sound due is = absurd (cc)
-due_keeps rows after moment (Refuse why) sound due is = absurd due
-due_keeps rows after moment Memory sound due is = absurd due
 
-act_keeps : (rows : Rows) (moment : Moment) (drawn : List ℕ) (act : Act) → Sound rows → moment.0 ≤ LAST_READING
+pub act_keeps : (rows : Rows) (moment : Moment) (drawn : List ℕ) (act : Act) → Sound rows → moment.0 ≤ LAST_READING
     → LegalAct rows moment drawn act → Sound (settled (act_effect (sweep rows moment) moment drawn act))
-act_keeps rows moment drawn (Asked request) sound early legal =
-    due_keeps rows _ moment (judgement rows moment drawn request) sound legal.2
-    (change_is_entry rows moment [] drawn request sound early legal.1 legal.0)
-act_keeps rows moment drawn (Begun arn) sound early legal = absurd legal
-act_keeps rows moment drawn (Reported arn at answer) sound early legal = absurd legal
+act_keeps rows moment drawn act sound early legal =
+    agreed_keeps rows (settled (act_effect (sweep rows moment) moment drawn act)) moment
+    (LegalAct rows moment drawn act) (replayed_act rows moment drawn act) sound
+    (act_agrees rows moment drawn act sound early) legal
 
 -- a legal entry leaves the rows sound, and so does a legal history
 pub legal_keeps : (rows : Rows) → (before : Moment) → (entries : List Entry) → Sound rows → Legal rows before entries

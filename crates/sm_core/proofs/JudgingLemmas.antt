@@ -30,6 +30,8 @@ use Rattle.sm_lists.proofs.BatchGetSecretValueLemmas.{batch_refuses, batch_reads
 use Rattle.sm_lists.proofs.GetRandomPasswordLemmas.{password_refuses, password_reads}
 use Rattle.sm_lists.proofs.ListSecretVersionIdsLemmas.{versions_refuses, versions_reads, versions_change}
 use Rattle.sm_lists.proofs.ListSecretsLemmas.{list_refuses, list_reads}
+use Rattle.sm_rotations.proofs.CancelRotateSecretLemmas.{cancel_refuses, cancel_changes, cancel_change}
+use Rattle.sm_rotations.proofs.RotateSecretLemmas.{rotate_refuses, rotate_repeats, rotate_change}
 use Rattle.sm_upkeep.specs.DeleteSecret.{delete_judgement, deletes_nobody}
 use Rattle.sm_upkeep.proofs.DeleteSecretLemmas.{delete_refuses, delete_changes, delete_change}
 use Rattle.sm_upkeep.proofs.RestoreSecretLemmas.{restore_refuses, restore_changes, restore_change}
@@ -55,11 +57,11 @@ is_refused rows moment drawn (requests.TagResource tag) = tag_refuses rows momen
 is_refused rows moment drawn (requests.UntagResource untag) = untag_refuses rows moment untag
 is_refused rows moment drawn (requests.UpdateSecret update) = update_refuses rows moment drawn update
 is_refused rows moment drawn (requests.UpdateSecretVersionStage update) = move_refuses rows moment update
-is_refused rows moment drawn (requests.CancelRotateSecret r) = refl
+is_refused rows moment drawn (requests.CancelRotateSecret cancel) = cancel_refuses rows moment cancel
 is_refused rows moment drawn (requests.DeleteResourcePolicy r) = refl
 is_refused rows moment drawn (requests.GetResourcePolicy r) = refl
 is_refused rows moment drawn (requests.PutResourcePolicy r) = refl
-is_refused rows moment drawn (requests.RotateSecret r) = refl
+is_refused rows moment drawn (requests.RotateSecret rotate) = rotate_refuses rows moment drawn rotate
 is_refused rows moment drawn (requests.ValidateResourcePolicy r) = refl
 
 -- a deletion has no repeat
@@ -87,15 +89,15 @@ is_unchanged rows moment drawn (requests.TagResource tag) = tag_changes rows mom
 is_unchanged rows moment drawn (requests.UntagResource untag) = untag_changes rows moment untag
 is_unchanged rows moment drawn (requests.UpdateSecret update) = update_repeats rows moment drawn update
 is_unchanged rows moment drawn (requests.UpdateSecretVersionStage update) = move_changes rows moment update
-is_unchanged rows moment drawn (requests.CancelRotateSecret r) = tt
+is_unchanged rows moment drawn (requests.CancelRotateSecret cancel) = cancel_changes rows moment cancel
 is_unchanged rows moment drawn (requests.DeleteResourcePolicy r) = tt
 is_unchanged rows moment drawn (requests.GetResourcePolicy r) = tt
 is_unchanged rows moment drawn (requests.PutResourcePolicy r) = tt
-is_unchanged rows moment drawn (requests.RotateSecret r) = tt
+is_unchanged rows moment drawn (requests.RotateSecret rotate) = rotate_repeats rows moment drawn rotate
 is_unchanged rows moment drawn (requests.ValidateResourcePolicy r) = tt
 
 -- a moment that a clock can give is a date that a secret may keep
-is_kept_date : (moment : Moment) → moment.0 ≤ LAST_READING → IsTrue (is_date moment)
+pub is_kept_date : (moment : Moment) → moment.0 ≤ LAST_READING → IsTrue (is_date moment)
 is_kept_date moment h = grind (arith, nat_tests, h)
 
 least : (create : CreateSecret) (n : ℕ) → n ≡ needed (requests.CreateSecret create)
@@ -133,11 +135,13 @@ change_is_entry rows moment key drawn (requests.UpdateSecret update) sound early
     update_change rows moment drawn update sound (is_kept_date moment early) forms
 change_is_entry rows moment key drawn (requests.UpdateSecretVersionStage update) sound early forms room =
     move_change rows moment update sound (is_kept_date moment early)
-change_is_entry rows moment key drawn (requests.CancelRotateSecret r) sound early forms room = tt
+change_is_entry rows moment key drawn (requests.CancelRotateSecret cancel) sound early forms room =
+    cancel_change rows moment cancel sound (is_kept_date moment early)
 change_is_entry rows moment key drawn (requests.DeleteResourcePolicy r) sound early forms room = tt
 change_is_entry rows moment key drawn (requests.GetResourcePolicy r) sound early forms room = tt
 change_is_entry rows moment key drawn (requests.PutResourcePolicy r) sound early forms room = tt
-change_is_entry rows moment key drawn (requests.RotateSecret r) sound early forms room = tt
+change_is_entry rows moment key drawn (requests.RotateSecret rotate) sound early forms room =
+    rotate_change rows moment drawn rotate sound early (is_kept_date moment early) forms
 change_is_entry rows moment key drawn (requests.ValidateResourcePolicy r) sound early forms room = tt
 
 -- no request is judged as want of memory

@@ -1,3 +1,5 @@
 pub mod JudgingLemmas
 pub mod HistoryLemmas
 pub mod ReplayLemmas
+pub mod VouchedRowLemmas
+pub mod VouchedLemmas

@@ -18,18 +18,17 @@ use Rattle.sm_judging.specs.declared.judged.Judged.{Judged}
 use Rattle.sm_judging.specs.declared.judged.Judged.TheVariants as judged
 use Rattle.sm_judging.specs.Changes.{settled, IsChange}
 use Rattle.sm_judging.specs.Judged.{IfChange}
+use Rattle.sm_rotations.specs.Reported.{reported_change, MayReport}
+use Rattle.sm_rotations.proofs.ActLemmas.{Agrees, with_bytes}
+use Rattle.sm_rotations.proofs.BegunLemmas.{begun_agrees}
+use Rattle.sm_rotations.proofs.ReportedLemmas.{reported_agrees}
 use Rattle.sm_core.specs.declared.replaying.Replayed.{Replayed}
 use Rattle.sm_core.specs.declared.replaying.Replayed.TheVariants.{Accept, Refuse, Memory}
 use Rattle.sm_core.specs.Effects.{act_effect, effect}
 use Rattle.sm_core.specs.Histories.{IsDue, LegalAct}
 use Rattle.sm_core.specs.Judging.{judgement}
 use Rattle.sm_core.specs.Replaying.{again_told, IfReplayed, AsLegal, change_of, change_unless, replayed_act, replayed}
-use Rattle.sm_core.proofs.JudgingLemmas.{change_is_entry}
-
--- there is a change exactly where the entry is legal, and it is the entry's
-abbrev Agrees : Type 0 → (Change → Type 0) → Option Change → Type 0
-Agrees L P None = L → ⊥
-Agrees L P (Some change) = L × P change
+use Rattle.sm_core.proofs.JudgingLemmas.{is_kept_date, change_is_entry}
 
 -- the change of what is judged
 judged_agrees : (judged : Judged) (P : Change → Type 0) → IfChange judged P → Agrees (IsDue judged) P (change_of judged)
@@ -48,7 +47,8 @@ request_agrees n m true None L P (Some change) e h =
 request_agrees n m true (Some why) L P change e h = λ legal. absurd (let f : Some why ≡ None = legal.1 in cc)
 request_agrees n m false forms L P change e h = λ legal. absurd (grind (arith, nat_tests, e, legal.0))
 
-act_agrees : (rows : Rows) (moment : Moment) (drawn : List ℕ) (act : Act) → Sound rows → moment.0 ≤ LAST_READING
+-- there is a change exactly where the act is legal, and it is the entry's
+pub act_agrees : (rows : Rows) (moment : Moment) (drawn : List ℕ) (act : Act) → Sound rows → moment.0 ≤ LAST_READING
     → Agrees (LegalAct rows moment drawn act) (IsChange rows moment
     (settled (act_effect (sweep rows moment) moment drawn act)))
     (replayed_act rows moment drawn act)
@@ -57,8 +57,12 @@ act_agrees rows moment drawn (Asked request) sound early =
     (IsDue (judgement rows moment drawn request)) _ (change_of (judgement rows moment drawn request)) refl
     (λ room forms. judged_agrees (judgement rows moment drawn request) _
     (change_is_entry rows moment [] drawn request sound early forms room))
-act_agrees rows moment drawn (Begun arn) sound early = λ legal. legal
-act_agrees rows moment drawn (Reported arn at answer) sound early = λ legal. legal
+act_agrees rows moment drawn (Begun arn) sound early =
+    begun_agrees rows moment drawn arn sound early (is_kept_date moment early)
+act_agrees rows moment drawn (Reported arn at answer) sound early =
+    with_bytes (length drawn) 0 (nat_eq (length drawn) 0) (MayReport rows moment arn at) _
+    (reported_change rows moment arn at answer) refl
+    (reported_agrees rows moment arn at answer sound early (is_kept_date moment early))
 
 -- all that is said of an entry that is judged again
 pub record IsReplayed (rows : Rows) (entry : Entry) (result : Replayed) : Type 0 where

@@ -15,6 +15,10 @@ use Rattle.sm_values.specs.CreateSecret.{create_effect}
 use Rattle.sm_values.specs.PutSecretValue.{put_effect}
 use Rattle.sm_values.specs.UpdateSecret.{update_effect}
 use Rattle.sm_labels.specs.UpdateSecretVersionStage.{move_effect}
+use Rattle.sm_rotations.specs.Begun.{begun_effect}
+use Rattle.sm_rotations.specs.CancelRotateSecret.{cancel_effect}
+use Rattle.sm_rotations.specs.Reported.{reported_effect}
+use Rattle.sm_rotations.specs.RotateSecret.{rotate_effect}
 use Rattle.sm_upkeep.specs.DeleteSecret.{delete_effect}
 use Rattle.sm_upkeep.specs.RestoreSecret.{restore_effect}
 use Rattle.sm_upkeep.specs.TagResource.{tag_effect}
@@ -31,7 +35,7 @@ request_effect rows moment drawn (requests.UntagResource untag) = untag_effect r
 request_effect rows moment drawn (requests.UpdateSecret update) = update_effect rows moment drawn update
 request_effect rows moment drawn (requests.UpdateSecretVersionStage update) = move_effect rows moment update
 request_effect rows moment drawn (requests.BatchGetSecretValue r) = rows
-request_effect rows moment drawn (requests.CancelRotateSecret r) = rows
+request_effect rows moment drawn (requests.CancelRotateSecret cancel) = cancel_effect rows moment cancel
 request_effect rows moment drawn (requests.DeleteResourcePolicy r) = rows
 request_effect rows moment drawn (requests.DescribeSecret r) = rows
 request_effect rows moment drawn (requests.GetRandomPassword r) = rows
@@ -40,13 +44,13 @@ request_effect rows moment drawn (requests.GetSecretValue r) = rows
 request_effect rows moment drawn (requests.ListSecretVersionIds r) = rows
 request_effect rows moment drawn (requests.ListSecrets r) = rows
 request_effect rows moment drawn (requests.PutResourcePolicy r) = rows
-request_effect rows moment drawn (requests.RotateSecret r) = rows
+request_effect rows moment drawn (requests.RotateSecret rotate) = rotate_effect rows moment drawn rotate
 request_effect rows moment drawn (requests.ValidateResourcePolicy r) = rows
 
 abbrev pub act_effect : Rows → Moment → List ℕ → Act → Rows
 act_effect rows moment drawn (Asked request) = request_effect rows moment drawn request
-act_effect rows moment drawn (Begun arn) = rows
-act_effect rows moment drawn (Reported arn at answer) = rows
+act_effect rows moment drawn (Begun arn) = begun_effect rows moment drawn arn
+act_effect rows moment drawn (Reported arn at answer) = reported_effect rows moment arn answer
 
 -- the rows after an entry: those that are still there at its moment, changed, and then every row settled
 abbrev pub effect : Rows → Entry → Rows

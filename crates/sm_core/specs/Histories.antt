@@ -11,6 +11,8 @@ use Rattle.sm_table.specs.Sound.{Sound}
 use Rattle.sm_forms.specs.Forms.{forms_of}
 use Rattle.sm_judging.specs.declared.judged.Judged.{Judged}
 use Rattle.sm_judging.specs.declared.judged.Judged.TheVariants.{Accept, Refuse, Memory}
+use Rattle.sm_rotations.specs.Begun.{MayBegin}
+use Rattle.sm_rotations.specs.Reported.{MayReport}
 use Rattle.sm_core.specs.Judging.{judgement}
 use Rattle.sm_core.specs.Effects.{effect}
 
@@ -43,12 +45,13 @@ IsDue (Refuse why) = ⊥
 IsDue Memory = ⊥
 
 -- An entry of a request is legal at rows where the request has as many random bytes as it needs, its forms and all
--- tests pass, and it is no repeat. Entries of rotations are not built.
+-- tests pass, and it is no repeat. The start of a rotation is legal where one is due for the token of its random bytes,
+-- and an answer to a step, which has no random bytes, where the secret's job is at that step.
 abbrev pub LegalAct : Rows → Moment → List ℕ → Act → Type 0
 LegalAct rows moment drawn (Asked request) =
     (length drawn ≡ needed request) × (forms_of request ≡ None) × IsDue (judgement rows moment drawn request)
-LegalAct rows moment drawn (Begun arn) = ⊥
-LegalAct rows moment drawn (Reported arn at answer) = ⊥
+LegalAct rows moment drawn (Begun arn) = MayBegin rows moment drawn arn
+LegalAct rows moment drawn (Reported arn at answer) = (length drawn ≡ 0) × MayReport rows moment arn at
 
 -- each entry's moment is at least that of the one before it, and each is legal at the rows of those before it
 abbrev pub Legal : Rows → Moment → List Entry → Type 0

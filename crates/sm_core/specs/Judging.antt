@@ -19,6 +19,8 @@ use Rattle.sm_lists.specs.BatchGetSecretValue.{batch_judgement, batch_refusal}
 use Rattle.sm_lists.specs.GetRandomPassword.{password_judgement, password_refusal}
 use Rattle.sm_lists.specs.ListSecretVersionIds.{versions_judgement, versions_refusal}
 use Rattle.sm_lists.specs.ListSecrets.{list_judgement, list_refusal}
+use Rattle.sm_rotations.specs.CancelRotateSecret.{cancel_judgement, cancel_refusal}
+use Rattle.sm_rotations.specs.RotateSecret.{rotate_judgement, rotate_refusal, rotate_repeat}
 use Rattle.sm_upkeep.specs.DeleteSecret.{delete_judgement, delete_refusal, deletes_nobody}
 use Rattle.sm_upkeep.specs.RestoreSecret.{restore_judgement, restore_refusal}
 use Rattle.sm_upkeep.specs.TagResource.{tag_judgement, tag_refusal}
@@ -40,11 +42,11 @@ judgement rows moment drawn (requests.TagResource tag) = tag_judgement rows mome
 judgement rows moment drawn (requests.UntagResource untag) = untag_judgement rows moment untag
 judgement rows moment drawn (requests.UpdateSecret update) = update_judgement rows moment drawn update
 judgement rows moment drawn (requests.UpdateSecretVersionStage update) = move_judgement rows moment update
-judgement rows moment drawn (requests.CancelRotateSecret r) = Refuse NotBuilt
+judgement rows moment drawn (requests.CancelRotateSecret cancel) = cancel_judgement rows moment cancel
 judgement rows moment drawn (requests.DeleteResourcePolicy r) = Refuse NotBuilt
 judgement rows moment drawn (requests.GetResourcePolicy r) = Refuse NotBuilt
 judgement rows moment drawn (requests.PutResourcePolicy r) = Refuse NotBuilt
-judgement rows moment drawn (requests.RotateSecret r) = Refuse NotBuilt
+judgement rows moment drawn (requests.RotateSecret rotate) = rotate_judgement rows moment drawn rotate
 judgement rows moment drawn (requests.ValidateResourcePolicy r) = Refuse NotBuilt
 
 -- the first test after the forms that fails, by the rows alone
@@ -63,11 +65,11 @@ refusal rows moment drawn (requests.TagResource tag) = tag_refusal rows moment t
 refusal rows moment drawn (requests.UntagResource untag) = untag_refusal rows moment untag
 refusal rows moment drawn (requests.UpdateSecret update) = update_refusal rows moment drawn update
 refusal rows moment drawn (requests.UpdateSecretVersionStage update) = move_refusal rows moment update
-refusal rows moment drawn (requests.CancelRotateSecret r) = Some NotBuilt
+refusal rows moment drawn (requests.CancelRotateSecret cancel) = cancel_refusal rows moment cancel
 refusal rows moment drawn (requests.DeleteResourcePolicy r) = Some NotBuilt
 refusal rows moment drawn (requests.GetResourcePolicy r) = Some NotBuilt
 refusal rows moment drawn (requests.PutResourcePolicy r) = Some NotBuilt
-refusal rows moment drawn (requests.RotateSecret r) = Some NotBuilt
+refusal rows moment drawn (requests.RotateSecret rotate) = rotate_refusal rows moment drawn rotate
 refusal rows moment drawn (requests.ValidateResourcePolicy r) = Some NotBuilt
 
 -- what was carried out before, with the same token
@@ -87,7 +89,7 @@ repeat rows moment drawn (requests.ListSecretVersionIds r) = false
 repeat rows moment drawn (requests.ListSecrets r) = false
 repeat rows moment drawn (requests.PutResourcePolicy r) = false
 repeat rows moment drawn (requests.RestoreSecret r) = false
-repeat rows moment drawn (requests.RotateSecret r) = false
+repeat rows moment drawn (requests.RotateSecret rotate) = rotate_repeat rows moment drawn rotate
 repeat rows moment drawn (requests.TagResource r) = false
 repeat rows moment drawn (requests.UntagResource r) = false
 repeat rows moment drawn (requests.UpdateSecretVersionStage r) = false

@@ -2,4 +2,5 @@ pub mod Admission
 pub mod Judging
 pub mod Effects
 pub mod Histories
+pub mod Vouching
 pub mod Replaying

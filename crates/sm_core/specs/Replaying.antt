@@ -12,6 +12,8 @@ use Rattle.sm_model.specs.Needed.{needed}
 use Rattle.sm_forms.specs.Forms.{forms_of}
 use Rattle.sm_judging.specs.declared.judged.Judged.{Judged}
 use Rattle.sm_judging.specs.declared.judged.Judged.TheVariants as judged
+use Rattle.sm_rotations.specs.Begun.{begun_change}
+use Rattle.sm_rotations.specs.Reported.{reported_change}
 use Rattle.sm_core.specs.declared.replaying.Replayed.{Replayed}
 use Rattle.sm_core.specs.declared.replaying.Replayed.TheVariants.{Accept, Refuse, Memory}
 use Rattle.sm_core.specs.Judging.{judgement}
@@ -54,8 +56,9 @@ replayed_request rows moment drawn request =
 
 abbrev pub replayed_act : Rows → Moment → List ℕ → Act → Option Change
 replayed_act rows moment drawn (Asked request) = replayed_request rows moment drawn request
-replayed_act rows moment drawn (Begun arn) = None
-replayed_act rows moment drawn (Reported arn at answer) = None
+replayed_act rows moment drawn (Begun arn) = begun_change rows moment drawn arn
+replayed_act rows moment drawn (Reported arn at answer) =
+    if nat_eq (length drawn) 0 then reported_change rows moment arn at answer else None
 
 -- the change of an entry, where it is legal at the rows
 abbrev pub replayed : Rows → Entry → Option Change

@@ -1,7 +1,14 @@
 //! Laws of histories.
 ghost use Rattle.sm_core.specs.Histories.{LegalKeepsSound};
+ghost use Rattle.sm_core.specs.Vouching.{LegalKeepsVouched};
 
 /// The law that sound rows stay sound along a legal history whose moments a clock can give.
 pub fn keep_sound_along_histories()
     ensures { LegalKeepsSound }
+{}
+
+/// The law that a version which a rotation made current was accepted by its test, along a legal history whose answers
+/// to tests are the rotator's: vouched rows stay vouched.
+pub fn keep_vouched_along_histories()
+    ensures { LegalKeepsVouched }
 {}

@@ -18,6 +18,8 @@ use sm_lists::get_random_password::judge_password;
 use sm_lists::list_secret_version_ids::judge_versions;
 use sm_lists::list_secrets::judge_list;
 use sm_model::{Moment, NoMemory, Person, Request, Why};
+use sm_rotations::cancel_rotate_secret::judge_cancel;
+use sm_rotations::rotate_secret::judge_rotate;
 use sm_table::Table;
 use sm_upkeep::delete_secret::judge_delete;
 use sm_upkeep::restore_secret::judge_restore;
@@ -81,6 +83,7 @@ pub fn judge_exactly(
 {
     match request {
         Request::BatchGetSecretValue(batch) => judge_batch(alloc, table, moment, batch),
+        Request::CancelRotateSecret(cancel) => judge_cancel(alloc, table, moment, cancel),
         Request::CreateSecret(create) => judge_create(alloc, table, moment, drawn, create),
         Request::DeleteSecret(delete) => judge_delete(alloc, table, moment, delete),
         Request::DescribeSecret(describe) => judge_describe(alloc, table, moment, describe),
@@ -90,15 +93,14 @@ pub fn judge_exactly(
         Request::ListSecrets(list) => judge_list(alloc, table, moment, list),
         Request::PutSecretValue(put) => judge_put(alloc, table, moment, drawn, put),
         Request::RestoreSecret(restore) => judge_restore(alloc, table, moment, restore),
+        Request::RotateSecret(rotate) => judge_rotate(alloc, table, moment, drawn, rotate),
         Request::TagResource(tag) => judge_tag(alloc, table, moment, tag),
         Request::UntagResource(untag) => judge_untag(alloc, table, moment, untag),
         Request::UpdateSecret(update) => judge_update(alloc, table, moment, drawn, update),
         Request::UpdateSecretVersionStage(update) => judge_move(alloc, table, moment, update),
-        Request::CancelRotateSecret(_)
-        | Request::DeleteResourcePolicy(_)
+        Request::DeleteResourcePolicy(_)
         | Request::GetResourcePolicy(_)
         | Request::PutResourcePolicy(_)
-        | Request::RotateSecret(_)
         | Request::ValidateResourcePolicy(_) => Ok(Judged::Refuse(Why::NotBuilt)),
     }
 }

@@ -5,6 +5,8 @@ ghost use Rattle.sm_base.specs.declared.moment.TheConstants.{LAST_READING};
 ghost use Rattle.sm_core.specs.Effects.{Makes};
 ghost use Rattle.sm_core.specs.Histories.{LegalAct};
 ghost use Rattle.sm_core.specs.Replaying.{again_told, IfReplayed, AsLegal, change_of, replayed_request, replayed};
+ghost use Rattle.sm_rotations.specs.Begun.{begun_change};
+ghost use Rattle.sm_rotations.specs.Reported.{reported_change};
 ghost use Rattle.sm_table.specs.Changes.{CanMake, StandsAt};
 ghost use Rattle.sm_table.specs.Sound.{ChangeSound, Sound};
 ghost use Rattle.sm_table.specs.Sweep.{sweep};
@@ -12,7 +14,9 @@ ghost use Rattle.sm_table.specs.Sweep.{sweep};
 use crate::judging::judge_exactly;
 use sm_forms::forms;
 use sm_judging::Judged;
-use sm_model::{Act, Change, Entry, Moment, NoMemory, Request, Why, need};
+use sm_model::{Act, Answer, Arn, At, Change, Entry, Moment, NoMemory, Request, Why, need};
+use sm_rotations::begun::judge_begun;
+use sm_rotations::reported::judge_reported;
 use sm_table::Table;
 use std::alloc::Global;
 
@@ -43,17 +47,23 @@ pub fn again(alloc: Global, table: &Table, entry: &Entry) -> Replayed
     replay_entry(alloc, table, entry)
 }
 
-/// Judges an entry again, also on rows of which nothing is known.
-pub fn replay_entry(alloc: Global, table: &Table, entry: &Entry) -> Replayed
-    requires { entry.now.moment.0 ≤ LAST_READING }
+/// The same as `again`.
+fn replay_entry(alloc: Global, table: &Table, entry: &Entry) -> Replayed
+    requires sound { Sound table.now }
+    requires moment { entry.now.moment.0 ≤ LAST_READING }
     ensures { OrMemory (again_told result) (replayed table.now entry.now) }
 {
     match &entry.act {
         Act::Asked(request) => {
             replay_request(alloc, table, entry.moment, entry.drawn.as_slice(), request)
         }
-        Act::Begun(_) => Replayed::Refuse,
-        Act::Reported(_, _, _) => Replayed::Refuse,
+        Act::Begun(arn) => { replay_begun(alloc, table, entry.moment, entry.drawn.as_slice(), arn) }
+        Act::Reported(arn, at, answer) => {
+            if entry.drawn.len() != 0 {
+                return Replayed::Refuse;
+            }
+            replay_reported(alloc, table, entry.moment, arn, at, answer)
+        }
     }
 }
 
@@ -78,6 +88,36 @@ fn replay_request(
             Ok(judged) => replay_judged(judged),
             Err(NoMemory) => Replayed::Memory,
         },
+    }
+}
+
+/// Judges the start of a due rotation again.
+fn replay_begun(alloc: Global, table: &Table, moment: Moment, drawn: &[u8], arn: &Arn) -> Replayed
+    requires { moment.0 ≤ LAST_READING }
+    ensures { OrMemory (again_told result) (begun_change table.now moment drawn.now arn.now) }
+{
+    match judge_begun(alloc, table, moment, drawn, arn) {
+        Ok(change) => replay_change(change),
+        Err(NoMemory) => Replayed::Memory,
+    }
+}
+
+/// Judges an answer to a step of a rotation again.
+fn replay_reported(
+    alloc: Global,
+    table: &Table,
+    moment: Moment,
+    arn: &Arn,
+    at: &At,
+    answer: &Answer,
+) -> Replayed
+    requires sound { Sound table.now }
+    requires moment { moment.0 ≤ LAST_READING }
+    ensures { OrMemory (again_told result) (reported_change table.now moment arn.now at.now answer.now) }
+{
+    match judge_reported(alloc, table, moment, arn, at, answer) {
+        Ok(change) => replay_change(change),
+        Err(NoMemory) => Replayed::Memory,
     }
 }
 
