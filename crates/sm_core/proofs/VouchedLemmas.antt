@@ -105,12 +105,12 @@ create_vouched replies rows moment drawn create vouched =
 -- a value that is put where an entry is due was not there
 due_added : (done : PutDone) (after : SecretRow) (token : List ℕ) (accept : SecretRow → Judged) (repeat : Judged)
     → (IsDue repeat → ⊥) → IsDue (judged_by (placed_by done after token) accept repeat) → done ≡ puts.Added
-due_added puts.Added after token accept repeat no due = refl
-due_added (puts.Same labels) after token accept repeat no due = absurd (no due)
-due_added puts.Exists after token accept repeat no due = absurd due
-due_added (puts.TooMany limit) after token accept repeat no due = absurd due
-due_added (puts.TooManyLabels limit) after token accept repeat no due = absurd due
-due_added puts.Memory after token accept repeat no due = absurd due
+due_added puts.Added after token accept repeat never due = refl
+due_added (puts.Same labels) after token accept repeat never due = absurd (never due)
+due_added puts.Exists after token accept repeat never due = absurd due
+due_added (puts.TooMany limit) after token accept repeat never due = absurd due
+due_added (puts.TooManyLabels limit) after token accept repeat never due = absurd due
+due_added puts.Memory after token accept repeat never due = absurd due
 
 no_change_due : IsSome {T = Change} None → ⊥
 no_change_due due = cc
@@ -140,12 +140,12 @@ with_value_vouched : (replies : Replies) (row : SecretRow) (moment : Moment) (va
     (accept : SecretRow → Judged) (repeat : Judged) → (IsDue repeat → ⊥)
     → IsDue (judged_by (update_placed value row moment) accept repeat) → CurrentKept row → RowVouched replies row
     → RowVouched replies (with_value value moment row)
-with_value_vouched replies row moment None accept repeat no due kept h = h
-with_value_vouched replies row moment (Some new) accept repeat no due kept h =
+with_value_vouched replies row moment None accept repeat never due kept h = h
+with_value_vouched replies row moment (Some new) accept repeat never due kept h =
     let labels : List (List ℕ) = aws_current ∷ [] in
     put_vouched replies row new.token new.value labels moment
     (due_added (put_answer row new.token new.value labels) (put_row row new.token new.value labels moment) new.token
-    accept repeat no due)
+    accept repeat never due)
     kept h
 
 update_on_vouched : (replies : Replies) (row : SecretRow) (moment : Moment) (call : UpdateCall)

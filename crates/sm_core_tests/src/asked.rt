@@ -15,11 +15,11 @@ pub fn column(row: &str, index: usize) -> &str {
 }
 
 /// The word of a text, counted from 0.
-fn word(text: &str, index: usize) -> &str {
+pub fn word(text: &str, index: usize) -> &str {
     text.split_whitespace().nth(index).unwrap_or(".")
 }
 
-fn given(alloc: Global, text: &str) -> Result<Option<Text>, Fail> {
+pub fn given(alloc: Global, text: &str) -> Result<Option<Text>, Fail> {
     if text == "." {
         return Ok(None);
     }
@@ -27,7 +27,7 @@ fn given(alloc: Global, text: &str) -> Result<Option<Text>, Fail> {
 }
 
 /// A token of 32 digits for a number, or one that is too short.
-fn token(alloc: Global, text: &str) -> Result<Option<Text>, Fail> {
+pub fn token(alloc: Global, text: &str) -> Result<Option<Text>, Fail> {
     if text == "." || text == "short" {
         return given(alloc, text);
     }
@@ -40,7 +40,7 @@ fn token(alloc: Global, text: &str) -> Result<Option<Text>, Fail> {
 }
 
 /// A name, or for a text with a hyphen the ARN that ends so.
-fn secret_id(alloc: Global, text: &str) -> Result<Text, Fail> {
+pub fn secret_id(alloc: Global, text: &str) -> Result<Text, Fail> {
     let mut id = String::new(alloc);
     if text.contains("-") {
         id.push_str(BEGINNING)?;
@@ -81,7 +81,7 @@ fn repeated(alloc: Global, character: &str, count: &str) -> Result<String, Fail>
 }
 
 /// A text, of one character so many times where a star stands between them. `b:` begins a value of bytes.
-fn value(alloc: Global, text: &str) -> Result<Option<Text>, Fail> {
+pub fn value(alloc: Global, text: &str) -> Result<Option<Text>, Fail> {
     if text.starts_with("b:") {
         return Ok(None);
     }
@@ -284,7 +284,7 @@ fn filters(alloc: Global, text: &str) -> Result<Option<List<Filter>>, Fail> {
 }
 
 /// A number, where there is one.
-fn count(text: &str) -> Option<i64> {
+pub fn count(text: &str) -> Option<i64> {
     text.parse::<i64>().ok()
 }
 

@@ -4,6 +4,8 @@
 #[cfg(test)]
 mod asked;
 #[cfg(test)]
+mod rotations;
+#[cfg(test)]
 mod rows;
 #[cfg(test)]
 mod shown;

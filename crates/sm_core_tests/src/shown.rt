@@ -1,8 +1,9 @@
 //! What a request is answered, as a line says it.
 use sm_core::Judged;
 use sm_model::{
-    BatchError, Change, DeletedSecret, Described, GotSecret, Label, List, NamedSecret, PutValue,
-    Reply, SecretBatch, SecretPage, Text, Token, VersionItem, VersionPage, VersionedSecret, Why,
+    BatchError, Change, DeletedSecret, Described, GotSecret, Label, List, Moment, NamedSecret,
+    PutValue, Reply, SecretBatch, SecretPage, Text, Token, VersionItem, VersionPage,
+    VersionedSecret, Why,
 };
 use std::alloc::Global;
 use std::test::Fail;
@@ -39,11 +40,14 @@ fn why_text(alloc: Global, why: &Why) -> Result<String, Fail> {
             Ok(format!(in alloc; "scheduled at {date}")?)
         }
         Why::Differ => plain(alloc, "differ"),
+        Why::Pending(id) => id_text(alloc, "pending on", id),
+        Why::NoCurrent => plain(alloc, "no current"),
         Why::NoSecret => plain(alloc, "no secret"),
         Why::NoVersion => plain(alloc, "no version"),
         Why::NotThere(id) => id_text(alloc, "not there", id),
         Why::SecretExists(name) => text_text(alloc, "exists", name),
         Why::OtherValue(id) => id_text(alloc, "other value in", id),
+        Why::VersionExists(id) => id_text(alloc, "there is version", id),
         Why::Limit(most, what) => {
             let what = *what;
             Ok(format!(in alloc; "limit of {most} {what:?}")?)
@@ -134,6 +138,44 @@ fn push_lists(shown: &mut String, reply: &Described) -> Result<(), Fail> {
     Ok(())
 }
 
+fn push_date(
+    alloc: Global,
+    shown: &mut String,
+    what: &str,
+    date: Option<Moment>,
+) -> Result<(), Fail> {
+    if let Some(date) = date {
+        let date = date.0;
+        shown.push_str(format!(in alloc; " {what} {date}")?.as_str())?;
+    }
+    Ok(())
+}
+
+/// The days between two rotations, where some are kept.
+fn push_days(alloc: Global, shown: &mut String, reply: &Described) -> Result<(), Fail> {
+    if let Some(rules) = &reply.rotation_rules {
+        if let Some(days) = rules.days {
+            shown.push_str(format!(in alloc; " days {days}")?.as_str())?;
+        }
+    }
+    Ok(())
+}
+
+/// Whether the secret is rotated, by what, how often, when next and when it was.
+fn push_rotation(alloc: Global, shown: &mut String, reply: &Described) -> Result<(), Fail> {
+    if reply.rotation_enabled {
+        shown.push_str(" rotates")?;
+    }
+    if reply.rotation_lambda_arn.is_some() {
+        shown.push_str(" by")?;
+        push_given(shown, &reply.rotation_lambda_arn)?;
+    }
+    push_days(alloc, shown, reply)?;
+    push_date(alloc, shown, "next", reply.next_rotation_date)?;
+    push_date(alloc, shown, "last", reply.last_rotated_date)?;
+    Ok(())
+}
+
 /// The secret, its moments, the description and the key, the date of its deletion where there is one, and the lists.
 fn described_text(alloc: Global, reply: &Described) -> Result<String, Fail> {
     let mut shown = secret_text(alloc, &reply.arn, &reply.name)?;
@@ -146,6 +188,7 @@ fn described_text(alloc: Global, reply: &Described) -> Result<String, Fail> {
         shown.push_str(format!(in alloc; " deleted {date}")?.as_str())?;
     }
     push_lists(&mut shown, reply)?;
+    push_rotation(alloc, &mut shown, reply)?;
     Ok(shown)
 }
 
@@ -231,6 +274,7 @@ fn batch_text(alloc: Global, reply: &SecretBatch) -> Result<String, Fail> {
 fn reply_text(alloc: Global, reply: &Reply) -> Result<String, Fail> {
     match reply {
         Reply::BatchGetSecretValue(reply) => batch_text(alloc, reply),
+        Reply::CancelRotateSecret(reply) => created_text(alloc, reply),
         Reply::CreateSecret(reply) => created_text(alloc, reply),
         Reply::DeleteSecret(reply) => deleted_text(alloc, reply),
         Reply::DescribeSecret(reply) => described_text(alloc, reply),
@@ -240,6 +284,7 @@ fn reply_text(alloc: Global, reply: &Reply) -> Result<String, Fail> {
         Reply::ListSecrets(reply) => page_text(alloc, reply),
         Reply::PutSecretValue(reply) => put_text(alloc, reply),
         Reply::RestoreSecret(reply) => named_text(alloc, reply),
+        Reply::RotateSecret(reply) => created_text(alloc, reply),
         Reply::TagResource => plain(alloc, "tagged"),
         Reply::UntagResource => plain(alloc, "untagged"),
         Reply::UpdateSecret(reply) => created_text(alloc, reply),

@@ -443,7 +443,7 @@ fn answer_row(alloc: Global, secrets: &mut Secrets, row: &str) -> Result<String,
     answer_once(alloc, secrets, request(alloc, column(row, 1))?)
 }
 
-fn pairs_text(alloc: Global, row: &SecretRow) -> Result<String, Fail> {
+pub fn pairs_text(alloc: Global, row: &SecretRow) -> Result<String, Fail> {
     let mut shown = String::new(alloc);
     for pair in row.labels.as_slice() {
         shown.push_str(pair.label.as_text().as_str())?;
@@ -463,7 +463,7 @@ fn left_text(alloc: Global, table: &Table) -> Result<String, Fail> {
 }
 
 /// The name of the row, what came and what was wanted, where they differ in a column.
-fn difference(alloc: Global, row: &str, index: usize, came: &str) -> Result<String, Fail> {
+pub fn difference(alloc: Global, row: &str, index: usize, came: &str) -> Result<String, Fail> {
     let wanted = column(row, index);
     if came.trim() == wanted {
         return Ok(String::new(alloc));
@@ -502,7 +502,7 @@ fn judge_there(
     show_once(alloc, judge_exactly(alloc, table, moment, drawn, request)?)
 }
 
-fn answer_there(
+pub fn answer_there(
     alloc: Global,
     table: &Table,
     moment: Moment,
