@@ -1,5 +1,5 @@
 -- Judging a request: when it is refused, when it changes nothing, and what its change is.
-use Rattle.std.proofs.Common.{◌≡◌, ℕ, ◌≤◌, Bool, false, ◌||◌, List, length, Option, Some, None, is_none, IsSome, IsTrue, refl, sym, subst, arith}
+use Rattle.std.proofs.Common.{◌≡◌, ℕ, ◌≤◌, false, ◌||◌, List, length, Option, Some, None, is_none, IsSome, IsTrue, refl, sym, subst, arith}
 use Rattle.std.proofs.lemmas.Bool.Decides.{nat_tests}
 use Rattle.std.proofs.Math.Bool.{or-false}
 use Rattle.sm_base.specs.declared.moment.Moment.{Moment}

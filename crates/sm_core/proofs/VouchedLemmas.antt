@@ -1,7 +1,6 @@
 -- Vouched rows stay vouched along a legal history of allowed entries.
-use Rattle.std.proofs.Common.{◌≡◌, ℕ, ◌≤◌, Bool, true, false, cond, List, [], ◌∷◌, ◌++◌, Option, Some, None, IfSome, IsSome, refl, sym, subst}
+use Rattle.std.proofs.Common.{◌≡◌, ℕ, Bool, true, false, cond, List, [], ◌∷◌, ◌++◌, Option, Some, None, IfSome, IsSome, refl, subst}
 use Rattle.sm_base.specs.declared.moment.Moment.{Moment}
-use Rattle.sm_base.specs.declared.moment.TheConstants.{LAST_READING}
 use Rattle.sm_base.specs.declared.secret_id.SecretId.{SecretId}
 use Rattle.sm_base.specs.SecretId.{secret_id}
 use Rattle.sm_base.specs.Drawn.{drawn_token}
@@ -12,11 +11,9 @@ use Rattle.sm_model.specs.declared.entry.Change.{Change}
 use Rattle.sm_model.specs.declared.entry.Entry.{Entry}
 use Rattle.sm_model.specs.declared.request.CreateSecret.{CreateSecret}
 use Rattle.sm_model.specs.declared.request.DeleteSecret.{DeleteSecret}
-use Rattle.sm_model.specs.declared.request.RotateSecret.{RotateSecret}
 use Rattle.sm_model.specs.declared.request.UpdateSecret.{UpdateSecret}
 use Rattle.sm_model.specs.declared.request.Request.{Request}
 use Rattle.sm_model.specs.declared.request.Request.TheVariants as requests
-use Rattle.sm_model.specs.declared.rows.Job.{Job}
 use Rattle.sm_model.specs.declared.rows.Rows.{Rows}
 use Rattle.sm_model.specs.declared.rows.SecretRow.{SecretRow}
 use Rattle.sm_versions.specs.declared.values.PutDone.{PutDone}
@@ -27,7 +24,7 @@ use Rattle.sm_versions.specs.Kept.{CurrentKept}
 use Rattle.sm_dates.specs.Days.{days_after}
 use Rattle.sm_rotation.specs.Begin.{begin_row}
 use Rattle.sm_rotation.specs.Vouched.{Replies, RowVouched, AcceptsOnly}
-use Rattle.sm_rotation.proofs.AttemptLemmas.{SameAttempts, same_vouched, put_vouched}
+use Rattle.sm_rotation.proofs.AttemptLemmas.{same_vouched, put_vouched}
 use Rattle.sm_rotation.proofs.VouchedLemmas.{begin_vouched, applied_vouched}
 use Rattle.sm_table.specs.Sweep.{swept, sweep}
 use Rattle.sm_table.specs.Found.{found, found_arn}
@@ -35,7 +32,6 @@ use Rattle.sm_table.specs.Sound.{Sound}
 use Rattle.sm_table.proofs.FoundLaws.{found_is_row}
 use Rattle.sm_table.proofs.SoundLaws.{sound_rows_kept}
 use Rattle.sm_judging.specs.declared.judged.Judged.{Judged}
-use Rattle.sm_judging.specs.declared.judged.Judged.TheVariants.{Accept, Refuse, Memory}
 use Rattle.sm_judging.specs.Changes.{change_named, settled}
 use Rattle.sm_judging.specs.Secrets.{unless_scheduled, on_secret, finished_row}
 use Rattle.sm_values.specs.declared.create_secret.CreateCall.{CreateCall}
@@ -49,7 +45,6 @@ use Rattle.sm_values.specs.UpdateSecret.{update_call, redescribed, with_value, u
 use Rattle.sm_labels.specs.UpdateSecretVersionStage.{move_call, move_in}
 use Rattle.sm_rotations.specs.CancelRotateSecret.{cancelled}
 use Rattle.sm_rotations.specs.declared.rotate_secret.Plan.{Plan}
-use Rattle.sm_rotations.specs.Begun.{begun_effect}
 use Rattle.sm_rotations.specs.Reported.{answered, reported_effect}
 use Rattle.sm_rotations.specs.RotateSecret.{plan_of, token_to_start, turned_on_in, waits, rotates}
 use Rattle.sm_rotations.proofs.WholeArnLemmas.{arn_row_sound}

@@ -1,6 +1,6 @@
 -- That a version which a rotation made current was accepted by its test, along a history.
 -- AWS Secrets Manager User Guide: "Lambda rotation functions" (testSecret, finishSecret).
-use Rattle.std.specs.Prelude.{◌≡◌, ℕ, ⊤, List, [], ◌∷◌, Option, IfSome}
+use Rattle.std.specs.Prelude.{⊤, List, [], ◌∷◌, IfSome}
 use Rattle.sm_base.specs.declared.moment.Moment.{Moment}
 use Rattle.sm_model.specs.declared.entry.Act.{Act}
 use Rattle.sm_model.specs.declared.entry.Act.TheVariants.{Asked, Begun, Reported}
