@@ -18,8 +18,8 @@ use sm_model::NoMemory;
 use sm_rotator::{Rotator, Verdict, Work};
 
 /// Does one step of a rotation that is ready: reads the clock, claims the step, asks the rotator, reads the clock again
-/// and reports the answer. Where none is ready, and some rotation is due, it draws the random bytes of a token, reads the
-/// clock again and starts the first that is due for it.
+/// and reports the answer. Where none is ready, and some rotation is due, it draws the random bytes of a token, reads
+/// the clock again and starts the first that is due for it.
 pub fn one_turn<C: Clock, W: Words, D: Disk, R: Rotator>(
     account: &mut Account<D, R>,
     seat: u32,
