@@ -22,21 +22,21 @@ enter_due-requires g c =
     let books = c.args.books.now in
     let mid = c.grow.new.books in
     record {
-      kept = room_kept books mid c.in_ok-due-in-Accept.ensures.same c.requires.kept;
-      due = limits_aside books mid c.in_ok-due-in-Accept.ensures.same c.args.entry c.in-Accept.change
-          c.in_ok-due-in-Accept.due c.in_ok-due-in-Accept.ensures.grown c.in-Accept.ensures.can
+      kept = room_kept books mid c.in-Ok.ensures.same c.requires.kept;
+      due = limits_aside books mid c.in-Ok.ensures.same c.args.entry c.in-Accept.change
+          c.in-Ok.due c.in-Ok.ensures.grown c.in-Accept.ensures.can
           c.in-Accept.ensures.stands c.in-Accept.ensures.makes c.in-Accept.ensures.change_sound c.requires.may.legal
           c.requires.may.later c.requires.may.bound;
-      room = c.in_ok-due-in-Accept.ensures.room;
+      room = c.in-Ok.ensures.room;
     }
 
-pub returns-in_ok-due-in-Accept : goal.returns-in_ok-due-in-Accept
-returns-in_ok-due-in-Accept g c =
+pub returns-in-Ok : goal.returns-in-Ok
+returns-in-Ok g c =
     let books = c.args.books.now in
     let mid = c.grow.new.books in
     let new = c.enter_due.new.books in
-    let grown = c.in_ok-due-in-Accept.ensures in
-    let due = c.in_ok-due-in-Accept.due in
+    let grown = c.in-Ok.ensures in
+    let due = c.in-Ok.due in
     record {
       kept = c.enter_due.ensures.kept;
       enters = enters_behind books mid new c.args.seat grown.same c.args.entry due.entry grown.grown.entry_is
@@ -45,8 +45,8 @@ returns-in_ok-due-in-Accept g c =
           c.enter_due.result c.enter_due.ensures.leaves;
     }
 
-pub returns-in_err-due-in-Accept : goal.returns-in_err-due-in-Accept
-returns-in_err-due-in-Accept g c =
+pub returns-in-Err : goal.returns-in-Err
+returns-in-Err g c =
     let books = c.args.books.now in
     let mid = c.grow.new.books in
     record {

@@ -1,4 +1,4 @@
-use Rattle.std.proofs.Common.{◌≤◌, arith, subst, sym}
+use Rattle.std.proofs.Common.{◌≤◌, arith, refl, subst, sym}
 use Rattle.sm_base.specs.Drawn.{drawn_token}
 use Rattle.sm_claims.specs.Due.{first_due}
 use Rattle.sm_account.specs.Books.{state_in}

@@ -1,3 +1,4 @@
+use Rattle.std.proofs.Common.{refl}
 use Rattle.sm_core.specs.Histories.{later}
 use Rattle.sm_account.specs.NextWork.{next_by}
 use Rattle.sm_account.proofs.AccountLemmas.{same_origin}
@@ -23,5 +24,5 @@ returns g c =
       next = next_told old.books new c.args.seat c.args.now old.kept c.next_work.result c.next_work.ensures.next;
       leaves = claimed_told old.books new c.args.seat c.args.now old.kept c.next_work.result
           c.next_work.ensures.leaves;
-      origin = ?;
+      origin = same_origin old _ c.next_work.ensures.leaves.origin refl;
     }

@@ -1,3 +1,4 @@
+use Rattle.std.proofs.Common.{refl}
 use Rattle.sm_account.specs.Books.{state_in}
 use Rattle.sm_account.specs.StartDue.{due_at, start_at, started_by}
 use Rattle.sm_core.specs.Histories.{later}
@@ -28,5 +29,5 @@ returns g c =
           c.start_due.ensures.starts;
       leaves = started_told old.books new c.args.seat c.args.now old.kept c.start_due.result c.args.drawn.now
           c.start_due.ensures.leaves;
-      origin = ?;
+      origin = same_origin old _ c.start_due.ensures.leaves.origin refl;
     }
