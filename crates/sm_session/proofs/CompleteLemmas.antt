@@ -105,6 +105,11 @@ first_messages (ended.WriteFault taken) p ends source sink other all end are = a
 first_messages ended.Memory p ends source sink other all end are = absurd (other refl)
 
 module _ {people : People} {place : Place} {old new : Around} {e : Ended} {items : List TraceItem} where
+  -- of the same items
+  pub listed : {items' : List TraceItem} → items' ≡ items → Serves people place old new e items
+      → Serves people place old new e items'
+  listed same = subst (λ them. Serves people place old new e them) (sym same)
+
   pub completes : (session : Serves people place old new e items) → Completes session
   completes session none other faultless = (
     models people place old.own.seen new.own.seen session.turns old.own.random old.own.random new.own.random

@@ -24,7 +24,7 @@ pub(crate) struct Hold<A: Storied> {
 
 /// Waits for the account, reads the clock, and has a request of a person handled with the random bytes that were drawn
 /// for it. The lock is left before a reply is made.
-pub(crate) fn hold<D: Disk, R: Rotator, C: Clock, H: Wait>(
+pub(crate) fn hold_once<D: Disk, R: Rotator, C: Clock, H: Wait>(
     rt: &H,
     gate: &Gate<Account<D, R>>,
     pass: Pass<Account<D, R>>,

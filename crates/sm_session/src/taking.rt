@@ -10,7 +10,7 @@ ghost use Rattle.sm_session.specs.Sessions.{TakesTurn};
 use crate::drawing::draw;
 use crate::heard::Heard;
 use crate::hearing::read;
-use crate::holding::{Hold, hold};
+use crate::holding::{Hold, hold_once};
 use crate::said::Said;
 use crate::saying::{say_handled, say_refusal};
 use crate::trace::TraceItem;
@@ -111,7 +111,7 @@ fn ask<D: Disk, R: Rotator, C: Clock, W: Words, H: Wait>(
                 handled,
                 now,
                 position,
-            } = hold(rt, gate, pass, clock, person, drawn.as_slice(), request);
+            } = hold_once(rt, gate, pass, clock, person, drawn.as_slice(), request);
             let said = say_handled(alloc, handled);
             let status = status_of(&said);
             Taken {

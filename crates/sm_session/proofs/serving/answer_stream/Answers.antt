@@ -1,14 +1,17 @@
-use Rattle.std.proofs.Common.{◌≡◌, ◌≤◌, refl, sym, subst, arith, ◌∙◌}
+use Rattle.std.proofs.Common.{◌≡◌, ◌≤◌, List, refl, sym, subst, arith, ◌∙◌}
 use Rattle.std.proofs.lemmas.Bool.{not-true, not-false}
+use Rattle.sm_base.specs.Faults.{Rose}
 use Rattle.sm_account.specs.Accounts.{base}
 use Rattle.sm_http.specs.declared.answer.Next.TheVariants as next
 use Rattle.sm_http.specs.Framed.{Sends}
-use Rattle.sm_http.specs.Reading.{Reads, content}
+use Rattle.sm_http.specs.Reading.{Reads, content, stopped}
 use Rattle.sm_lock.specs.Handles.{built_with, number, seen}
 use Rattle.sm_session.specs.Answer.{heard}
-use Rattle.sm_session.specs.Endings.{Sides}
+use Rattle.sm_session.specs.declared.ended.Ended.TheVariants as ended
+use Rattle.sm_session.specs.declared.trace.TraceItem.{TraceItem}
+use Rattle.sm_session.specs.Endings.{Sides, Finishes, StopsBy}
 use Rattle.sm_session.specs.Replies.{reply_of, framed_answer}
-use Rattle.sm_session.specs.Sessions.{Place, Standing, Around, TakesTurn}
+use Rattle.sm_session.specs.Sessions.{Place, Standing, Around, Serves, TakesTurn}
 use Rattle.sm_session.proofs.SessionLemmas.{so_far_first, so_far_more, session_cut, session_enough, session_memory, session_stops}
 use Rattle.sm_session.proofs.serving.answer_stream.Goals as goal
 
@@ -31,13 +34,50 @@ loop-number-init g c =
     } in
     record {
       gate = c.requires.gate;
-      number = refl;
+      numbered = refl;
       source_later = omega arith;
       sink_later = omega arith;
       random_later = omega arith;
       so_far = so_far_first c.args.people.now place old c.new-reader.result c.args.items.now.items
           c.new-reader.ensures c.requires.fresh;
     }
+
+pub returns-in_default-clause-served : goal.returns-in_default-clause-served
+returns-in_default-clause-served g c =
+    let i = c.loop-number.invariant in
+    let place : Place = record { base = base (built_with c.args.gate.now); seat = number c.args.pass } in
+    let old : Around = record {
+      sides = record {
+        left = g.K.Source.left c.args.conn.now;
+        taken = g.K.Sink.taken c.args.conn.now;
+        source = g.K.Source.source_faults c.args.conn.now;
+        sink = g.K.Sink.sink_faults c.args.conn.now;
+      };
+      own = record {
+        seen = seen c.args.pass;
+        readings = g.C.Clock.readings c.args.clock.now;
+        drawn = g.W.Words.drawn c.args.words.now;
+        random = g.W.Words.faults c.args.words.now;
+      };
+    } in
+    let now : Around = record {
+      sides = record {
+        left = g.K.Source.left c.loop-number.conn;
+        taken = g.K.Sink.taken c.loop-number.conn;
+        source = g.K.Source.source_faults c.loop-number.conn;
+        sink = g.K.Sink.sink_faults c.loop-number.conn;
+      };
+      own = record {
+        seen = seen c.loop-number.pass;
+        readings = g.C.Clock.readings c.loop-number.clock;
+        drawn = g.W.Words.drawn c.loop-number.words;
+        random = g.W.Words.faults c.loop-number.words;
+      };
+    } in
+    subst (λ (items : List TraceItem). Serves c.args.people.now place old now ended.Memory items)
+    (sym c.reserve.ensures.items)
+    (session_memory c.args.people.now place old c.loop-number.number now c.loop-number.reader c.loop-number.count
+    c.loop-number.items.items i.so_far c.loop-number-test.true)
 
 pub returns-in-Err-clause-served : goal.returns-in-Err-clause-served
 returns-in-Err-clause-served g c =
@@ -77,9 +117,25 @@ returns-in-Err-clause-served g c =
       source = g.K.Source.source_faults c.conclude-ended.new.conn;
       sink = g.K.Sink.sink_faults c.conclude-ended.new.conn;
     } in
-    session_stops c.args.people.now place old c.loop-number.number now c.loop-number.reader c.loop-number.count
-    c.loop-number.items.items i.so_far c.receive.new.reader sides c.in-Err.stop c.conclude-ended.result
-    c.loop-number-test.true ? ? ?
+    let why = c.in-Err.stop in
+    let e = c.conclude-ended.result in
+    let reads : Reads c.loop-number.reader (stopped why) c.receive.new.reader now.sides.left sides.left =
+    subst (λ l. Reads c.loop-number.reader (stopped why) c.receive.new.reader now.sides.left l)
+    (sym c.conclude-ended.ensures.left) c.in-Err.ensures.reads in
+    let stops : StopsBy c.loop-number.reader.ended why now.sides.left sides.left (Rose now.sides.source sides.source) =
+    subst (λ n. StopsBy c.loop-number.reader.ended why now.sides.left sides.left (Rose now.sides.source n))
+    (sym c.conclude-ended.ensures.source)
+    (subst (λ l. StopsBy c.loop-number.reader.ended why now.sides.left l
+    (Rose now.sides.source (g.K.Source.source_faults c.receive.new.conn))) (sym c.conclude-ended.ensures.left)
+    c.in-Err.ensures.stops) in
+    let finishes : Finishes why c.loop-number.count e now.sides.taken sides.taken now.sides.sink sides.sink =
+    subst (λ t. Finishes why c.loop-number.count e t sides.taken now.sides.sink sides.sink) c.receive.ensures.taken
+    (subst (λ n. Finishes why c.loop-number.count e (g.K.Sink.taken c.receive.new.conn) sides.taken n sides.sink)
+    c.receive.ensures.sink c.conclude-ended.ensures.finishes) in
+    subst (λ (items : List TraceItem). Serves c.args.people.now place old (record { sides = sides; own = now.own }) e items)
+    (sym c.reserve.ensures.items)
+    (session_stops c.args.people.now place old c.loop-number.number now c.loop-number.reader c.loop-number.count
+    c.loop-number.items.items i.so_far c.receive.new.reader sides why e c.loop-number-test.true reads stops finishes)
 
 pub returns-then-not-sent-clause-served : goal.returns-then-not-sent-clause-served
 returns-then-not-sent-clause-served g c =
@@ -113,7 +169,7 @@ returns-then-not-sent-clause-served g c =
         random = g.W.Words.faults c.loop-number.words;
       };
     } in
-    let taken = c.take_turn in
+    let taken = c.take_turn-after in
     let sides : Sides = record {
       left = g.K.Source.left c.reply-sent.new.conn;
       taken = g.K.Sink.taken c.reply-sent.new.conn;
@@ -129,7 +185,7 @@ returns-then-not-sent-clause-served g c =
     let turn : TakesTurn place (heard c.args.people.now (content c.in-Ok.message)) now.own own
         (reply_of taken.result.said) taken.result.item =
     subst (λ n. TakesTurn (record { base = place.base; seat = n }) (heard c.args.people.now (content c.in-Ok.message))
-    now.own own (reply_of taken.result.said) taken.result.item) i.number taken.ensures.turn in
+    now.own own (reply_of taken.result.said) taken.result.item) i.numbered taken.ensures.turn in
     let reads : Reads c.loop-number.reader (next.Message c.in-Ok.message) c.receive.new.reader now.sides.left sides.left =
     subst (λ l. Reads c.loop-number.reader (next.Message c.in-Ok.message) c.receive.new.reader now.sides.left l)
     (sym c.reply-sent.ensures.left) c.in-Ok.ensures.reads in
@@ -179,7 +235,7 @@ loop-number-preserved g c =
         random = g.W.Words.faults c.loop-number.words;
       };
     } in
-    let taken = c.take_turn in
+    let taken = c.take_turn-after in
     let sides : Sides = record {
       left = g.K.Source.left c.reply-sent.new.conn;
       taken = g.K.Sink.taken c.reply-sent.new.conn;
@@ -195,7 +251,7 @@ loop-number-preserved g c =
     let turn : TakesTurn place (heard c.args.people.now (content c.in-Ok.message)) now.own own
         (reply_of taken.result.said) taken.result.item =
     subst (λ n. TakesTurn (record { base = place.base; seat = n }) (heard c.args.people.now (content c.in-Ok.message))
-    now.own own (reply_of taken.result.said) taken.result.item) i.number taken.ensures.turn in
+    now.own own (reply_of taken.result.said) taken.result.item) i.numbered taken.ensures.turn in
     let reads : Reads c.loop-number.reader (next.Message c.in-Ok.message) c.receive.new.reader now.sides.left sides.left =
     subst (λ l. Reads c.loop-number.reader (next.Message c.in-Ok.message) c.receive.new.reader now.sides.left l)
     (sym c.reply-sent.ensures.left) c.in-Ok.ensures.reads in
@@ -209,7 +265,7 @@ loop-number-preserved g c =
     let sink : now.sides.sink ≤ sides.sink = omega (arith, c.receive.ensures.sink, c.reply-sent.ensures.later) in
     record {
       gate = taken.ensures.gate;
-      number = taken.ensures.number ∙ i.number;
+      numbered = taken.ensures.number ∙ i.numbered;
       source_later = omega (arith, i.source_later, source);
       sink_later = omega (arith, i.sink_later, sink);
       random_later = omega (arith, i.random_later, taken.ensures.later);

@@ -8,7 +8,7 @@ use Rattle.sm_session.proofs.serving.answer_stream.Given as goal
 abbrev pub invariant-loop-number : goal.invariant-loop-number
 invariant-loop-number g l = record {
   gate : IsIn l.gate l.pass;
-  number : number l.pass ≡ number l.initial.pass;
+  numbered : number l.pass ≡ number l.initial.pass;
   source_later : g.K.Source.source_faults l.initial.conn ≤ g.K.Source.source_faults l.conn;
   sink_later : g.K.Sink.sink_faults l.initial.conn ≤ g.K.Sink.sink_faults l.conn;
   random_later : g.W.Words.faults l.initial.words ≤ g.W.Words.faults l.words;

@@ -15,40 +15,40 @@ use Rattle.sm_session.proofs.HoldLemmas.{fault_stands, is_touched, passed_by, tr
 use Rattle.sm_session.proofs.TurnLemmas.{answered_by, failed_turn, forgotten_turn, reached_turn, untouched}
 use Rattle.sm_session.proofs.taking.ask.Goals as goal
 
-pub hold-requires-clause-key : goal.hold-requires-clause-key
-hold-requires-clause-key g c = omega (arith, c.requires.key)
+pub hold_once-pass-requires-clause-key : goal.hold_once-pass-requires-clause-key
+hold_once-pass-requires-clause-key g c = omega (arith, c.requires.key)
 
 pub returns-in-Bytes-clause-turn : goal.returns-in-Bytes-clause-turn
 returns-in-Bytes-clause-turn g c =
-    let held = c.hold.ensures.holds in
+    let held = c.hold_once-pass.ensures.holds in
     let asked : Asked = record { person = c.args.person.now; request = c.args.request.now } in
     let question : Question = record {
       person = c.args.person.now;
-      now = c.hold.result.now;
+      now = c.hold_once-pass.result.now;
       drawn = c.as_slice.result.now;
       request = c.args.request.now;
     } in
     let built : Base = base (built_with c.args.gate.now) in
     let outcome' = outcome (state_at built held.0.before) question in
-    let handled = c.hold.result.handled in
+    let handled = c.hold_once-pass.result.handled in
     let marks = marks_of handled outcome' in
     let reply = reply_of c.say_handled-said.result in
     let random = Rose (g.W.Words.faults c.args.words.now) (g.W.Words.faults c.draw.new.random) in
     record {
       before = held.0.before;
-      told = told_once c.hold.result.now.0 c.in-Bytes.drawn;
+      told = told_once c.hold_once-pass.result.now.0 c.in-Bytes.drawn;
       marks = marks;
       gap = held.0.gap;
-      still = is_touched c.hold.result.now.0 c.in-Bytes.drawn reply marks (held.0.before ≡ seen c.args.pass);
-      right = reached_turn (Unit {0}) random built held.0.before asked c.hold.result.now.0 c.in-Bytes.drawn
+      still = is_touched c.hold_once-pass.result.now.0 c.in-Bytes.drawn reply marks (held.0.before ≡ seen c.args.pass);
+      right = reached_turn (Unit {0}) random built held.0.before asked c.hold_once-pass.result.now.0 c.in-Bytes.drawn
           c.as_slice.result.now reply marks c.as_slice.ensures (c.in-Bytes.ensures.exactly ∙ c.need.ensures)
           (answered_by (Unit {0}) c.say_handled-said.result handled outcome' held.0.answers (fault_stands handled)
           c.say_handled-said.ensures);
       stands = held.0.stands;
-      readings = c.hold.ensures.told;
+      readings = c.hold_once-pass.ensures.told;
       drawn = c.in-Bytes.ensures.bytes;
       later = c.draw.ensures.later;
-      traced = traced_by _ _ c.hold.result.now c.in-Bytes.drawn _ _ held.1 c.status_of-status.ensures;
+      traced = traced_by _ _ c.hold_once-pass.result.now c.in-Bytes.drawn _ _ held.1 c.status_of-status.ensures;
     }
 
 pub returns-in-Failed-clause-turn : goal.returns-in-Failed-clause-turn
