@@ -13,25 +13,31 @@ use Rattle.sm_model.specs.declared.rows.Job.{Job}
 use Rattle.sm_model.specs.declared.rows.Rows.{Rows}
 use Rattle.sm_model.specs.declared.rows.SecretRow.{SecretRow}
 use Rattle.sm_claims.specs.Fresh.{is_fresh, step_of}
+use Rattle.sm_claims.specs.Ready.{first_ready}
 use Rattle.sm_claims.proofs.FreshLemmas.{fresh_accepts}
+use Rattle.sm_core.specs.Histories.{later}
 use Rattle.sm_rotation.specs.Vouched.{AcceptsOnly, Replies}
 use Rattle.sm_rotator.specs.declared.work.Work.{Work}
 use Rattle.sm_table.specs.Found.{found_arn}
 use Rattle.sm_table.proofs.FoundLaws.{found_arn_is_exact}
 use Rattle.sm_account.specs.declared.books.Books.{Books}
 use Rattle.sm_account.specs.declared.entering.Passed.{Passed}
+use Rattle.sm_account.specs.declared.next_work.NextWork.{NextWork}
+use Rattle.sm_account.specs.declared.next_work.NextWork.TheVariants as works
 use Rattle.sm_account.specs.declared.report.Reported.{Reported}
 use Rattle.sm_account.specs.declared.report.Reported.TheVariants as reports
 use Rattle.sm_account.specs.declared.start_due.StartedDue.{StartedDue}
 use Rattle.sm_account.specs.declared.start_due.StartedDue.TheVariants as starts
 use Rattle.sm_account.specs.Allowed.{DeedAllowed, EntriesAllowed, IsAllowedAt}
-use Rattle.sm_account.specs.Books.{Kept}
+use Rattle.sm_account.specs.Books.{Kept, base_in, history_in, state_in}
+use Rattle.sm_account.specs.Claims.{ready_at}
 use Rattle.sm_account.specs.Deeds.{Deed, Leaves}
 use Rattle.sm_account.specs.Efforts.{Effort, Undue, Over, Due, effort_within}
 use Rattle.sm_account.specs.Limits.{passed_at}
-use Rattle.sm_account.specs.Report.{entered_answer, report_of, reported_by, reported_entry}
-use Rattle.sm_account.specs.StartDue.{start_of, started_by}
-use Rattle.sm_account.specs.States.{State}
+use Rattle.sm_account.specs.Report.{ReportsAs, entered_answer, report_at, report_of, reported_by, reported_entry}
+use Rattle.sm_account.specs.StartDue.{StartsAs, begun_entry, start_at, start_of, started_by}
+use Rattle.sm_account.specs.NextWork.{NextAs, next_by}
+use Rattle.sm_account.specs.States.{State, state_at}
 use Rattle.sm_account.proofs.AllowedLemmas.{allowed_after}
 
 pub deed_kept : {D : Type 0} {G : Ghosts D} (replies : Replies) (old new : Books D G) (seat : ℕ) (deed : Deed)
@@ -47,10 +53,16 @@ module _ (replies : Replies) (rows : Rows) where
   IfDue (Over passed) = Unit {0}
   IfDue (Due entry) = IsAllowedAt replies rows entry
 
-  within_due : {A : Type 0} (passed : Option Passed) (entry : Entry) → IsAllowedAt replies rows entry
+  within_due : (A : Type 0) (passed : Option Passed) (entry : Entry) → IsAllowedAt replies rows entry
       → IfDue (effort_within {A = A} passed entry)
-  within_due None entry is = is
-  within_due (Some passed) entry is = tt
+  within_due A None entry is = is
+  within_due A (Some passed) entry is = tt
+
+  -- a claim makes no entry
+  pub next_allowed : (result : NextWork) (moment : Moment) → DeedAllowed replies rows (next_by result moment)
+  next_allowed (works.Work work) moment = tt
+  next_allowed works.None moment = tt
+  next_allowed works.Memory moment = tt
 
   -- a start is always allowed
   start_deed : (result : StartedDue) (wanted : Effort (Unit {0})) → IfDue wanted
@@ -68,7 +80,8 @@ module _ (replies : Replies) (rows : Rows) where
   start_due_is : (state : State) (moment : Moment) (drawn : List ℕ) (found : Option SecretRow)
       → IfDue (start_of state moment drawn found)
   start_due_is state moment drawn None = tt
-  start_due_is state moment drawn (Some row) = within_due (passed_at state _) _ tt
+  start_due_is state moment drawn (Some row) =
+      within_due (Unit {0}) (passed_at state (begun_entry moment drawn row.arn)) (begun_entry moment drawn row.arn) tt
 
   pub start_allowed : (result : StartedDue) (state : State) (moment : Moment) (drawn : List ℕ)
       (found : Option SecretRow) → DeedAllowed replies rows (started_by result (start_of state moment drawn found))
@@ -90,7 +103,7 @@ module _ (replies : Replies) (rows : Rows) where
 
   -- only a yes is entered as yes
   yes_so : (answer : Answer) → entered_answer answer ≡ answers.Yes → answer ≡ answers.Yes
-  yes_so (answers.Value value) yes = by (is_small value) yes
+  yes_so (answers.Value value) same = by (is_small value) same
     where
       by : (b : Bool) → (if b then answers.Value value else answers.Failed) ≡ answers.Yes
           → answers.Value value ≡ answers.Yes
@@ -122,8 +135,8 @@ module _ (replies : Replies) (rows : Rows) where
           → IfDue (if b then effort_within (passed_at state (reported_entry moment work answer))
           (reported_entry moment work answer) else Undue (step_of (found_arn rows moment work.arn)))
       by true is =
-          within_due (passed_at state (reported_entry moment work answer)) (reported_entry moment work answer)
-          (accepts (found_arn rows moment work.arn) refl (sym is))
+          within_due (Option At) (passed_at state (reported_entry moment work answer))
+          (reported_entry moment work answer) (accepts (found_arn rows moment work.arn) refl (sym is))
       by false is = tt
 
   pub report_allowed : (result : Reported) (state : State) (moment : Moment) (work : Work) (answer : Answer)
@@ -133,3 +146,37 @@ module _ (replies : Replies) (rows : Rows) where
   report_allowed result state moment work answer allowed =
       report_deed result (report_of state moment work answer (found_arn rows moment work.arn))
       (report_due_is state moment work answer allowed)
+
+-- the calls, told of the history
+module _ {D : Type 0} {G : Ghosts D} (old new : Books D G) (seat : ℕ) (now : Moment) (kept : Kept G old) where
+  module _ (result : NextWork) where
+    pub next_told : NextAs result (first_ready (history_in old) (later old.last now) old.table.secrets)
+        → NextAs result (ready_at (base_in old) (history_in old) (later (state_at (base_in old) (history_in old)).last now))
+    next_told next =
+        subst (λ (s : State). NextAs result (first_ready (history_in old) (later s.last now) s.rows.secrets)) kept.state
+        next
+
+    pub claimed_told : Leaves G old new seat (next_by result (later old.last now))
+        → Leaves G old new seat (next_by result (later (state_at (base_in old) (history_in old)).last now))
+    claimed_told leaves =
+        subst (λ (s : State). Leaves G old new seat (next_by result (later s.last now))) kept.state leaves
+
+  module _ (result : StartedDue) (drawn : List ℕ) where
+    pub starts_told : StartsAs result (start_at (state_in old) now drawn)
+        → StartsAs result (start_at (state_at (base_in old) (history_in old)) now drawn)
+    starts_told starts = subst (λ s. StartsAs result (start_at s now drawn)) kept.state starts
+
+    pub started_told : Leaves G old new seat (started_by result (start_at (state_in old) now drawn))
+        → Leaves G old new seat (started_by result (start_at (state_at (base_in old) (history_in old)) now drawn))
+    started_told leaves =
+        subst (λ s. Leaves G old new seat (started_by result (start_at s now drawn))) kept.state leaves
+
+  module _ (result : Reported) (work : Work) (answer : Answer) where
+    pub reports_told : ReportsAs result (report_at (state_in old) now work answer)
+        → ReportsAs result (report_at (state_at (base_in old) (history_in old)) now work answer)
+    reports_told reports = subst (λ s. ReportsAs result (report_at s now work answer)) kept.state reports
+
+    pub reported_told : Leaves G old new seat (reported_by result (report_at (state_in old) now work answer))
+        → Leaves G old new seat (reported_by result (report_at (state_at (base_in old) (history_in old)) now work answer))
+    reported_told leaves =
+        subst (λ s. Leaves G old new seat (reported_by result (report_at s now work answer))) kept.state leaves

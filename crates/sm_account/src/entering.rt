@@ -41,10 +41,10 @@ pub fn enter<D: Disk>(books: &mut Books<D>, seat: u32, entry: Entry) -> Result<E
     ensures leaves { Leaves D.Disk books.old books.new seat (tried_entry result entry) }
 {
     match again(books.alloc, &books.table, &entry) {
-        Replayed::Accept(change) => {
-            let due = grow(books, entry, change)?;
-            Ok(enter_due(books, seat, due))
-        }
+        Replayed::Accept(change) => match grow(books, entry, change) {
+            Ok(due) => Ok(enter_due(books, seat, due)),
+            Err(NoMemory) => Err(NoMemory),
+        },
         Replayed::Refuse => unreachable!(),
         Replayed::Memory => Err(NoMemory),
     }

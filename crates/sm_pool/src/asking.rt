@@ -6,8 +6,8 @@ ghost use Rattle.sm_model.specs.declared.entry.Answer.TheVariants.{Failed};
 use sm_model::NoMemory;
 use sm_rotator::{Asked, Rotator, Verdict, Work};
 
-/// Asks the rotator to do a work. The verdict has the rotator's answer, which is a failure only where the rotator's count
-/// of faults rose.
+/// Asks the rotator to do a work. The verdict has the rotator's answer, which is a failure only where the rotator's
+/// count of faults rose.
 pub fn ask<R: Rotator>(rotator: &mut R, work: Work) -> Result<Verdict<R>, NoMemory>
     ensures work { IfOk result (λ verdict. verdict.work ≡ work) }
     ensures failed { IfOk result (λ verdict. verdict.answer ≡ Failed

@@ -22,29 +22,31 @@ enter_due-requires g c =
     let books = c.args.books.now in
     let mid = c.grow.new.books in
     record {
-      kept = room_kept books mid c.in_ok-due.ensures.same c.requires.kept;
-      due = limits_aside books mid c.in_ok-due.ensures.same c.args.entry c.in-Accept.change c.in_ok-due.due
-          c.in_ok-due.ensures.grown c.in-Accept.ensures.can c.in-Accept.ensures.stands c.in-Accept.ensures.makes
-          c.in-Accept.ensures.change_sound c.requires.may.legal c.requires.may.later c.requires.may.bound;
-      room = c.in_ok-due.ensures.room;
+      kept = room_kept books mid c.in-Ok.ensures.same c.requires.kept;
+      due = limits_aside books mid c.in-Ok.ensures.same c.args.entry c.in-Accept.change
+          c.in-Ok.due c.in-Ok.ensures.grown c.in-Accept.ensures.can
+          c.in-Accept.ensures.stands c.in-Accept.ensures.makes c.in-Accept.ensures.change_sound c.requires.may.legal
+          c.requires.may.later c.requires.may.bound;
+      room = c.in-Ok.ensures.room;
     }
 
-pub returns-in-Accept : goal.returns-in-Accept
-returns-in-Accept g c =
+pub returns-in-Ok : goal.returns-in-Ok
+returns-in-Ok g c =
     let books = c.args.books.now in
     let mid = c.grow.new.books in
     let new = c.enter_due.new.books in
-    let is = c.in_ok-due.ensures.grown.entry_is in
+    let grown = c.in-Ok.ensures in
+    let due = c.in-Ok.due in
     record {
       kept = c.enter_due.ensures.kept;
-      enters = enters_behind books mid new c.args.seat c.in_ok-due.ensures.same c.args.entry c.in_ok-due.due.entry is
+      enters = enters_behind books mid new c.args.seat grown.same c.args.entry due.entry grown.grown.entry_is
           c.enter_due.result c.enter_due.ensures.enters;
-      leaves = leaves_behind books mid new c.args.seat c.in_ok-due.ensures.same c.args.entry c.in_ok-due.due.entry is
+      leaves = leaves_behind books mid new c.args.seat grown.same c.args.entry due.entry grown.grown.entry_is
           c.enter_due.result c.enter_due.ensures.leaves;
     }
 
-pub returns-in_err-due : goal.returns-in_err-due
-returns-in_err-due g c =
+pub returns-in-Err : goal.returns-in-Err
+returns-in-Err g c =
     let books = c.args.books.now in
     let mid = c.grow.new.books in
     record {

@@ -6,10 +6,10 @@ use Rattle.sm_core.specs.Effects.{entry_of, Makes}
 use Rattle.sm_core.specs.Histories.{LegalAct}
 use Rattle.sm_core.specs.Judging.{is_reading}
 use Rattle.sm_model.specs.declared.entry.Act.TheVariants.{Asked}
+use Rattle.sm_sizes.proofs.RequestSizes.{few_tags}
 use Rattle.sm_account.specs.Outcome.{Question}
 use Rattle.sm_account.proofs.HandleLemmas.{after_room, wanted_memory}
 use Rattle.sm_account.proofs.QuestionLemmas.{of_change, read_so, refused_so, made_so}
-use Rattle.sm_account.proofs.RequestSizes.{few_tags}
 use Rattle.sm_account.proofs.RoomLemmas.{limits_aside, room_kept}
 use Rattle.sm_account.specs.declared.handled.Handled.TheVariants.{Memory}
 use Rattle.sm_account.proofs.handling.handle.Goals as goal

@@ -38,7 +38,7 @@ returns-in-Stale g c =
       kept = c.requires.kept;
       reports = reports_stale (state_in old) c.args.now c.args.work.now c.args.answer.now
           (record { 0 = c.max.result }) at c.in-Stale.at stale.0 stale.1;
-      leaves = ?;
+      leaves = nothing_done old c.args.seat;
     }
 
 pub returns-in-Err : goal.returns-in-Err

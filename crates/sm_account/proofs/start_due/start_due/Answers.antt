@@ -1,4 +1,4 @@
-use Rattle.std.proofs.Common.{◌≤◌, ap, arith, subst}
+use Rattle.std.proofs.Common.{◌≤◌, arith, subst, sym}
 use Rattle.sm_base.specs.Drawn.{drawn_token}
 use Rattle.sm_claims.specs.Due.{first_due}
 use Rattle.sm_account.specs.Books.{state_in}
@@ -25,7 +25,7 @@ start_with-requires g c =
       kept = c.requires.kept;
       may = subst (λ (s : DueStart). MayEnter old s.entry) (sym is.2)
           (start_may old c.requires.kept (record { 0 = c.max.result }) (omega (arith, c.max.ensures))
-          (omega (arith, c.max.ensures, c.requires.kept.bound, c.requires.bound)) drawn is.0 ? is.1);
+          (omega (arith, c.max.ensures, c.requires.kept.bound, c.requires.bound)) drawn is.0 c.told-drawn is.1);
       its = subst (λ (s : DueStart). Starts s.arn s.entry) (sym is.2) refl;
     }
 
@@ -56,7 +56,7 @@ returns-in-None g c =
       kept = c.requires.kept;
       starts = starts_none (state_in old) c.args.now drawn (record { 0 = c.max.result }) at
           (none_due (record { 0 = c.max.result }) drawn found (rw c.in-None.is at c.in-Ok.ensures));
-      leaves = ?;
+      leaves = nothing_done old c.args.seat;
     }
 
 pub returns-in-Err : goal.returns-in-Err

@@ -4,6 +4,21 @@ use Rattle.sm_account.proofs.AccountLemmas.{same_origin}
 use Rattle.sm_account.proofs.AnswerLemmas.{allowed_told, any_moment_told, fault_told, handled_told, history_told, stays_told, sure_told}
 use Rattle.sm_account.proofs.account.Account.handle.Goals as goal
 
+pub invariant_of-self : goal.invariant_of-self
+invariant_of-self g c =
+    let old = c.args.self.now in
+    let q : Question = record {
+      person = c.args.person.now;
+      now = c.args.now;
+      drawn = c.args.drawn.now;
+      request = c.args.request.now;
+    } in
+    record {
+      kept = c.handle.ensures.kept;
+      allowed = allowed_told old.books c.handle.new.books c.args.seat q c.handle.result old.kept
+          c.handle.ensures.handles g.R.Rotator.replies old.allowed;
+    }
+
 pub returns : goal.returns
 returns g c =
     let old = c.args.self.now in
@@ -19,7 +34,7 @@ returns g c =
       handled = handled_told old.books new c.args.seat q c.handle.result old.kept h;
       history = history_told old.books new c.args.seat q c.handle.result old.kept h;
       stays = stays_told old.books new c.args.seat q c.handle.result old.kept h;
-      origin = ?;
+      origin = same_origin old _ h.leaves.origin refl;
       any_moment = any_moment_told old.books new c.args.seat q c.handle.result old.kept h;
       acknowledged = sure_told old.books new c.args.seat q c.handle.result old.kept h;
       later = h.leaves.later;

@@ -1,6 +1,7 @@
 use Rattle.std.proofs.Common.{◌≤◌, subst, sym}
 use Rattle.sm_store.specs.Stores as stores
 use Rattle.sm_account.specs.Openings.{AreBooksOver}
+use Rattle.sm_account.proofs.FreshLemmas.{fresh_allowed}
 use Rattle.sm_account.proofs.OpenLemmas.{opened_over, list_over, leaves_over, later_over, unopened, refused_over}
 use Rattle.sm_account.proofs.account.Account.open.Goals as goal
 
@@ -19,7 +20,11 @@ open_books-requires-clause-later g c =
     c.in-Ok.ensures.later
 
 pub over-requires : goal.over-requires
-over-requires g c = c.in-Ok-open_books.ensures.books.kept
+over-requires g c = record {
+  kept = c.in-Ok-open_books.ensures.books.kept;
+  allowed = ∣ fresh_allowed g.R.Rotator.replies c.in-Ok.store c.in-Ok.entries _ c.args.limit c.in-Ok-open_books.books
+      c.in-Ok-open_books.ensures.books ∣₁;
+}
 
 pub returns-in-Ok-open_books-clause-opened : goal.returns-in-Ok-open_books-clause-opened
 returns-in-Ok-open_books-clause-opened g c =
