@@ -89,7 +89,8 @@ fn show(rt: &HostRuntime, text: &str) -> Status {
     }
 }
 
-/// The text of the file that says who may ask, where one is named, and else none. It is tried before a folder is opened.
+/// The text of the file that says who may ask, where one is named, and else none. It is tried before a folder is
+/// opened.
 fn people_text(rt: &HostRuntime, settings: &Settings) -> Result<Vec<u8>, Status> {
     let Some(file) = &settings.people else {
         return Ok(Vec::new(rt.alloc()));

@@ -4,6 +4,6 @@
 
 pub mod admission;
 pub mod laws;
-pub mod wishes;
+mod wishes;
 
 pub use admission::{Admitted, admit, admit_get};

@@ -307,8 +307,8 @@ fn secret<R: Rotator>(alloc: Global, run: &Run<R>, moment: Moment) -> Result<Str
     }
 }
 
-/// The first place of a script at which something else came of a step, or stood in the secret, than is wanted, with what
-/// was seen there.
+/// The first place of a script at which something else came of a step, or stood in the secret, than is wanted, with
+/// what was seen there.
 pub fn differs<R: Rotator>(
     alloc: Global,
     run: &mut Run<R>,

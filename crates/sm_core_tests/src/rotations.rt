@@ -1,6 +1,6 @@
-//! Tables of rotations: the row's name, how many seconds after 1,700,000,000 it is made, the request or the act, what is
-//! answered (an entry is made where a plus stands first), and the labels and the job that are left on the first secret. A
-//! semicolon stands between rows.
+//! Tables of rotations: the row's name, how many seconds after 1,700,000,000 it is made, the request or the act, what
+//! is answered (an entry is made where a plus stands first), and the labels and the job that are left on the first
+//! secret. A semicolon stands between rows.
 ghost use Rattle.std.specs.Prelude.{◌≡◌, ◌≤◌};
 ghost use Rattle.sm_table.specs.Changes.{CanMake, StandsAt};
 ghost use Rattle.sm_table.specs.Sound.{ChangeSound};
@@ -83,7 +83,8 @@ another start | 2592050 | begin app-ABCDEF
   | refused
   | AWSCURRENT=2 AWSPREVIOUS=1 AWSPENDING=10203-0405-4607-8809-0a0b0c0d0e0f create 1 at 2592050;
 its date is as it was | 2592051 | describe app-ABCDEF
-  | app-ABCDEF app 1700000000 1702592050 . . 1 AWSPREVIOUS 2 AWSCURRENT 10203-0405-4607-8809-0a0b0c0d0e0f AWSPENDING rotates days 30 next 1702592050 last 1700000050
+  | app-ABCDEF app 1700000000 1702592050 . . 1 AWSPREVIOUS 2 AWSCURRENT 10203-0405-4607-8809-0a0b0c0d0e0f AWSPENDING \
+    rotates days 30 next 1702592050 last 1700000050
   | AWSCURRENT=2 AWSPREVIOUS=1 AWSPENDING=10203-0405-4607-8809-0a0b0c0d0e0f create 1 at 2592050";
 
 /// Each step fails five times, and AWSPENDING stays.

@@ -188,8 +188,8 @@ WordsFailed (Rests hold) P = ⊤
 WordsFailed (Starts hold course) P = StartFailed course P
 WordsFailed (Works hold work course) P = ⊤
 
--- what passes between a turn and the outside: what the clock and the random source tell, and how often the random source
--- and the rotator have failed
+-- what passes between a turn and the outside: what the clock and the random source tell, and how often the random
+-- source and the rotator have failed
 pub record Passing : Type 0 where
   pub clock : Telling
   pub words : Telling

@@ -22,7 +22,7 @@ use Rattle.sm_table.specs.Sound.{Sound}
 use Rattle.sm_judging.specs.Changes.{settled, IsChange}
 use Rattle.sm_judging.specs.Secrets.{finished_row}
 use Rattle.sm_rotations.specs.declared.begun.TheConstants.{TOKEN_BYTES}
-use Rattle.sm_rotations.specs.Begun.{begun_on, begun_found, begun_change, MayBegin, begun_effect}
+use Rattle.sm_rotations.specs.Begun.{begun_found, begun_change, MayBegin, begun_effect}
 use Rattle.sm_rotations.proofs.ActLemmas.{Agrees, with_bytes}
 use Rattle.sm_rotations.proofs.WholeArnLemmas.{OnArn, arn_row_sound, arn_change}
 

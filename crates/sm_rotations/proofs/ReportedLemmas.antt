@@ -15,15 +15,14 @@ use Rattle.sm_model.specs.declared.rows.Stage.TheVariants.{Create, Set, Test, Fi
 use Rattle.sm_model.specs.declared.value.Value.{Value}
 use Rattle.sm_model.specs.Bounds.{is_date}
 use Rattle.sm_versions.proofs.SoundLaws.{unsettled_sound}
-use Rattle.sm_rotation.specs.Step.{is_yes, made_value, retried, after_create, after_finish, finished, step_at, applied_row}
+use Rattle.sm_rotation.specs.Step.{is_yes, made_value, retried, after_create, finished, step_at, applied_row}
 use Rattle.sm_rotation.proofs.SoundLemmas.{applied_sound}
 use Rattle.sm_table.specs.Sweep.{sweep}
 use Rattle.sm_table.specs.Found.{found_arn}
 use Rattle.sm_table.specs.Sound.{Sound}
 use Rattle.sm_judging.specs.Changes.{settled, IsChange}
 use Rattle.sm_judging.specs.Secrets.{finished_row}
-use Rattle.sm_judging.proofs.ChangeLemmas.{InPlaceOf}
-use Rattle.sm_rotations.specs.Reported.{is_at_step, answered, reported_on, reported_found, reported_change, MayReport, reported_effect}
+use Rattle.sm_rotations.specs.Reported.{is_at_step, answered, reported_found, reported_change, MayReport, reported_effect}
 use Rattle.sm_rotations.proofs.ActLemmas.{Agrees}
 use Rattle.sm_rotations.proofs.WholeArnLemmas.{OnArn, arn_row_sound, arn_change}
 

@@ -1,5 +1,5 @@
 -- Judging RotateSecret: its members, when it is refused, when it repeats, and what it changes.
-use Rattle.std.proofs.Common.{◌≡◌, ℕ, ◌≤◌, ℤ, pos, negsuc, Bool, true, false, not, cond, List, [], ◌∷◌, Option, Some, None, is_none, IfNone, IfSome, IsTrue, refl, ap, ◌∙◌}
+use Rattle.std.proofs.Common.{◌≡◌, ℕ, ◌≤◌, ℤ, pos, negsuc, Bool, true, false, not, cond, List, [], ◌∷◌, Option, Some, None, is_none, IfNone, IfSome, IsTrue, refl}
 use Rattle.std.specs.Option.{option_or}
 use Rattle.std.proofs.lemmas.Bool.{false≢true}
 use Rattle.sm_base.specs.declared.moment.Moment.{Moment}
@@ -25,7 +25,7 @@ use Rattle.sm_versions.specs.Texts.{same_text, aws_current, aws_pending}
 use Rattle.sm_versions.specs.Labels.{holder}
 use Rattle.sm_versions.specs.Versions.{has_version, version_of}
 use Rattle.sm_versions.specs.Put.{is_full}
-use Rattle.sm_versions.specs.Sound.{is_rotation, UnsettledSound}
+use Rattle.sm_versions.specs.Sound.{UnsettledSound}
 use Rattle.sm_rotation.specs.declared.starting.Began.{Began}
 use Rattle.sm_rotation.specs.declared.starting.Began.TheVariants as starts
 use Rattle.sm_rotation.specs.Begin.{is_of_rotation, begin_held, begin_answer, begin_row}

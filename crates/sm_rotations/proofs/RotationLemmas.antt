@@ -1,5 +1,5 @@
 -- A secret with another rotation or another job: what has to hold of them so that it stays sound.
-use Rattle.std.proofs.Common.{◌≡◌, ◌&&◌, Option, Some, None, IfSome, IsTrue}
+use Rattle.std.proofs.Common.{Option, IfSome, IsTrue}
 use Rattle.std.proofs.lemmas.Bool.{and_parts, and_from}
 use Rattle.std.proofs.lemmas.Option.{IfSome_then}
 use Rattle.sm_model.specs.declared.rows.Job.{Job}

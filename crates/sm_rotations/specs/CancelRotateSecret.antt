@@ -1,6 +1,6 @@
 -- CancelRotateSecret: its tests on the rows, its reply, what it changes.
 -- AWS Secrets Manager API Reference, CancelRotateSecret.
-use Rattle.std.specs.Prelude.{ℕ, false, List, Option, Some, None, option_map}
+use Rattle.std.specs.Prelude.{ℕ, false, List, Option, Some, None}
 use Rattle.sm_base.specs.declared.moment.Moment.{Moment}
 use Rattle.sm_base.specs.SecretId.{secret_id}
 use Rattle.sm_model.specs.declared.entry.Change.TheVariants as changes

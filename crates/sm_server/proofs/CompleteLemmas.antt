@@ -151,7 +151,9 @@ module _ (course : Course) (before after : Outside) (trace : Trace)
     each_none input nothing all end are =
         let none : all ≡ [] = no_messages all end (subst (λ bytes. Messages bytes 0 all end) nothing are) in
         let no : List Answered = [] in
-        (no, trace.written, subst (λ ms. ModelTurns course.people course.base [] (take message_limit ms) no) (sym none) refl, refl)
+        let turns : ModelTurns course.people course.base [] (take message_limit all) no =
+            subst (λ ms. ModelTurns course.people course.base [] (take message_limit ms) no) (sym none) refl in
+        (no, trace.written, turns, refl)
 
     module _ (sink_is : trace.sink ≡ growth (λ c. c.sink) before after)
         (source_is : trace.source ≡ growth (λ c. c.source) before after) (input : List ℕ) (left : Option (List ℕ)) where

@@ -46,7 +46,8 @@ module _ (people : Persons) (before after : Outside) (still : Still before after
     random = ap (λ n. record { before = before.counts.random; after = n }) still.random;
   }
 
-  memory_ended : Ended (course_of (no_story people)) statuses.Memory [] after.left (trace_of before after [] nothing_told)
+  memory_ended : Ended (course_of (no_story people)) statuses.Memory [] after.left
+      (trace_of before after [] nothing_told)
   memory_ended =
       record { messages = []; answered = none_answered; ends = (omega arith, refl, inl ([], refl)) }
 

@@ -20,8 +20,8 @@ use sm_rotator::NoRotator;
 use std::alloc::Global;
 
 /// Follows the words of a command line: reads the text of the people who may ask, opens the account of the disk, and
-/// answers the messages of the source one after the other, at most 1,000. The reply to each is written to the sink before
-/// the next one is read. The disk is handed back.
+/// answers the messages of the source one after the other, at most 1,000. The reply to each is written to the sink
+/// before the next one is read. The disk is handed back.
 pub fn run_once<Q: Source, K: Sink, D: Disk, C: Clock, W: Words>(
     alloc: Global,
     words: &[String],
@@ -148,7 +148,8 @@ fn run_opened<Q: Source, K: Sink, D: Disk, C: Clock, W: Words>(
     requires base { base account ≡ base_of (taken account) JOURNAL_LIMIT }
     requires sure { failed account ≡ None }
     requires later { D.faults (began account) ≤ D.faults (disk account) }
-    ensures ran { (story : Story) × (story.people ≡ people.now) × (story.taken ≡ taken account) × Runs (course_of story) result.0
+    ensures ran { (story : Story) × (story.people ≡ people.now) × (story.taken ≡ taken account)
+        × Runs (course_of story) result.0
         (record {
           left = Q.left source.old;
           taken = K.taken sink.old;

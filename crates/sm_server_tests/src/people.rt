@@ -20,8 +20,8 @@ const APP_CREATED: &str =
 
 const NO_CREDENTIAL: &str = r#"{"Message":"no credential","__type":"AccessDeniedException"}"#;
 
-/// The text of the people, what stands behind `Credential=` up to the date, where there is the field, the operation, the
-/// body, the status line and the body of the reply.
+/// The text of the people, what stands behind `Credential=` up to the date, where there is the field, the operation,
+/// the body, the status line and the body of the reply.
 type Case = (
     &'static str,
     Option<&'static str>,
