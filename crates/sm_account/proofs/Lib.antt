@@ -16,7 +16,6 @@ pub mod ConsiderLemmas
 pub mod ClaimedLemmas
 pub mod EffortLemmas
 pub mod AllowedLemmas
-pub mod SpellLaws
 pub mod AnswerLemmas
 pub mod TurnLemmas
 pub mod MayLemmas

@@ -20,5 +20,4 @@ pub mod Allowed
 pub mod Replaying
 pub mod Values
 pub mod Accounts
-pub mod Spells
 pub mod Openings

@@ -1,15 +1,14 @@
 //! What a rotation turn does while it holds the account.
-ghost use Rattle.std.specs.Prelude.{◌≡◌, ◌≤◌, ◌∷◌, []};
+ghost use Rattle.std.specs.Prelude.{◌≡◌, ◌≤◌, ◌∷◌, [], ◌⊎◌, IsSome};
 ghost use Rattle.std.specs.Io.KnownBytes.{append_known};
+ghost use Rattle.sm_base.specs.Faults.{Rose};
 ghost use Rattle.sm_base.specs.declared.moment.TheConstants.{LAST_READING};
 ghost use Rattle.sm_claims.specs.Due.{has_due};
 ghost use Rattle.sm_core.specs.Histories.{later};
-ghost use Rattle.sm_account.specs.Accounts.{base, history, rows, state, SameOrigin};
-ghost use Rattle.sm_account.specs.Deeds.{Leaves};
-ghost use Rattle.sm_account.specs.Report.{report_at, reported_by};
-ghost use Rattle.sm_account.specs.StartDue.{start_at, started_by};
-ghost use Rattle.sm_pool.specs.Alone.{NoGap};
-ghost use Rattle.sm_pool.specs.Found.{due_or_nothing, found_by};
+ghost use Rattle.sm_account.specs.Accounts.{base, disk, failed, history, rows, state, SameOrigin};
+ghost use Rattle.sm_pool.specs.Alone.{NoGap, OnDisk};
+ghost use Rattle.sm_pool.specs.Ends.{due_ends, report_ends};
+ghost use Rattle.sm_pool.specs.Found.{due_or_nothing};
 ghost use Rattle.sm_pool.specs.Holds.{LookHeld, ReportHeld, StartHeld};
 
 use sm_account::{Account, NextWork, Reported, StartedDue};
@@ -59,9 +58,9 @@ pub fn look<D: Disk, R: Rotator, C: Clock>(
     ensures told { C.readings clock.new ≡ append_known (C.readings clock.old) (result.now.0 ∷ []) }
     ensures looks { LookHeld (base account.old) NoGap seat (history account.old) (history account.new) result.now
         result.found }
-    ensures leaves { Leaves D.Disk account.old.books account.new.books seat
-        (found_by result.found (later (state account.old).last result.now)) }
     ensures origin { SameOrigin account.old account.new }
+    ensures unsure { IsSome (failed account.new) → IsSome (failed account.old) }
+    ensures disk_later { D.faults (disk account.old) ≤ D.faults (disk account.new) }
 {
     let now = clock.now();
     let found = match account.next_work(seat, now) {
@@ -94,9 +93,12 @@ pub fn start<D: Disk, R: Rotator, C: Clock>(
     ensures told { C.readings clock.new ≡ append_known (C.readings clock.old) (result.now.0 ∷ []) }
     ensures starts { StartHeld (base account.old) NoGap seat (history account.old) (history account.new) result.now
         drawn.now result.started }
-    ensures leaves { Leaves D.Disk account.old.books account.new.books seat
-        (started_by result.started (start_at (state account.old) result.now drawn.now)) }
     ensures origin { SameOrigin account.old account.new }
+    ensures unsure { IsSome (failed account.new) → IsSome (failed account.old)
+        ⊎ Rose (D.faults (disk account.old)) (D.faults (disk account.new)) }
+    ensures disk { OnDisk (due_ends result.started) (Rose (D.faults (disk account.old))
+        (D.faults (disk account.new))) }
+    ensures disk_later { D.faults (disk account.old) ≤ D.faults (disk account.new) }
 {
     let now = clock.now();
     let started = account.start_due(seat, now, drawn);
@@ -113,10 +115,12 @@ pub fn report<D: Disk, R: Rotator, C: Clock>(
     ensures told { C.readings clock.new ≡ append_known (C.readings clock.old) (result.now.0 ∷ []) }
     ensures reports { ReportHeld (base account.old) NoGap seat (history account.old) (history account.new) result.now
         verdict.now.work verdict.now.answer result.reported }
-    ensures leaves { Leaves D.Disk account.old.books account.new.books seat
-        (reported_by result.reported
-        (report_at (state account.old) result.now verdict.now.work verdict.now.answer)) }
     ensures origin { SameOrigin account.old account.new }
+    ensures unsure { IsSome (failed account.new) → IsSome (failed account.old)
+        ⊎ Rose (D.faults (disk account.old)) (D.faults (disk account.new)) }
+    ensures disk { OnDisk (report_ends verdict.now.work result.reported) (Rose (D.faults (disk account.old))
+        (D.faults (disk account.new))) }
+    ensures disk_later { D.faults (disk account.old) ≤ D.faults (disk account.new) }
 {
     let now = clock.now();
     let reported = account.report(seat, now, verdict);
