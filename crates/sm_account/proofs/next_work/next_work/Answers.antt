@@ -1,4 +1,4 @@
-use Rattle.std.proofs.Common.{IsSomeAnd, arith, subst}
+use Rattle.std.proofs.Common.{IsSomeAnd, subst}
 use Rattle.sm_claims.specs.Ready.{first_ready}
 use Rattle.sm_claims.specs.Works.{IsWorkOf}
 use Rattle.sm_account.specs.Books.{history_in}
@@ -18,7 +18,7 @@ take_up-requires g c = record {
   kept = c.requires.kept;
   ready = subst
       (λ marks. IsSomeAnd (first_ready marks (record { 0 = c.max.result }) c.args.books.now.table.secrets)
-      (λ row. IsWorkOf row c.in-Some.work)) c.as_slice.ensures
+      (λ row. IsWorkOf row c.in-Some.work)) c.as_slice.ensures.value
       (work_is _ c.in-Ok.ready c.in-Some.work c.in-Some.is c.in-Ok.ensures);
 }
 
@@ -42,7 +42,7 @@ returns-in-None g c =
       kept = c.requires.kept;
       next = subst (λ m. NextAs works.None (first_ready (history_in old) m old.table.secrets)) at
           (subst (λ marks. NextAs works.None (first_ready marks (record { 0 = c.max.result }) old.table.secrets))
-          c.as_slice.ensures (none_is _ c.in-Ok.ready c.in-None.is c.in-Ok.ensures));
+          c.as_slice.ensures.value (none_is _ c.in-Ok.ready c.in-None.is c.in-Ok.ensures));
       leaves = nothing_done old c.args.seat;
     }
 
