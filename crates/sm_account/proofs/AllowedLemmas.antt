@@ -1,9 +1,7 @@
 -- The entries of an account stay allowed.
-use Rattle.std.proofs.Common.{◌≡◌, ℕ, List, [], ◌∷◌, ◌++◌, Option, Some, None, IfSome, sym, ap, ◌∙◌, subst, append-nil, inl, inr}
-use Rattle.sm_base.specs.declared.moment.Moment.{Moment}
+use Rattle.std.proofs.Common.{◌≡◌, ℕ, List, [], ◌∷◌, ◌++◌, Option, IfSome, sym, ap, ◌∙◌, subst, append-nil, inl, inr}
 use Rattle.sm_disk.specs.declared.disk.Disk.{Ghosts}
 use Rattle.sm_model.specs.declared.entry.Entry.{Entry as entries}
-use Rattle.sm_model.specs.declared.entry.Mark.{Mark}
 use Rattle.sm_model.specs.declared.entry.Mark.TheVariants.{Entry, Claim, Fault}
 use Rattle.sm_model.specs.declared.rows.Rows.{Rows}
 use Rattle.sm_core.specs.Effects.{effect}
@@ -12,7 +10,7 @@ use Rattle.sm_core.specs.Vouching.{EachAllowed}
 use Rattle.sm_rotation.specs.Vouched.{Replies}
 use Rattle.sm_account.specs.declared.books.Books.{Books}
 use Rattle.sm_account.specs.Allowed.{DeedAllowed, EntriesAllowed, IsAllowedAt}
-use Rattle.sm_account.specs.Books.{Kept, SameOrigin, base_in, history_in, state_in}
+use Rattle.sm_account.specs.Books.{Kept, base_in, history_in, state_in}
 use Rattle.sm_account.specs.Deeds.{Deed, Nothing, Claimed, Made, Failed, FailedBy, Leaves, StaysBy, marks_by}
 use Rattle.sm_account.specs.History.{by_seat, entries_in}
 use Rattle.sm_account.specs.States.{State}

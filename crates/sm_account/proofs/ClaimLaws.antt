@@ -1,5 +1,5 @@
 -- The claims of a history with one mark more.
-use Rattle.std.proofs.Common.{◌≡◌, ℕ, List, [], ◌∷◌, ◌++◌, sym, subst, append_assoc, append-nil}
+use Rattle.std.proofs.Common.{ℕ, List, [], ◌∷◌, ◌++◌, sym, subst, append_assoc, append-nil}
 use Rattle.sm_model.specs.declared.entry.Mark.{Mark}
 use Rattle.sm_account.specs.Claims.{ClaimsReadyBehind, ClaimsReadyStep}
 use Rattle.sm_account.specs.States.{Base}

@@ -1,9 +1,8 @@
 -- The books once a step of a rotation was claimed.
-use Rattle.std.proofs.Common.{◌≡◌, ℕ, ◌+◌, ◌++◌, ◌∷◌, [], List, Option, Some, None, IsSomeAnd, option_map, sym, ap, ◌∙◌, subst, append-nil, arith}
+use Rattle.std.proofs.Common.{◌≡◌, ℕ, ◌+◌, ◌++◌, ◌∷◌, [], Option, Some, None, IsSomeAnd, option_map, sym, ap, ◌∙◌, subst, append-nil, arith}
 use Rattle.std.proofs.Math.Logic.{∥∥₁_map}
 use Rattle.sm_base.specs.declared.moment.Moment.{Moment}
 use Rattle.sm_disk.specs.declared.disk.Disk.{Ghosts}
-use Rattle.sm_model.specs.declared.entry.At.{At}
 use Rattle.sm_model.specs.declared.entry.Mark.TheVariants.{Claim}
 use Rattle.sm_model.specs.declared.rows.Job.{Job}
 use Rattle.sm_model.specs.declared.rows.Rows.{Rows}

@@ -23,7 +23,7 @@ use Rattle.sm_account.specs.declared.start_due.StartedDue.{StartedDue}
 use Rattle.sm_account.specs.declared.start_due.StartedDue.TheVariants as started
 use Rattle.sm_account.specs.Books.{state_in}
 use Rattle.sm_account.specs.Deeds.{Leaves, Nothing, Made, Failed}
-use Rattle.sm_account.specs.Efforts.{Effort, Undue, effort_within}
+use Rattle.sm_account.specs.Efforts.{Undue, effort_within}
 use Rattle.sm_account.specs.Growing.{SameButRoom}
 use Rattle.sm_account.specs.Limits.{EntersAs, entered_by, passed_at}
 use Rattle.sm_account.specs.Report.{ReportsAs, report_at, report_of, reported_by, reported_entry, secret_of}

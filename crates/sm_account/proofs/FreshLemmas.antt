@@ -1,5 +1,5 @@
 -- Books that were just opened: their history has no entry, and no write has failed.
-use Rattle.std.proofs.Common.{◌≡◌, ℕ, List, [], Option, None, IfSome, sym, subst}
+use Rattle.std.proofs.Common.{ℕ, List, Option, IfSome, sym, subst}
 use Rattle.sm_disk.specs.declared.disk.Disk.{Ghosts}
 use Rattle.sm_model.specs.declared.entry.Entry.{Entry}
 use Rattle.sm_core.specs.Vouching.{EachAllowed}
@@ -7,7 +7,7 @@ use Rattle.sm_rotation.specs.Vouched.{Replies}
 use Rattle.sm_store.specs.declared.store.Store.{Store}
 use Rattle.sm_account.specs.declared.books.Books.{Books}
 use Rattle.sm_account.specs.Allowed.{EntriesAllowed, IsAllowedAt}
-use Rattle.sm_account.specs.Books.{base_in, history_in}
+use Rattle.sm_account.specs.Books.{base_in}
 use Rattle.sm_account.specs.History.{entries_in}
 use Rattle.sm_account.specs.Openings.{AreBooksOver}
 

@@ -1,5 +1,5 @@
 -- How the books go on when a request is handled.
-use Rattle.std.proofs.Common.{◌≡◌, ℕ, Bool, true, false, cond, Option, Some, None, refl, sym, ap, subst}
+use Rattle.std.proofs.Common.{◌≡◌, ℕ, Bool, true, false, Option, Some, None, refl, sym, ap, subst}
 use Rattle.std.specs.Prelude.{◌+◌, nat_le, nat_lt, if◌then◌else◌}
 use Rattle.sm_base.specs.Outcomes.{OrMemory}
 use Rattle.sm_base.specs.declared.moment.Moment.{Moment}

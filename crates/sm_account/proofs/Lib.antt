@@ -21,3 +21,4 @@ pub mod TurnLemmas
 pub mod MayLemmas
 pub mod AccountLemmas
 mod FreshLemmas
+mod VouchLemmas

@@ -1,5 +1,5 @@
 -- The entries of rotations that may be made.
-use Rattle.std.proofs.Common.{◌≡◌, ℕ, ◌≤◌, Bool, true, false, List, [], length, Option, Some, None, IfSome, IsSomeAnd, IsTrue, refl, sym, ap, ◌∙◌, subst, arith}
+use Rattle.std.proofs.Common.{◌≡◌, ℕ, ◌≤◌, Bool, true, false, List, [], length, Option, Some, None, IsSomeAnd, IsTrue, refl, sym, ap, ◌∙◌, subst, arith}
 use Rattle.std.specs.Prelude.{if◌then◌else◌}
 use Rattle.sm_base.specs.Drawn.{drawn_token}
 use Rattle.sm_base.specs.declared.moment.Moment.{Moment}
@@ -14,7 +14,6 @@ use Rattle.sm_claims.specs.Due.{first_due}
 use Rattle.sm_claims.specs.Fresh.{is_fresh}
 use Rattle.sm_claims.proofs.ArnLemmas.{due_found, due_in}
 use Rattle.sm_claims.proofs.FreshLemmas.{fresh_attempt, fresh_job}
-use Rattle.sm_rotations.specs.Begun.{MayBegin}
 use Rattle.sm_rotations.specs.Reported.{MayReport, is_at_step}
 use Rattle.sm_rotator.specs.declared.work.Work.{Work}
 use Rattle.sm_sizes.specs.Spellable.{IsStep, is_small_answer}

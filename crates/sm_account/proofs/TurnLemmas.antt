@@ -1,5 +1,5 @@
 -- What an account does for a rotation, at its history.
-use Rattle.std.proofs.Common.{◌≡◌, ℕ, Bool, true, false, cond, List, Option, Some, None, IfSome, IsSomeAnd, refl, sym, ap, ◌∙◌, subst}
+use Rattle.std.proofs.Common.{◌≡◌, ℕ, Bool, true, false, List, Option, Some, None, IfSome, refl, sym, subst}
 use Rattle.std.proofs.Math.Logic.{∥∥₁_map}
 use Rattle.std.specs.Prelude.{if◌then◌else◌}
 use Rattle.sm_base.specs.declared.moment.Moment.{Moment}
@@ -151,7 +151,8 @@ module _ (replies : Replies) (rows : Rows) where
 module _ {D : Type 0} {G : Ghosts D} (old new : Books D G) (seat : ℕ) (now : Moment) (kept : Kept G old) where
   module _ (result : NextWork) where
     pub next_told : NextAs result (first_ready (history_in old) (later old.last now) old.table.secrets)
-        → NextAs result (ready_at (base_in old) (history_in old) (later (state_at (base_in old) (history_in old)).last now))
+        → NextAs result (ready_at (base_in old) (history_in old)
+        (later (state_at (base_in old) (history_in old)).last now))
     next_told next =
         subst (λ (s : State). NextAs result (first_ready (history_in old) (later s.last now) s.rows.secrets)) kept.state
         next
@@ -177,6 +178,7 @@ module _ {D : Type 0} {G : Ghosts D} (old new : Books D G) (seat : ℕ) (now : M
     reports_told reports = subst (λ s. ReportsAs result (report_at s now work answer)) kept.state reports
 
     pub reported_told : Leaves G old new seat (reported_by result (report_at (state_in old) now work answer))
-        → Leaves G old new seat (reported_by result (report_at (state_at (base_in old) (history_in old)) now work answer))
+        → Leaves G old new seat
+        (reported_by result (report_at (state_at (base_in old) (history_in old)) now work answer))
     reported_told leaves =
         subst (λ s. Leaves G old new seat (reported_by result (report_at s now work answer))) kept.state leaves

@@ -1,11 +1,12 @@
 -- Entries of rotations that a rotator's answers allow.
 -- AWS Secrets Manager User Guide: "Lambda rotation functions" (testSecret).
-use Rattle.std.specs.Prelude.{⊤, List, IfSome}
+use Rattle.std.specs.Prelude.{⊤, IfSome}
 use Rattle.sm_disk.specs.declared.disk.Disk.{Ghosts}
 use Rattle.sm_model.specs.declared.entry.Entry.{Entry}
 use Rattle.sm_model.specs.declared.rows.Rows.{Rows}
 use Rattle.sm_rotation.specs.Vouched.{Replies}
-use Rattle.sm_core.specs.Vouching.{EachAllowed, IsAllowed}
+use Rattle.sm_core.specs.Effects.{effect}
+use Rattle.sm_core.specs.Vouching.{EachAllowed, IsAllowed, Vouched}
 use Rattle.sm_account.specs.declared.books.Books.{Books}
 use Rattle.sm_account.specs.Books.{base_in, history_in}
 use Rattle.sm_account.specs.Deeds.{Deed, Nothing, Claimed, Made, Failed}
@@ -27,3 +28,10 @@ DeedAllowed replies rows (Failed entry) = IsAllowedAt replies rows entry
 pub record EntriesAllowed {D : Type 0} {G : Ghosts D} (replies : Replies) (books : Books D G) : Type 0 where
   pub made : EachAllowed replies (base_in books).rows (entries_in (history_in books))
   pub next : IfSome books.failed.value (IsAllowedAt replies books.table)
+
+-- If each attempt that a recovered secret remembers is one at which its rotator may have accepted the test, this is so of
+-- the secrets now, and it would be with the entry whose write failed last.
+pub record StayVouched {D : Type 0} {G : Ghosts D} (replies : Replies) (books : Books D G) : Type 0 where
+  pub now : Vouched replies (base_in books).rows → Vouched replies books.table
+  pub next : Vouched replies (base_in books).rows
+      → IfSome books.failed.value (λ entry. Vouched replies (effect books.table entry))

@@ -3,7 +3,6 @@
 use Rattle.std.specs.Prelude.{◌≡◌, ⊤, ℕ, List, [], ◌∷◌, ◌++◌, Option, Some, IsSomeAnd, option_map}
 use Rattle.sm_base.specs.declared.moment.Moment.{Moment}
 use Rattle.sm_model.specs.declared.entry.At.{At}
-use Rattle.sm_model.specs.declared.entry.Entry.{Entry as entries}
 use Rattle.sm_model.specs.declared.entry.Mark.{Mark}
 use Rattle.sm_model.specs.declared.entry.Mark.TheVariants.{Entry, Claim, Fault}
 use Rattle.sm_model.specs.declared.rows.SecretRow.{SecretRow}

@@ -1,5 +1,5 @@
 //! The account.
-ghost use Rattle.sm_account.specs.Allowed.{EntriesAllowed};
+ghost use Rattle.sm_account.specs.Allowed.{EntriesAllowed, StayVouched};
 ghost use Rattle.sm_account.specs.Books.{Kept};
 ghost use Rattle.sm_account.specs.KeptOnce.{Kept-prop};
 
@@ -180,9 +180,10 @@ impl<D: Disk, R: Rotator> Account<D, R> {
         // Each claim is of the step that was ready before it.
         ensures claims { ∥ ClaimsReady (base self.now) (history self.now) ∥₁ }
 
-        // Each answer that was entered is one that the rotator may give where it accepts a test. So if it was so of the
-        // recovered rows, each attempt that a secret remembers is one at which the test was accepted.
+        // Each answer that was entered is one that the rotator may give where it accepts a test. So where each attempt
+        // that a recovered secret remembers is one at which its rotator may have accepted the test, this stays so.
         ensures allowed { ∥ EntriesAllowed R.replies self.now.books ∥₁ }
+        ensures vouched { ∥ StayVouched R.replies self.now.books ∥₁ }
 
         // There are at most as many faults in the history as the disk's count rose by since the opening.
         ensures faults { FaultsBound (D.faults (began self.now)) (history self.now) (D.faults (disk self.now)) }

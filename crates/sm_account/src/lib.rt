@@ -10,6 +10,7 @@ mod entering;
 mod growing;
 pub mod handled;
 mod handling;
+pub mod laws;
 mod making;
 pub mod next_work;
 mod opening;

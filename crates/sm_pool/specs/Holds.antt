@@ -1,6 +1,6 @@
 -- What a rotation turn does in one hold of the account.
 -- AWS Secrets Manager User Guide: "Lambda rotation functions", "Rotation schedules".
-use Rattle.std.specs.Prelude.{◌≡◌, ⊤, ℕ, Bool, true, false, List, [], ◌∷◌, Option, Some, None, IsSomeAnd}
+use Rattle.std.specs.Prelude.{◌≡◌, ⊤, ℕ, Bool, true, false, List, [], ◌∷◌, ◌++◌, None, IsSomeAnd}
 use Rattle.sm_base.specs.declared.moment.Moment.{Moment}
 use Rattle.sm_model.specs.declared.entry.Answer.{Answer}
 use Rattle.sm_model.specs.declared.entry.Mark.{Mark}
@@ -12,15 +12,19 @@ use Rattle.sm_rotator.specs.declared.work.Work.{Work}
 use Rattle.sm_account.specs.declared.report.Reported.{Reported}
 use Rattle.sm_account.specs.declared.start_due.StartedDue.{StartedDue}
 use Rattle.sm_account.specs.Claims.{ready_at}
-use Rattle.sm_account.specs.Deeds.{marks_by}
+use Rattle.sm_account.specs.Deeds.{Deed, marks_by}
+use Rattle.sm_account.specs.History.{by_seat}
 use Rattle.sm_account.specs.Report.{ReportsAs, report_at, reported_by}
-use Rattle.sm_account.specs.Spells.{Shape}
 use Rattle.sm_account.specs.StartDue.{StartsAs, start_at, started_by}
 use Rattle.sm_account.specs.States.{Base, State, state_at}
+use Rattle.sm_spells.specs.Spells.{History, Shape}
+use Rattle.sm_table.specs.Sound.{Sound}
+use Rattle.sm_pool.specs.declared.holds.Found.{Found}
+use Rattle.sm_pool.specs.Found.{FoundAs, found_by}
 
 -- the history before a hold, the clock's reading in it, and the marks that it added
 pub record Hold : Type 0 where
-  pub before : List (ℕ × Mark)
+  pub before : History
   pub now : Moment
   pub marks : List Mark
 
@@ -59,3 +63,35 @@ abbrev pub ReportsIn : Base → Hold → Work → Answer → Reported → Type 0
 ReportsIn base hold work answer reported =
     let wanted = report_at (state_in base hold) hold.now work answer in
     ReportsAs reported wanted × (hold.marks ≡ marks_by (reported_by reported wanted))
+
+-- A hold of a seat between what it had seen and what it has seen then: a gap lies before it, and its marks behind it.
+pub record HeldAt (gap : History → History → Type 0) (seat : ℕ) (from to : History) (hold : Hold) : Type 0 where
+  pub comes : gap from hold.before
+  pub stands : to ≡ hold.before ++ by_seat seat hold.marks
+
+-- the hold with the mark of this deed
+abbrev pub hold_of : History → Moment → Deed → Hold
+hold_of before now deed = record { before = before; now = now; marks = marks_by deed }
+
+-- such holds at an account that was opened over the base
+module _ (base : Base) (gap : History → History → Type 0) (seat : ℕ) (from to : History) (now : Moment) where
+  -- in which somebody looked what there is to do
+  pub record LookHeld (found : Found) : Type 0 where
+    pub before : History
+    pub sound : Sound (state_at base before).rows
+    pub finds : FoundAs base before (later (state_at base before).last now) found
+    pub held : HeldAt gap seat from to (hold_of before now (found_by found (later (state_at base before).last now)))
+
+  -- in which a due rotation was to be started with these random bytes
+  pub record StartHeld (drawn : List ℕ) (started : StartedDue) : Type 0 where
+    pub before : History
+    pub starts : StartsAs started (start_at (state_at base before) now drawn)
+    pub held : HeldAt gap seat from to
+        (hold_of before now (started_by started (start_at (state_at base before) now drawn)))
+
+  -- in which an answer to the work was reported
+  pub record ReportHeld (work : Work) (answer : Answer) (reported : Reported) : Type 0 where
+    pub before : History
+    pub reports : ReportsAs reported (report_at (state_at base before) now work answer)
+    pub held : HeldAt gap seat from to
+        (hold_of before now (reported_by reported (report_at (state_at base before) now work answer)))

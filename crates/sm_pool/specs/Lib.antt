@@ -1,5 +1,6 @@
 pub mod Drawing
 pub mod Found
 pub mod Holds
+pub mod Ends
 pub mod Turns
 pub mod Alone

@@ -1,6 +1,6 @@
 -- Rotation turns: at most one step of a rotation, or the start of one that is due.
 -- AWS Secrets Manager User Guide: "Lambda rotation functions", "Rotation schedules".
-use Rattle.std.specs.Prelude.{◌≡◌, ⊤, ℕ, true, false, List, [], ◌∷◌, length, Option}
+use Rattle.std.specs.Prelude.{◌≡◌, ⊤, ℕ, true, false, List, [], ◌∷◌, ◌++◌, length, Option}
 use Rattle.std.specs.Io.KnownBytes.{append_known}
 use Rattle.sm_base.specs.Faults.{Rose}
 use Rattle.sm_model.specs.declared.entry.Answer.{Answer}
@@ -10,13 +10,15 @@ use Rattle.sm_rotator.specs.declared.work.Work.{Work}
 use Rattle.sm_account.specs.declared.report.Reported.{Reported}
 use Rattle.sm_account.specs.declared.report.Reported.TheVariants as reports
 use Rattle.sm_account.specs.declared.start_due.StartedDue.{StartedDue}
-use Rattle.sm_account.specs.declared.start_due.StartedDue.TheVariants as starts
+use Rattle.sm_account.specs.History.{by_seat}
 use Rattle.sm_account.specs.States.{Base}
 use Rattle.sm_pool.specs.declared.done.Done.{Done}
 use Rattle.sm_pool.specs.declared.done.Done.TheVariants as ends
 use Rattle.sm_pool.specs.declared.done.Trouble.{Trouble}
 use Rattle.sm_pool.specs.declared.done.Trouble.TheVariants as troubles
-use Rattle.sm_pool.specs.Holds.{Hold, FindsNothing, FindsWork, ReportsIn, StartsIn, is_due_in}
+use Rattle.sm_spells.specs.Spells.{History, Spell}
+use Rattle.sm_pool.specs.Ends.{due_ends, report_ends}
+use Rattle.sm_pool.specs.Holds.{Hold, FindsNothing, FindsWork, ReportsIn, StartsIn, hold_shape, is_due_in}
 
 -- what an object of the outside told before and after, where it tells something
 pub record Telling : Type 0 where
@@ -56,13 +58,6 @@ abbrev pub work_holds : WorkCourse → List Hold
 work_holds Unasked = []
 work_holds (Asked answer hold reported) = hold ∷ []
 
-abbrev pub report_ends : Work → Reported → Done
-report_ends work reports.Moved = ends.Did work.arn work.at
-report_ends work (reports.Stale at) = ends.Stale at
-report_ends work (reports.Limit limit) = ends.Trouble (troubles.Limit limit)
-report_ends work reports.DiskFault = ends.Trouble troubles.Disk
-report_ends work reports.Memory = ends.Trouble troubles.Memory
-
 abbrev pub work_ends : Work → WorkCourse → Done
 work_ends work Unasked = ends.Trouble troubles.Memory
 work_ends work (Asked answer hold reported) = report_ends work reported
@@ -79,6 +74,13 @@ pub record DoesWork (replies : Replies) (base : Base) (work : Work) (clock : Tel
   pub done_is : done ≡ work_ends work course
   pub readings : Tells clock (readings_of (work_holds course))
   pub failed : WorkFailed course (HasRisen rotator)
+
+-- A work between what a seat had seen and what it has seen then, with these gaps around its holds.
+pub record WorkDone (replies : Replies) (base : Base) (gap : History → History → Type 0) (seat : ℕ) (work : Work)
+    (clock : Telling) (rotator : Count) (from to : History) (done : Done) : Type 0 where
+  pub course : WorkCourse
+  pub does : DoesWork replies base work clock rotator course done
+  pub spell : Spell hold_shape gap seat (λ hold. ⊤) from (work_holds course) to
 
 -- ---- a due rotation
 
@@ -106,13 +108,6 @@ abbrev pub start_drawn : StartCourse → List ℕ
 start_drawn (Undrawn trouble) = []
 start_drawn (Begins drawn hold started) = drawn
 
-abbrev pub due_ends : StartedDue → Done
-due_ends (starts.Started arn) = ends.Started arn
-due_ends starts.None = ends.Idle
-due_ends (starts.Limit limit) = ends.Trouble (troubles.Limit limit)
-due_ends starts.DiskFault = ends.Trouble troubles.Disk
-due_ends starts.Memory = ends.Trouble troubles.Memory
-
 abbrev pub start_ends : StartCourse → Done
 start_ends (Undrawn trouble) = ends.Trouble trouble
 start_ends (Begins drawn hold started) = due_ends started
@@ -137,6 +132,13 @@ pub record StartsOne (base : Base) (clock words : Telling) (failures : Count) (c
   pub readings : Tells clock (readings_of (start_holds course))
   pub drawn : Tells words (start_drawn course)
   pub failed : StartFailed course (HasRisen failures)
+
+-- a start between what a seat had seen and what it has seen then
+pub record StartDone (base : Base) (gap : History → History → Type 0) (seat : ℕ) (clock words : Telling)
+    (failures : Count) (from to : History) (done : Done) : Type 0 where
+  pub course : StartCourse
+  pub starts : StartsOne base clock words failures course done
+  pub spell : Spell hold_shape gap seat (λ hold. ⊤) from (start_holds course) to
 
 -- ---- a turn
 
@@ -204,3 +206,31 @@ pub record TakesTurn (replies : Replies) (base : Base) (passing : Passing) (cour
   pub drawn : Tells passing.words (drawn_of course)
   pub rotator : RotatorFailed course (HasRisen passing.rotator_count)
   pub words : WordsFailed course (HasRisen passing.words_count)
+
+-- the verdict on a work came too late
+abbrev pub IsLate : Reported → Type 0
+IsLate reports.Moved = ⊥
+IsLate (reports.Stale at) = Unit {0}
+IsLate (reports.Limit limit) = ⊥
+IsLate reports.DiskFault = ⊥
+IsLate reports.Memory = ⊥
+
+-- a verdict comes too late only where others' marks stand between the hold in which its step was claimed and its own
+abbrev pub LateBehind : History → WorkCourse → Type 0
+LateBehind claimed Unasked = ⊤
+LateBehind claimed (Asked answer hold reported) = IsLate reported → hold.before ≡ claimed → ⊥
+
+abbrev pub LateApart : ℕ → Course → Type 0
+LateApart seat (Wants hold) = ⊤
+LateApart seat (Rests hold) = ⊤
+LateApart seat (Starts hold course) = ⊤
+LateApart seat (Works hold work course) = LateBehind (hold.before ++ by_seat seat hold.marks) course
+
+-- A turn of a seat, between what it had seen and what it has seen then, with these gaps around its holds. Nothing else
+-- stands in the history under the seat.
+pub record TurnDone (replies : Replies) (base : Base) (gap : History → History → Type 0) (seat : ℕ) (passing : Passing)
+    (from to : History) (done : Done) : Type 0 where
+  pub course : Course
+  pub takes : TakesTurn replies base passing course done
+  pub spell : Spell hold_shape gap seat (λ hold. ⊤) from (holds_of course) to
+  pub late : LateApart seat course

@@ -1,14 +1,15 @@
 //! What a rotation turn does while it holds the account.
-ghost use Rattle.std.specs.Prelude.{◌≡◌, ◌≤◌, ◌∷◌, []};
+ghost use Rattle.std.specs.Prelude.{◌≡◌, ◌≤◌, ◌∷◌, [], ◌⊎◌, IsSome};
 ghost use Rattle.std.specs.Io.KnownBytes.{append_known};
+ghost use Rattle.sm_base.specs.Faults.{Rose};
 ghost use Rattle.sm_base.specs.declared.moment.TheConstants.{LAST_READING};
 ghost use Rattle.sm_claims.specs.Due.{has_due};
 ghost use Rattle.sm_core.specs.Histories.{later};
-ghost use Rattle.sm_account.specs.Accounts.{base, history, rows, state, SameOrigin};
-ghost use Rattle.sm_account.specs.Deeds.{Leaves};
-ghost use Rattle.sm_account.specs.Report.{ReportsAs, report_at, reported_by};
-ghost use Rattle.sm_account.specs.StartDue.{StartsAs, start_at, started_by};
-ghost use Rattle.sm_pool.specs.Found.{FoundAs, due_or_nothing, found_by};
+ghost use Rattle.sm_account.specs.Accounts.{base, disk, failed, history, rows, state, SameOrigin};
+ghost use Rattle.sm_pool.specs.Alone.{NoGap, OnDisk};
+ghost use Rattle.sm_pool.specs.Ends.{due_ends, report_ends};
+ghost use Rattle.sm_pool.specs.Found.{due_or_nothing};
+ghost use Rattle.sm_pool.specs.Holds.{LookHeld, ReportHeld, StartHeld};
 
 use sm_account::{Account, NextWork, Reported, StartedDue};
 use sm_disk::Disk;
@@ -55,11 +56,11 @@ pub fn look<D: Disk, R: Rotator, C: Clock>(
     clock: &mut C,
 ) -> Looked
     ensures told { C.readings clock.new ≡ append_known (C.readings clock.old) (result.now.0 ∷ []) }
-    ensures found { FoundAs (base account.old) (history account.old) (later (state account.old).last result.now)
+    ensures looks { LookHeld (base account.old) NoGap seat (history account.old) (history account.new) result.now
         result.found }
-    ensures leaves { Leaves D.Disk account.old.books account.new.books seat
-        (found_by result.found (later (state account.old).last result.now)) }
     ensures origin { SameOrigin account.old account.new }
+    ensures unsure { IsSome (failed account.new) → IsSome (failed account.old) }
+    ensures disk_later { D.faults (disk account.old) ≤ D.faults (disk account.new) }
 {
     let now = clock.now();
     let found = match account.next_work(seat, now) {
@@ -90,16 +91,18 @@ pub fn start<D: Disk, R: Rotator, C: Clock>(
     drawn: &[u8; 16],
 ) -> StartedAt
     ensures told { C.readings clock.new ≡ append_known (C.readings clock.old) (result.now.0 ∷ []) }
-    ensures starts { StartsAs result.started (start_at (state account.old) result.now drawn.now) }
-    ensures leaves { Leaves D.Disk account.old.books account.new.books seat
-        (started_by result.started (start_at (state account.old) result.now drawn.now)) }
+    ensures starts { StartHeld (base account.old) NoGap seat (history account.old) (history account.new) result.now
+        drawn.now result.started }
     ensures origin { SameOrigin account.old account.new }
+    ensures unsure { IsSome (failed account.new) → IsSome (failed account.old)
+        ⊎ Rose (D.faults (disk account.old)) (D.faults (disk account.new)) }
+    ensures disk { OnDisk (due_ends result.started) (Rose (D.faults (disk account.old))
+        (D.faults (disk account.new))) }
+    ensures disk_later { D.faults (disk account.old) ≤ D.faults (disk account.new) }
 {
     let now = clock.now();
-    StartedAt {
-        now,
-        started: account.start_due(seat, now, drawn),
-    }
+    let started = account.start_due(seat, now, drawn);
+    StartedAt { now, started }
 }
 
 /// Reads the clock, and reports a verdict.
@@ -110,16 +113,16 @@ pub fn report<D: Disk, R: Rotator, C: Clock>(
     verdict: &Verdict<R>,
 ) -> ReportedAt
     ensures told { C.readings clock.new ≡ append_known (C.readings clock.old) (result.now.0 ∷ []) }
-    ensures reports { ReportsAs result.reported
-        (report_at (state account.old) result.now verdict.now.work verdict.now.answer) }
-    ensures leaves { Leaves D.Disk account.old.books account.new.books seat
-        (reported_by result.reported
-        (report_at (state account.old) result.now verdict.now.work verdict.now.answer)) }
+    ensures reports { ReportHeld (base account.old) NoGap seat (history account.old) (history account.new) result.now
+        verdict.now.work verdict.now.answer result.reported }
     ensures origin { SameOrigin account.old account.new }
+    ensures unsure { IsSome (failed account.new) → IsSome (failed account.old)
+        ⊎ Rose (D.faults (disk account.old)) (D.faults (disk account.new)) }
+    ensures disk { OnDisk (report_ends verdict.now.work result.reported) (Rose (D.faults (disk account.old))
+        (D.faults (disk account.new))) }
+    ensures disk_later { D.faults (disk account.old) ≤ D.faults (disk account.new) }
 {
     let now = clock.now();
-    ReportedAt {
-        now,
-        reported: account.report(seat, now, verdict),
-    }
+    let reported = account.report(seat, now, verdict);
+    ReportedAt { now, reported }
 }

@@ -1,21 +1,19 @@
 //! One rotation turn of an account that nobody else holds.
-ghost use Rattle.std.specs.Prelude.{◌≡◌, ◌≤◌, ◌⊎◌, ⊤, IsSome};
+ghost use Rattle.std.specs.Prelude.{◌≡◌, ◌≤◌, ◌⊎◌, IsSome};
 ghost use Rattle.sm_base.specs.Faults.{Rose};
 ghost use Rattle.sm_account.specs.Accounts.{base, disk, failed, history, SameOrigin};
-ghost use Rattle.sm_account.specs.Spells.{NoGap, Spell};
-ghost use Rattle.sm_pool.specs.Alone.{Always, IsStale, OnDisk};
-ghost use Rattle.sm_pool.specs.Holds.{hold_shape};
-ghost use Rattle.sm_pool.specs.Turns.{Course, DoesWork, StartCourse, StartsOne, TakesTurn, WorkCourse, due_ends, holds_of, report_ends, start_holds, work_holds};
+ghost use Rattle.sm_pool.specs.Alone.{IsStale, NoGap, OnDisk};
+ghost use Rattle.sm_pool.specs.Turns.{StartDone, TurnDone, WorkDone};
 
 use crate::asking::ask;
-use crate::done::{Done, Trouble};
+use crate::done::{Done, Trouble, done_reported, done_started};
 use crate::drawing::{Drawn, draw};
 use crate::holds::{Found, look, report, start};
-use sm_account::{Account, Reported, StartedDue};
+use sm_account::Account;
 use sm_disk::Disk;
 use sm_io::{Clock, Words};
 use sm_model::NoMemory;
-use sm_rotator::{Rotator, Verdict, Work};
+use sm_rotator::{Rotator, Work};
 
 /// Does one step of a rotation that is ready: reads the clock, claims the step, asks the rotator, reads the clock again
 /// and reports the answer. Where none is ready, and some rotation is due, it draws the random bytes of a token, reads
@@ -27,15 +25,13 @@ pub fn one_turn<C: Clock, W: Words, D: Disk, R: Rotator>(
     clock: &mut C,
     words: &mut W,
 ) -> Done
-    // What the turn did, one hold after the other.
-    ensures turn { (course : Course)
-        × TakesTurn R.replies (base account.old) (record {
-          clock = record { before = C.readings clock.old; after = C.readings clock.new };
-          words = record { before = W.drawn words.old; after = W.drawn words.new };
-          words_count = record { before = W.faults words.old; after = W.faults words.new };
-          rotator_count = record { before = R.faults rotator.old; after = R.faults rotator.new };
-        }) course result
-        × Spell hold_shape NoGap seat Always (history account.old) (holds_of course) (history account.new) }
+    // What the turn did, one hold after the other, and nothing else came between.
+    ensures turn { TurnDone R.replies (base account.old) NoGap seat (record {
+      clock = record { before = C.readings clock.old; after = C.readings clock.new };
+      words = record { before = W.drawn words.old; after = W.drawn words.new };
+      words_count = record { before = W.faults words.old; after = W.faults words.new };
+      rotator_count = record { before = R.faults rotator.old; after = R.faults rotator.new };
+    }) (history account.old) (history account.new) result }
 
     // No verdict comes too late, since nobody else holds the account.
     ensures never_stale { IsStale result → ⊥ }
@@ -48,7 +44,8 @@ pub fn one_turn<C: Clock, W: Words, D: Disk, R: Rotator>(
     ensures rotator_later { R.faults rotator.old ≤ R.faults rotator.new }
     ensures words_later { W.faults words.old ≤ W.faults words.new }
 {
-    match look(account, seat, clock).found {
+    let looked = look(account, seat, clock);
+    match looked.found {
         Found::Work(work) => do_work(account, seat, rotator, clock, work),
         Found::Due => start_one(account, seat, clock, words),
         Found::Nothing => Done::Idle,
@@ -64,11 +61,10 @@ fn do_work<C: Clock, D: Disk, R: Rotator>(
     clock: &mut C,
     work: Work,
 ) -> Done
-    ensures does { (course : WorkCourse)
-        × DoesWork R.replies (base account.old) work
+    ensures does { WorkDone R.replies (base account.old) NoGap seat work
         (record { before = C.readings clock.old; after = C.readings clock.new })
-        (record { before = R.faults rotator.old; after = R.faults rotator.new }) course result
-        × Spell hold_shape NoGap seat Always (history account.old) (work_holds course) (history account.new) }
+        (record { before = R.faults rotator.old; after = R.faults rotator.new })
+        (history account.old) (history account.new) result }
     ensures origin { SameOrigin account.old account.new }
     ensures unsure { IsSome (failed account.new) → IsSome (failed account.old)
         ⊎ Rose (D.faults (disk account.old)) (D.faults (disk account.new)) }
@@ -92,12 +88,11 @@ fn start_one<C: Clock, W: Words, D: Disk, R: Rotator>(
     clock: &mut C,
     words: &mut W,
 ) -> Done
-    ensures starts { (course : StartCourse)
-        × StartsOne (base account.old)
+    ensures starts { StartDone (base account.old) NoGap seat
         (record { before = C.readings clock.old; after = C.readings clock.new })
         (record { before = W.drawn words.old; after = W.drawn words.new })
-        (record { before = W.faults words.old; after = W.faults words.new }) course result
-        × Spell hold_shape NoGap seat Always (history account.old) (start_holds course) (history account.new) }
+        (record { before = W.faults words.old; after = W.faults words.new })
+        (history account.old) (history account.new) result }
     ensures origin { SameOrigin account.old account.new }
     ensures unsure { IsSome (failed account.new) → IsSome (failed account.old)
         ⊎ Rose (D.faults (disk account.old)) (D.faults (disk account.new)) }
@@ -112,33 +107,5 @@ fn start_one<C: Clock, W: Words, D: Disk, R: Rotator>(
         }
         Drawn::Failed => Done::Trouble(Trouble::Words),
         Drawn::Memory => Done::Trouble(Trouble::Memory),
-    }
-}
-
-/// How a report ends a turn.
-fn done_reported<R: Rotator>(reported: Reported, verdict: Verdict<R>) -> Done
-    ensures { result ≡ report_ends verdict.work reported }
-{
-    let Verdict { work, .. } = verdict;
-    let Work { arn, at, .. } = work;
-    match reported {
-        Reported::Moved => Done::Did(arn, at),
-        Reported::Stale(at) => Done::Stale(at),
-        Reported::Limit(limit) => Done::Trouble(Trouble::Limit(limit)),
-        Reported::DiskFault => Done::Trouble(Trouble::Disk),
-        Reported::Memory => Done::Trouble(Trouble::Memory),
-    }
-}
-
-/// How a start ends a turn.
-fn done_started(started: StartedDue) -> Done
-    ensures { result ≡ due_ends started }
-{
-    match started {
-        StartedDue::Started(arn) => Done::Started(arn),
-        StartedDue::None => Done::Idle,
-        StartedDue::Limit(limit) => Done::Trouble(Trouble::Limit(limit)),
-        StartedDue::DiskFault => Done::Trouble(Trouble::Disk),
-        StartedDue::Memory => Done::Trouble(Trouble::Memory),
     }
 }

@@ -1,4 +1,4 @@
-use Rattle.std.proofs.Common.{IsSomeAnd, arith, subst}
+use Rattle.std.proofs.Common.{IsSomeAnd, subst}
 use Rattle.sm_claims.specs.Ready.{first_ready}
 use Rattle.sm_claims.specs.Works.{IsWorkOf}
 use Rattle.sm_account.specs.Books.{history_in}

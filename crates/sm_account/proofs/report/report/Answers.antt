@@ -1,4 +1,4 @@
-use Rattle.std.proofs.Common.{◌≤◌, arith}
+use Rattle.std.proofs.Common.{arith}
 use Rattle.sm_account.specs.Books.{state_in}
 use Rattle.sm_account.proofs.DeedLemmas.{nothing_done}
 use Rattle.sm_account.proofs.EffortLemmas.{reported_so, reports_so, reports_stale}

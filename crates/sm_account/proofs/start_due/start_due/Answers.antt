@@ -1,9 +1,9 @@
-use Rattle.std.proofs.Common.{◌≤◌, arith, refl, subst, sym}
+use Rattle.std.proofs.Common.{arith, refl, subst, sym}
 use Rattle.sm_base.specs.Drawn.{drawn_token}
 use Rattle.sm_claims.specs.Due.{first_due}
 use Rattle.sm_account.specs.Books.{state_in}
 use Rattle.sm_account.specs.Handling.{MayEnter}
-use Rattle.sm_account.specs.StartDue.{Starts, start_for}
+use Rattle.sm_account.specs.StartDue.{Starts}
 use Rattle.sm_account.specs.declared.start_due.DueStart.{DueStart}
 use Rattle.sm_account.proofs.DeedLemmas.{nothing_done}
 use Rattle.sm_account.proofs.EffortLemmas.{none_due, start_is, started_so, starts_none, starts_so}

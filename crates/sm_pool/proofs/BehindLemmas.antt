@@ -1,0 +1,108 @@
+-- Holds of an account that stands behind a lock.
+use Rattle.std.proofs.Common.{◌≡◌, ◌⊎◌, ℕ, List, [], ◌∷◌, ◌++◌, drop, length, sym, ap, ◌∙◌, subst, inl, inr, append-nil}
+use Rattle.sm_base.specs.declared.moment.Moment.{Moment}
+use Rattle.sm_disk.specs.declared.disk.Disk.{Ghosts as DiskGhosts}
+use Rattle.sm_model.specs.declared.entry.Answer.{Answer}
+use Rattle.sm_model.specs.declared.entry.Entry.{Entry as entries}
+use Rattle.sm_model.specs.declared.entry.Mark.{Mark}
+use Rattle.sm_rotator.specs.declared.rotator.Rotator.{Ghosts as RotatorGhosts}
+use Rattle.sm_rotator.specs.declared.work.Work.{Work}
+use Rattle.sm_account.specs.Accounts.{SameOrigin, base, began, taken}
+use Rattle.sm_account.specs.Deeds.{Claimed, Deed, Failed, Made, Nothing, marks_by}
+use Rattle.sm_account.specs.History.{by_seat}
+use Rattle.sm_account.specs.States.{Base, base_of}
+use Rattle.sm_account.specs.declared.account.Account.{Account}
+use Rattle.sm_account.specs.declared.report.Reported.{Reported}
+use Rattle.sm_account.specs.declared.start_due.StartedDue.{StartedDue}
+use Rattle.sm_account.specs.declared.storied.Opened.{Opened}
+use Rattle.sm_lock.specs.Handles.{IsIn, built, mine, number, seen}
+use Rattle.sm_lock.specs.Story.{Grows, entries_of}
+use Rattle.sm_lock.specs.declared.gate.Gate.{Gate}
+use Rattle.sm_lock.specs.declared.pass.Pass.{Pass}
+use Rattle.sm_lock.specs.declared.storied.Storied.{Ghosts}
+use Rattle.sm_spells.specs.Spells.{History, Spell, marks_in}
+use Rattle.sm_spells.proofs.SpellLaws.{spell_mine}
+use Rattle.sm_pool.specs.declared.holds.Found.{Found}
+use Rattle.sm_pool.specs.Alone.{NoGap}
+use Rattle.sm_pool.specs.Holds.{HeldAt, Hold, LookHeld, ReportHeld, StartHeld, hold_shape}
+
+-- what an account was opened over
+module _ {D R : Type 0} {G : DiskGhosts D} {V : RotatorGhosts R} where
+  abbrev pub origin_of : Account D R G V → Opened D
+  origin_of account = record { taken = taken account; limit = (base account).limit; began = began account }
+
+  pub origin_stays : (old new : Account D R G V) → SameOrigin old new → origin_of new ≡ origin_of old
+  origin_stays old new same =
+      let of : List entries → ℕ → D → Opened D = λ taken limit began.
+      record { taken = taken; limit = limit; began = began } in
+      ap (λ t. of t (base new).limit (began new)) same.taken_stays
+      ∙ ap (λ (b : Base). of (taken old) b.limit (began new)) same.base_stays
+      ∙ ap (of (taken old) (base old).limit) same.began_stays
+
+  pub same_base : (a b : Account D R G V) → origin_of a ≡ origin_of b → base a ≡ base b
+  same_base a b same = ap (λ (o : Opened D). base_of o.taken o.limit) same
+
+-- a deed leaves one mark at most
+one_mark : (seat : ℕ) (before after : History) (deed : Deed) → after ≡ before ++ by_seat seat (marks_by deed)
+    → (after ≡ before) ⊎ ((mark : Mark) × (after ≡ before ++ (seat, mark) ∷ []))
+one_mark seat before after Nothing is = inl (is ∙ append-nil before)
+one_mark seat before after (Claimed arn at moment) is = inr (_, is)
+one_mark seat before after (Made entry) is = inr (_, is)
+one_mark seat before after (Failed entry) is = inr (_, is)
+
+-- a hold of an account that nobody else holds is one behind a lock, with what others added before it
+module _ (gap : History → History → Type 0) (seat : ℕ) (from entered left to : History) (entering : gap from entered)
+    (leaving : to ≡ left) where
+  held_behind : (hold : Hold) → HeldAt NoGap seat entered left hold → HeldAt gap seat from to hold
+  held_behind hold held = record {
+    comes = subst (gap from) (sym held.comes) entering;
+    stands = leaving ∙ held.stands;
+  }
+
+  module _ (one two : Base) (same : one ≡ two) (now : Moment) where
+    pub look_held : (found : Found) → LookHeld one NoGap seat entered left now found
+        → LookHeld two gap seat from to now found
+    look_held found look =
+        subst (λ b. LookHeld b gap seat from to now found) same (record {
+          before = look.before;
+          sound = look.sound;
+          finds = look.finds;
+          held = held_behind _ look.held;
+        })
+
+    pub start_held : (drawn : List ℕ) (started : StartedDue) → StartHeld one NoGap seat entered left now drawn started
+        → StartHeld two gap seat from to now drawn started
+    start_held drawn started start =
+        subst (λ b. StartHeld b gap seat from to now drawn started) same (record {
+          before = start.before;
+          starts = start.starts;
+          held = held_behind _ start.held;
+        })
+
+    pub report_held : (work : Work) (answer : Answer) (reported : Reported)
+        → ReportHeld one NoGap seat entered left now work answer reported
+        → ReportHeld two gap seat from to now work answer reported
+    report_held work answer reported report =
+        subst (λ b. ReportHeld b gap seat from to now work answer reported) same (record {
+          before = report.before;
+          reports = report.reports;
+          held = held_behind _ report.held;
+        })
+
+-- such a hold leaves one mark at most
+pub held_once : (seat : ℕ) (from to : History) (before : History) (deed : Deed) → before ≡ from
+    → to ≡ before ++ by_seat seat (marks_by deed)
+    → (to ≡ from) ⊎ ((mark : Mark) × (to ≡ from ++ (seat, mark) ∷ []))
+held_once seat from to before deed comes stands =
+    one_mark seat from to deed (stands ∙ ap (λ (h : History). h ++ by_seat seat (marks_by deed)) comes)
+
+-- what a seat's own marks are after holds
+module _ {T O : Type 0} {g : Ghosts T O Mark} (gate : Gate T O Mark) (pass after : Pass T O Mark g) where
+  pub holds_mine : (holds : List Hold) → IsIn gate pass → IsIn gate after → number after ≡ number pass
+      → Spell hold_shape (Grows (number pass ∷ [])) (number pass) (λ hold. Unit {0}) (seen pass) holds (seen after)
+      → mine after ≡ mine pass ++ marks_in hold_shape holds
+  holds_mine holds in_gate after_in same spell =
+      ap (λ (b : History). entries_of (number after) (drop (length b) (seen after))) (after_in.2 ∙ sym in_gate.2)
+      ∙ ap (λ n. entries_of n (drop (length (built pass)) (seen after))) same
+      ∙ spell_mine hold_shape (number pass) (λ hold. Unit {0}) (built pass) (seen pass) (seen after) holds pass.begins
+      spell

@@ -1,0 +1,7 @@
+mod KnownLemmas
+mod HoldLemmas
+mod LateLemmas
+mod CourseLemmas
+mod TurnLemmas
+mod AloneLemmas
+mod BehindLemmas
