@@ -29,8 +29,8 @@ pub record EntriesAllowed {D : Type 0} {G : Ghosts D} (replies : Replies) (books
   pub made : EachAllowed replies (base_in books).rows (entries_in (history_in books))
   pub next : IfSome books.failed.value (IsAllowedAt replies books.table)
 
--- If each attempt that a recovered secret remembers is one at which its rotator may have accepted the test, this is so of
--- the secrets now, and it would be with the entry whose write failed last.
+-- If each attempt that a recovered secret remembers is one at which its rotator may have accepted the test, this is so
+-- of the secrets now, and it would be with the entry whose write failed last.
 pub record StayVouched {D : Type 0} {G : Ghosts D} (replies : Replies) (books : Books D G) : Type 0 where
   pub now : Vouched replies (base_in books).rows → Vouched replies books.table
   pub next : Vouched replies (base_in books).rows

@@ -7,8 +7,8 @@ use Rattle.sm_core.specs.Histories.{last_moment, no_rows, replay}
 use Rattle.sm_account.specs.Books.{IsLegal}
 use Rattle.sm_account.specs.States.{first_moment}
 
--- where all entries are legal, and a clock can give the last one's moment, those up to any place are legal, and the rows
--- that they make are sound
+-- where all entries are legal, and a clock can give the last one's moment, those up to any place are legal, and the
+-- rows that they make are sound
 abbrev pub PrefixesStand : Type 0
 PrefixesStand =
     (before : List Entry) → (more : List Entry) → IsLegal (before ++ more)

@@ -176,7 +176,8 @@ module _ (people : People) (place : Place) where
 
     pub session_enough : number ≡ message_limit → Serves people place old now ended.Enough items
     session_enough all = serves_by old now ended.Enough s.turns items s.done
-        (wire_enough old.sides now.sides messages replies reader count s.wire (few_messages s.turns number s.size ∙ all))
+        (wire_enough old.sides now.sides messages replies reader count s.wire
+        (few_messages s.turns number s.size ∙ all))
 
     pub session_memory : number < message_limit → Serves people place old now ended.Memory items
     session_memory few = serves_by old now ended.Memory s.turns items s.done

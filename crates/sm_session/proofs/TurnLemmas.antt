@@ -95,7 +95,8 @@ module _ (Disk Random : Type 0) (base : Base) (history : History) where
     })
 
 -- causes may be said more weakly
-module _ (answer : Answer) (reply : Answered) (marks : List Mark) (Cause Weaker : Type 0) (weaker : Cause → Weaker) where
+module _ (answer : Answer) (reply : Answered) (marks : List Mark) (Cause Weaker : Type 0) (weaker : Cause → Weaker)
+    where
   fault_weaker : LeavesFault Cause answer reply marks → LeavesFault Weaker answer reply marks
   fault_weaker fault = (fault.0, weaker fault.1, fault.2)
 
@@ -117,7 +118,11 @@ pub turn_weaker : (Disk Disk' Random Random' : Type 0) → (Disk → Disk') → 
     → IsTurn Disk' Random' base history wanted turn
 turn_weaker Disk Disk' Random Random' disk random base history (Err why) turn t = t
 turn_weaker Disk Disk' Random Random' disk random base history (Ok asked) turn (inl r) =
-    inl (record { answer = r.answer; at = r.at; by = answers_weaker r.answer turn.reply turn.marks Disk Disk' disk r.by })
+    inl (record {
+      answer = r.answer;
+      at = r.at;
+      by = answers_weaker r.answer turn.reply turn.marks Disk Disk' disk r.by;
+    })
 turn_weaker Disk Disk' Random Random' disk random base history (Ok asked) turn (inr (inl f)) =
     inr (inl (f.0, random f.1, f.2, f.3))
 turn_weaker Disk Disk' Random Random' disk random base history (Ok asked) turn (inr (inr n)) = inr (inr n)

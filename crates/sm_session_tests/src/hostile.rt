@@ -168,7 +168,8 @@ const STREAMS: [Stream; 13] = [
     },
     Stream {
         texts: (
-            "POST / HTTP/1.1\r\nX-Amz-Target: secretsmanager.CreateSecret\r\nContent-Length: 271\r\n\r\n{\"Name\":\"n\",\"x\":",
+            "POST / HTTP/1.1\r\nX-Amz-Target: secretsmanager.CreateSecret\r\nContent-Length: 271\r\n\r\n\
+             {\"Name\":\"n\",\"x\":",
             "[",
             "]",
             127,
@@ -180,7 +181,8 @@ const STREAMS: [Stream; 13] = [
     },
     Stream {
         texts: (
-            "POST / HTTP/1.1\r\nX-Amz-Target: secretsmanager.CreateSecret\r\nContent-Length: 269\r\n\r\n{\"Name\":\"n\",\"x\":",
+            "POST / HTTP/1.1\r\nX-Amz-Target: secretsmanager.CreateSecret\r\nContent-Length: 269\r\n\r\n\
+             {\"Name\":\"n\",\"x\":",
             "[",
             "]",
             126,

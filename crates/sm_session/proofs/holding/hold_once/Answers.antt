@@ -55,7 +55,8 @@ returns-clause-holds g c =
         answers = subst (λ b. HandledAs h.result (outcome (state_at b before) question)) based
             (subst (λ a. HandledAs h.result (outcome (state a) question)) stood h.ensures.handled);
         stands = c.leave.ensures.seen ∙ subst
-            (λ s. history h.new.self ≡ before ++ by_seat s (marks_of h.result (outcome (state_at built before) question)))
+            (λ s. history h.new.self
+            ≡ before ++ by_seat s (marks_of h.result (outcome (state_at built before) question)))
             c.seat-seat.ensures (subst
             (λ b. history h.new.self
             ≡ before ++ by_seat c.seat-seat.result (marks_of h.result (outcome (state_at b before) question))) based

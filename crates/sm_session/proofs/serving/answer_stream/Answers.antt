@@ -132,7 +132,8 @@ returns-in-Err-clause-served g c =
     subst (λ t. Finishes why c.loop-number.count e t sides.taken now.sides.sink sides.sink) c.receive.ensures.taken
     (subst (λ n. Finishes why c.loop-number.count e (g.K.Sink.taken c.receive.new.conn) sides.taken n sides.sink)
     c.receive.ensures.sink c.conclude-ended.ensures.finishes) in
-    subst (λ (items : List TraceItem). Serves c.args.people.now place old (record { sides = sides; own = now.own }) e items)
+    let after : Around = record { sides = sides; own = now.own } in
+    subst (λ (items : List TraceItem). Serves c.args.people.now place old after e items)
     (sym c.reserve.ensures.items)
     (session_stops c.args.people.now place old c.loop-number.number now c.loop-number.reader c.loop-number.count
     c.loop-number.items.items i.so_far c.receive.new.reader sides why e c.loop-number-test.true reads stops finishes)
@@ -186,7 +187,8 @@ returns-then-not-sent-clause-served g c =
         (reply_of taken.result.said) taken.result.item =
     subst (λ n. TakesTurn (record { base = place.base; seat = n }) (heard c.args.people.now (content c.in-Ok.message))
     now.own own (reply_of taken.result.said) taken.result.item) i.numbered taken.ensures.turn in
-    let reads : Reads c.loop-number.reader (next.Message c.in-Ok.message) c.receive.new.reader now.sides.left sides.left =
+    let reads : Reads c.loop-number.reader (next.Message c.in-Ok.message) c.receive.new.reader now.sides.left
+        sides.left =
     subst (λ l. Reads c.loop-number.reader (next.Message c.in-Ok.message) c.receive.new.reader now.sides.left l)
     (sym c.reply-sent.ensures.left) c.in-Ok.ensures.reads in
     let sends : Sends c.reply-sent.result (framed_answer (reply_of taken.result.said)) now.sides.taken sides.taken
@@ -195,7 +197,8 @@ returns-then-not-sent-clause-served g c =
     sides.sink) c.receive.ensures.taken
     (subst (λ n. Sends c.reply-sent.result (framed_answer (reply_of taken.result.said))
     (g.K.Sink.taken c.receive.new.conn) sides.taken n sides.sink) c.receive.ensures.sink c.reply-sent.ensures.sent) in
-    let source : now.sides.source ≤ sides.source = omega (arith, c.receive.ensures.later, c.reply-sent.ensures.source) in
+    let source : now.sides.source ≤ sides.source =
+        omega (arith, c.receive.ensures.later, c.reply-sent.ensures.source) in
     let sink : now.sides.sink ≤ sides.sink = omega (arith, c.receive.ensures.sink, c.reply-sent.ensures.later) in
     session_cut c.args.people.now place old c.loop-number.number now c.loop-number.reader c.loop-number.count
     c.loop-number.items.items i.so_far c.receive.new.reader sides c.in-Ok.message own (reply_of taken.result.said)
@@ -252,7 +255,8 @@ loop-number-preserved g c =
         (reply_of taken.result.said) taken.result.item =
     subst (λ n. TakesTurn (record { base = place.base; seat = n }) (heard c.args.people.now (content c.in-Ok.message))
     now.own own (reply_of taken.result.said) taken.result.item) i.numbered taken.ensures.turn in
-    let reads : Reads c.loop-number.reader (next.Message c.in-Ok.message) c.receive.new.reader now.sides.left sides.left =
+    let reads : Reads c.loop-number.reader (next.Message c.in-Ok.message) c.receive.new.reader now.sides.left
+        sides.left =
     subst (λ l. Reads c.loop-number.reader (next.Message c.in-Ok.message) c.receive.new.reader now.sides.left l)
     (sym c.reply-sent.ensures.left) c.in-Ok.ensures.reads in
     let sends : Sends c.reply-sent.result (framed_answer (reply_of taken.result.said)) now.sides.taken sides.taken
@@ -261,7 +265,8 @@ loop-number-preserved g c =
     sides.sink) c.receive.ensures.taken
     (subst (λ n. Sends c.reply-sent.result (framed_answer (reply_of taken.result.said))
     (g.K.Sink.taken c.receive.new.conn) sides.taken n sides.sink) c.receive.ensures.sink c.reply-sent.ensures.sent) in
-    let source : now.sides.source ≤ sides.source = omega (arith, c.receive.ensures.later, c.reply-sent.ensures.source) in
+    let source : now.sides.source ≤ sides.source =
+        omega (arith, c.receive.ensures.later, c.reply-sent.ensures.source) in
     let sink : now.sides.sink ≤ sides.sink = omega (arith, c.receive.ensures.sink, c.reply-sent.ensures.later) in
     record {
       gate = taken.ensures.gate;
