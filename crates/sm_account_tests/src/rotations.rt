@@ -7,8 +7,8 @@ use sm_rotator::{LocalRotator, Rotator, ScriptRotator};
 use std::alloc::Global;
 use std::test::Fail;
 
-/// A script's steps: how many seconds after its beginning, what is done, what comes of it, and what stands then.
-type Script = [(u64, Step, &'static str, &'static str)];
+/// A step of a script: how many seconds after its beginning, what is done, what comes of it, and what stands then.
+type Line = (u64, Step, &'static str, &'static str);
 
 /// A rotation begins, and its version gets a value that its test refuses.
 const FILLED: [(u64, Step, &str, &str); 3] = [
@@ -19,12 +19,7 @@ const FILLED: [(u64, Step, &str, &str); 3] = [
         "yes",
         "2 Create 1 from 0; current 1, pending 2",
     ),
-    (
-        0,
-        Step::Fill,
-        "yes",
-        "2 Set 1 from 0; current 1, pending 2",
-    ),
+    (0, Step::Fill, "yes", "2 Set 1 from 0; current 1, pending 2"),
 ];
 
 /// A rotation that ends well.
@@ -260,11 +255,7 @@ const SCRIPTED: [(u64, Step, &str, &str); 8] = [
 ];
 
 /// What differs in scripts, one after the other, on a new account.
-fn run<R: Rotator>(
-    alloc: Global,
-    rotator: R,
-    scripts: &[&Script],
-) -> Result<Option<String>, Fail> {
+fn run<R: Rotator>(alloc: Global, rotator: R, scripts: &[&[Line]]) -> Result<Option<String>, Fail> {
     let calls = List::empty(alloc);
     let disk = disk_of(alloc, Bytes::empty(alloc), Fails { calls, from: None })?;
     let Ok(account) = Account::open(alloc, disk, 1, 100_000) else {

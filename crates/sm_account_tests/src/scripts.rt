@@ -17,7 +17,9 @@ pub const BEGIN: u64 = 1_700_000_000;
 
 /// The tokens begin with another character each.
 pub const FIRST: &str = "11111111-1111-4111-8111-111111111111";
+
 pub const SECOND: &str = "22222222-2222-4222-8222-222222222222";
+
 pub const THIRD: &str = "33333333-3333-4333-8333-333333333333";
 
 /// What is done.
@@ -266,9 +268,12 @@ fn job_text(alloc: Global, job: &Option<Job>) -> Result<String, Fail> {
     match job {
         Some(job) => {
             let after = job.retry_at.0.saturating_sub(BEGIN);
-            Ok(
-                format!(in alloc; "{} {:?} {} from {after}", mark_of(&job.token), job.stage, job.attempt)?,
-            )
+            Ok(format!(in alloc;
+                "{} {:?} {} from {after}",
+                mark_of(&job.token),
+                job.stage,
+                job.attempt
+            )?)
         }
         None => text_of(alloc, "no job"),
     }

@@ -14,15 +14,18 @@ const READER: &str = "{\"Version\":\"2012-10-17\",\"Statement\":[{\"Effect\":\"A
     \"Condition\":{\"StringEquals\":{\"secretsmanager:VersionStage\":\"AWSPENDING\"}}}]}";
 
 /// Everybody may do everything.
-const OPEN: &str = "{\"Version\":\"2012-10-17\",\"Statement\":{\"Effect\":\"Allow\",\"Principal\":\"*\",\
+const OPEN: &str =
+    "{\"Version\":\"2012-10-17\",\"Statement\":{\"Effect\":\"Allow\",\"Principal\":\"*\",\
     \"Action\":\"*\",\"Resource\":\"*\"}}";
 
 /// Nobody may rotate.
-const SHUT: &str = "{\"Version\":\"2012-10-17\",\"Statement\":{\"Effect\":\"Deny\",\"Principal\":\"*\",\
+const SHUT: &str =
+    "{\"Version\":\"2012-10-17\",\"Statement\":{\"Effect\":\"Deny\",\"Principal\":\"*\",\
     \"Action\":\"secretsmanager:RotateSecret\",\"Resource\":\"*\"}}";
 
 /// A statement with a member that there is not.
-const NOT_ACTION: &str = "{\"Version\":\"2012-10-17\",\"Statement\":{\"Effect\":\"Allow\",\"Principal\":\"*\",\
+const NOT_ACTION: &str =
+    "{\"Version\":\"2012-10-17\",\"Statement\":{\"Effect\":\"Allow\",\"Principal\":\"*\",\
     \"NotAction\":\"*\",\"Resource\":\"*\"}}";
 
 /// Who is of the account may get what there is of secrets whose ARNs match, by their names and where they are red.

@@ -432,12 +432,7 @@ fn answer(
 
 /// What can be answered on secrets, or on a table at a moment.
 pub trait Answered: Drop {
-    fn answer(
-        &self,
-        alloc: Global,
-        secrets: &mut Secrets,
-        person: &Person,
-    ) -> Result<String, Fail>;
+    fn answer(&self, alloc: Global, secrets: &mut Secrets, person: &Person) -> Result<String, Fail>;
 
     fn answer_there(&self, alloc: Global, table: &Table, moment: Moment) -> Result<String, Fail>;
 }

@@ -152,7 +152,7 @@ module _ (course : Course) (before after : Outside) (trace : Trace)
         let none : all ≡ [] = no_messages all end (subst (λ bytes. Messages bytes 0 all end) nothing are) in
         let no : List Answered = [] in
         let turns : ModelTurns course.people course.base [] (take message_limit all) no =
-            subst (λ ms. ModelTurns course.people course.base [] (take message_limit ms) no) (sym none) refl in
+        subst (λ ms. ModelTurns course.people course.base [] (take message_limit ms) no) (sym none) refl in
         (no, trace.written, turns, refl)
 
     module _ (sink_is : trace.sink ≡ growth (λ c. c.sink) before after)

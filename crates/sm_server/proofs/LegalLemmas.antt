@@ -71,9 +71,15 @@ outcome_follows base history question entry size is =
     let due = judged_due state (entry_at state question)
     (considered state.rows question.person (moment_at state question) question.drawn question.request) entry is in
     let formed = formed_due (forms_of question.request) (unless_denied denied judged) due.1 in
-    subst (MayFollow base (entries_in history)) (sym due.0)
-    (omega arith, (size, formed.0, due_for state.rows question.person moment question.drawn question.request
-    (admitted_due denied judged formed.1)))
+    subst (MayFollow base (entries_in history)) (sym due.0) (
+      omega arith,
+      (
+        size,
+        formed.0,
+        due_for state.rows question.person moment question.drawn question.request
+            (admitted_due denied judged formed.1),
+      ),
+    )
 
 made_follows : (base : Base) (history : List (ℕ × Mark)) (asked : Asked) (told : Told) (answer : Answer)
     → AnswerAt base history asked told answer
