@@ -183,14 +183,14 @@ returns-then-not-sent-clause-served g c =
       drawn = g.W.Words.drawn taken.new.words;
       random = g.W.Words.faults taken.new.words;
     } in
-    let turn : TakesTurn place (heard c.args.people.now (content c.in-Ok.message)) now.own own
+    let turn : TakesTurn place (heard c.args.people.now (content c.in-Ok-receive.message)) now.own own
         (reply_of taken.result.said) taken.result.item =
-    subst (λ n. TakesTurn (record { base = place.base; seat = n }) (heard c.args.people.now (content c.in-Ok.message))
+    subst (λ n. TakesTurn (record { base = place.base; seat = n }) (heard c.args.people.now (content c.in-Ok-receive.message))
     now.own own (reply_of taken.result.said) taken.result.item) i.numbered taken.ensures.turn in
-    let reads : Reads c.loop-number.reader (next.Message c.in-Ok.message) c.receive.new.reader now.sides.left
+    let reads : Reads c.loop-number.reader (next.Message c.in-Ok-receive.message) c.receive.new.reader now.sides.left
         sides.left =
-    subst (λ l. Reads c.loop-number.reader (next.Message c.in-Ok.message) c.receive.new.reader now.sides.left l)
-    (sym c.reply-sent.ensures.left) c.in-Ok.ensures.reads in
+    subst (λ l. Reads c.loop-number.reader (next.Message c.in-Ok-receive.message) c.receive.new.reader now.sides.left l)
+    (sym c.reply-sent.ensures.left) c.in-Ok-receive.ensures.reads in
     let sends : Sends c.reply-sent.result (framed_answer (reply_of taken.result.said)) now.sides.taken sides.taken
         now.sides.sink sides.sink =
     subst (λ t. Sends c.reply-sent.result (framed_answer (reply_of taken.result.said)) t sides.taken now.sides.sink
@@ -201,7 +201,7 @@ returns-then-not-sent-clause-served g c =
         omega (arith, c.receive.ensures.later, c.reply-sent.ensures.source) in
     let sink : now.sides.sink ≤ sides.sink = omega (arith, c.receive.ensures.sink, c.reply-sent.ensures.later) in
     session_cut c.args.people.now place old c.loop-number.number now c.loop-number.reader c.loop-number.count
-    c.loop-number.items.items i.so_far c.receive.new.reader sides c.in-Ok.message own (reply_of taken.result.said)
+    c.loop-number.items.items i.so_far c.receive.new.reader sides c.in-Ok-receive.message own (reply_of taken.result.said)
     taken.result.item turn reads source sink c.reply-sent.result sends c.saturating_add-count.result
     c.saturating_add-count.ensures c.loop-number-test.true
     (not-true c.reply-sent.result.whole c.if-not-sent.true)
@@ -251,14 +251,14 @@ loop-number-preserved g c =
       drawn = g.W.Words.drawn taken.new.words;
       random = g.W.Words.faults taken.new.words;
     } in
-    let turn : TakesTurn place (heard c.args.people.now (content c.in-Ok.message)) now.own own
+    let turn : TakesTurn place (heard c.args.people.now (content c.in-Ok-receive.message)) now.own own
         (reply_of taken.result.said) taken.result.item =
-    subst (λ n. TakesTurn (record { base = place.base; seat = n }) (heard c.args.people.now (content c.in-Ok.message))
+    subst (λ n. TakesTurn (record { base = place.base; seat = n }) (heard c.args.people.now (content c.in-Ok-receive.message))
     now.own own (reply_of taken.result.said) taken.result.item) i.numbered taken.ensures.turn in
-    let reads : Reads c.loop-number.reader (next.Message c.in-Ok.message) c.receive.new.reader now.sides.left
+    let reads : Reads c.loop-number.reader (next.Message c.in-Ok-receive.message) c.receive.new.reader now.sides.left
         sides.left =
-    subst (λ l. Reads c.loop-number.reader (next.Message c.in-Ok.message) c.receive.new.reader now.sides.left l)
-    (sym c.reply-sent.ensures.left) c.in-Ok.ensures.reads in
+    subst (λ l. Reads c.loop-number.reader (next.Message c.in-Ok-receive.message) c.receive.new.reader now.sides.left l)
+    (sym c.reply-sent.ensures.left) c.in-Ok-receive.ensures.reads in
     let sends : Sends c.reply-sent.result (framed_answer (reply_of taken.result.said)) now.sides.taken sides.taken
         now.sides.sink sides.sink =
     subst (λ t. Sends c.reply-sent.result (framed_answer (reply_of taken.result.said)) t sides.taken now.sides.sink
@@ -275,7 +275,7 @@ loop-number-preserved g c =
       sink_later = omega (arith, i.sink_later, sink);
       random_later = omega (arith, i.random_later, taken.ensures.later);
       so_far = so_far_more c.args.people.now place old c.loop-number.number now c.loop-number.reader c.loop-number.count
-          c.loop-number.items.items i.so_far c.receive.new.reader sides c.in-Ok.message own (reply_of taken.result.said)
+          c.loop-number.items.items i.so_far c.receive.new.reader sides c.in-Ok-receive.message own (reply_of taken.result.said)
           taken.result.item turn reads source sink c.reply-sent.result sends c.saturating_add-count.result
           c.saturating_add-count.ensures
           (not-false c.reply-sent.result.whole c.if-not-sent.false);
