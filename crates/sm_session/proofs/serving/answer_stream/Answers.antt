@@ -185,7 +185,8 @@ returns-then-not-sent-clause-served g c =
     } in
     let turn : TakesTurn place (heard c.args.people.now (content c.in-Ok-receive.message)) now.own own
         (reply_of taken.result.said) taken.result.item =
-    subst (λ n. TakesTurn (record { base = place.base; seat = n }) (heard c.args.people.now (content c.in-Ok-receive.message))
+    subst (λ n. TakesTurn (record { base = place.base; seat = n })
+    (heard c.args.people.now (content c.in-Ok-receive.message))
     now.own own (reply_of taken.result.said) taken.result.item) i.numbered taken.ensures.turn in
     let reads : Reads c.loop-number.reader (next.Message c.in-Ok-receive.message) c.receive.new.reader now.sides.left
         sides.left =
@@ -201,7 +202,8 @@ returns-then-not-sent-clause-served g c =
         omega (arith, c.receive.ensures.later, c.reply-sent.ensures.source) in
     let sink : now.sides.sink ≤ sides.sink = omega (arith, c.receive.ensures.sink, c.reply-sent.ensures.later) in
     session_cut c.args.people.now place old c.loop-number.number now c.loop-number.reader c.loop-number.count
-    c.loop-number.items.items i.so_far c.receive.new.reader sides c.in-Ok-receive.message own (reply_of taken.result.said)
+    c.loop-number.items.items i.so_far c.receive.new.reader sides c.in-Ok-receive.message own
+    (reply_of taken.result.said)
     taken.result.item turn reads source sink c.reply-sent.result sends c.saturating_add-count.result
     c.saturating_add-count.ensures c.loop-number-test.true
     (not-true c.reply-sent.result.whole c.if-not-sent.true)
@@ -253,7 +255,8 @@ loop-number-preserved g c =
     } in
     let turn : TakesTurn place (heard c.args.people.now (content c.in-Ok-receive.message)) now.own own
         (reply_of taken.result.said) taken.result.item =
-    subst (λ n. TakesTurn (record { base = place.base; seat = n }) (heard c.args.people.now (content c.in-Ok-receive.message))
+    subst (λ n. TakesTurn (record { base = place.base; seat = n })
+    (heard c.args.people.now (content c.in-Ok-receive.message))
     now.own own (reply_of taken.result.said) taken.result.item) i.numbered taken.ensures.turn in
     let reads : Reads c.loop-number.reader (next.Message c.in-Ok-receive.message) c.receive.new.reader now.sides.left
         sides.left =
@@ -275,7 +278,8 @@ loop-number-preserved g c =
       sink_later = omega (arith, i.sink_later, sink);
       random_later = omega (arith, i.random_later, taken.ensures.later);
       so_far = so_far_more c.args.people.now place old c.loop-number.number now c.loop-number.reader c.loop-number.count
-          c.loop-number.items.items i.so_far c.receive.new.reader sides c.in-Ok-receive.message own (reply_of taken.result.said)
+          c.loop-number.items.items i.so_far c.receive.new.reader sides c.in-Ok-receive.message own
+          (reply_of taken.result.said)
           taken.result.item turn reads source sink c.reply-sent.result sends c.saturating_add-count.result
           c.saturating_add-count.ensures
           (not-false c.reply-sent.result.whole c.if-not-sent.false);
