@@ -95,6 +95,13 @@ pub record SoFar (people : People) (place : Place) (old : Around) (number : ℕ)
   pub done : Done people place old.own now.own turns items
   pub wire : Wire old.sides (map (λ turn. turn.message) turns) (map (λ turn. turn.reply) turns) now.sides reader count
 
+-- of the same items
+module _ {people : People} {place : Place} {old now : Around} {number : ℕ} {reader : ReaderState} {count : ℕ}
+    {items : List TraceItem} where
+  pub so_far_listed : {items' : List TraceItem} → items' ≡ items
+      → SoFar people place old number now reader count items → SoFar people place old number now reader count items'
+  so_far_listed same = subst (λ them. SoFar people place old number now reader count them) (sym same)
+
 module _ (people : People) (place : Place) where
   pub so_far_first : (old : Around) (reader : ReaderState) (items : List TraceItem) → reader ≡ unread → items ≡ []
       → SoFar people place old 0 old reader 0 items

@@ -1,4 +1,4 @@
-use Rattle.std.proofs.Common.{◌≡◌, ◌≤◌, List, refl, sym, subst, arith, ◌∙◌}
+use Rattle.std.proofs.Common.{◌≡◌, ◌≤◌, List, [], ◌∷◌, ◌++◌, refl, sym, ap, subst, arith, ◌∙◌}
 use Rattle.std.proofs.lemmas.Bool.{not-true, not-false}
 use Rattle.sm_base.specs.Faults.{Rose}
 use Rattle.sm_account.specs.Accounts.{base}
@@ -12,7 +12,8 @@ use Rattle.sm_session.specs.declared.trace.TraceItem.{TraceItem}
 use Rattle.sm_session.specs.Endings.{Sides, Finishes, StopsBy}
 use Rattle.sm_session.specs.Replies.{reply_of, framed_answer}
 use Rattle.sm_session.specs.Sessions.{Place, Standing, Around, Serves, TakesTurn}
-use Rattle.sm_session.proofs.SessionLemmas.{so_far_first, so_far_more, session_cut, session_enough, session_memory, session_stops}
+use Rattle.sm_session.proofs.CompleteLemmas.{listed}
+use Rattle.sm_session.proofs.SessionLemmas.{so_far_first, so_far_listed, so_far_more, session_cut, session_enough, session_memory, session_stops}
 use Rattle.sm_session.proofs.serving.answer_stream.Goals as goal
 
 pub loop-number-init : goal.loop-number-init
@@ -201,12 +202,14 @@ returns-then-not-sent-clause-served g c =
     let source : now.sides.source ≤ sides.source =
         omega (arith, c.receive.ensures.later, c.reply-sent.ensures.source) in
     let sink : now.sides.sink ≤ sides.sink = omega (arith, c.receive.ensures.sink, c.reply-sent.ensures.later) in
-    session_cut c.args.people.now place old c.loop-number.number now c.loop-number.reader c.loop-number.count
+    let added : c.push_reserved.new.self.items ≡ c.loop-number.items.items ++ taken.result.item ∷ [] =
+        c.push_reserved.ensures.items ∙ ap (λ l. l ++ taken.result.item ∷ []) c.reserve.ensures.items in
+    listed added
+    (session_cut c.args.people.now place old c.loop-number.number now c.loop-number.reader c.loop-number.count
     c.loop-number.items.items i.so_far c.receive.new.reader sides c.in-Ok-receive.message own
-    (reply_of taken.result.said)
-    taken.result.item turn reads source sink c.reply-sent.result sends c.saturating_add-count.result
-    c.saturating_add-count.ensures c.loop-number-test.true
-    (not-true c.reply-sent.result.whole c.if-not-sent.true)
+    (reply_of taken.result.said) taken.result.item turn reads source sink c.reply-sent.result sends
+    c.saturating_add-count.result c.saturating_add-count.ensures c.loop-number-test.true
+    (not-true c.reply-sent.result.whole c.if-not-sent.true))
 
 pub loop-number-preserved : goal.loop-number-preserved
 loop-number-preserved g c =
@@ -271,18 +274,20 @@ loop-number-preserved g c =
     let source : now.sides.source ≤ sides.source =
         omega (arith, c.receive.ensures.later, c.reply-sent.ensures.source) in
     let sink : now.sides.sink ≤ sides.sink = omega (arith, c.receive.ensures.sink, c.reply-sent.ensures.later) in
+    let added : c.push_reserved.new.self.items ≡ c.loop-number.items.items ++ taken.result.item ∷ [] =
+        c.push_reserved.ensures.items ∙ ap (λ l. l ++ taken.result.item ∷ []) c.reserve.ensures.items in
     record {
       gate = taken.ensures.gate;
       numbered = taken.ensures.number ∙ i.numbered;
       source_later = omega (arith, i.source_later, source);
       sink_later = omega (arith, i.sink_later, sink);
       random_later = omega (arith, i.random_later, taken.ensures.later);
-      so_far = so_far_more c.args.people.now place old c.loop-number.number now c.loop-number.reader c.loop-number.count
+      so_far = so_far_listed added
+          (so_far_more c.args.people.now place old c.loop-number.number now c.loop-number.reader c.loop-number.count
           c.loop-number.items.items i.so_far c.receive.new.reader sides c.in-Ok-receive.message own
-          (reply_of taken.result.said)
-          taken.result.item turn reads source sink c.reply-sent.result sends c.saturating_add-count.result
-          c.saturating_add-count.ensures
-          (not-false c.reply-sent.result.whole c.if-not-sent.false);
+          (reply_of taken.result.said) taken.result.item turn reads source sink c.reply-sent.result sends
+          c.saturating_add-count.result c.saturating_add-count.ensures
+          (not-false c.reply-sent.result.whole c.if-not-sent.false));
     }
 
 pub returns-clause-served : goal.returns-clause-served
