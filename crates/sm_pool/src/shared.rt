@@ -8,7 +8,9 @@ ghost use Rattle.sm_pool.specs.Holds.{hold_shape};
 ghost use Rattle.sm_pool.specs.Turns.{StartDone, TurnDone, WorkDone, holds_of};
 
 use crate::asking::ask;
-use crate::behind::{look_behind, report_behind, start_behind};
+use crate::behind::{
+    LookBehind, ReportBehind, StartBehind, look_behind, report_behind, start_behind,
+};
 use crate::done::{Done, Trouble, done_reported, done_started};
 use crate::drawing::{Drawn, draw};
 use crate::holds::Found;
@@ -59,16 +61,16 @@ pub fn rotation_turn<C: Clock, W: Words, D: Disk, R: Rotator, H: Wait>(
     ensures rotator_later { R.faults rotator.old ≤ R.faults rotator.new }
     ensures words_later { W.faults words.old ≤ W.faults words.new }
 {
-    let first = look_behind(rt, gate, pass, clock);
-    match first.looked.found {
-        Found::Work(work) => work_behind(rt, gate, first.pass, rotator, clock, work),
-        Found::Due => draw_behind(rt, gate, first.pass, clock, words),
+    let LookBehind { pass, looked } = look_behind(rt, gate, pass, clock);
+    match looked.found {
+        Found::Work(work) => work_behind(rt, gate, pass, rotator, clock, work),
+        Found::Due => draw_behind(rt, gate, pass, clock, words),
         Found::Nothing => TurnedBy {
-            pass: first.pass,
+            pass,
             done: Done::Idle,
         },
         Found::Memory => TurnedBy {
-            pass: first.pass,
+            pass,
             done: Done::Trouble(Trouble::Memory),
         },
     }
@@ -94,10 +96,10 @@ fn work_behind<C: Clock, D: Disk, R: Rotator, H: Wait>(
 {
     match ask(rotator, work) {
         Ok(verdict) => {
-            let second = report_behind(rt, gate, pass, clock, &verdict);
+            let ReportBehind { pass, told } = report_behind(rt, gate, pass, clock, &verdict);
             TurnedBy {
-                pass: second.pass,
-                done: done_reported(second.told.reported, verdict),
+                pass,
+                done: done_reported(told.reported, verdict),
             }
         }
         Err(NoMemory) => TurnedBy {
@@ -127,10 +129,10 @@ fn draw_behind<C: Clock, W: Words, D: Disk, R: Rotator, H: Wait>(
 {
     match draw(words) {
         Drawn::Bytes(drawn) => {
-            let second = start_behind(rt, gate, pass, clock, &drawn);
+            let StartBehind { pass, begun } = start_behind(rt, gate, pass, clock, &drawn);
             TurnedBy {
-                pass: second.pass,
-                done: done_started(second.begun.started),
+                pass,
+                done: done_started(begun.started),
             }
         }
         Drawn::Failed => TurnedBy {
