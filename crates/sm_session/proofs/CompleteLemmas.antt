@@ -30,11 +30,14 @@ module _ (Cause : Type 0) (answer : Answer) (reply : Answered) (marks : List Mar
   no_fault (inl given) = inl given
   no_fault (inr (inl fault)) = absurd (none fault.1.2)
   no_fault (inr (inr lost)) =
-      inr (inr (lost.0, elim lost.1 [
-        | inl made ↦ inl made
-        | inr (inl fault) ↦ absurd (none fault.2)
-        | inr (inr unmade) ↦ inr (inr unmade)
-      ]))
+      inr (inr (
+        lost.0,
+        elim lost.1 [
+          | inl made ↦ inl made
+          | inr (inl fault) ↦ absurd (none fault.2)
+          | inr (inr unmade) ↦ inr (inr unmade)
+        ],
+      ))
 
 model_turn : (Disk Random : Type 0) (base : Base) (history : History) (wanted : Result Asked Why) (turn : Turn)
     → IsTurn Disk Random base history wanted turn → (turn.marks ≡ Fault ∷ [] → ⊥) → (Random → ⊥)

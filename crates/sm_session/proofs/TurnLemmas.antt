@@ -96,22 +96,22 @@ module _ (Disk Random : Type 0) (base : Base) (history : History) where
 
 -- causes may be said more weakly
 module _ (answer : Answer) (reply : Answered) (marks : List Mark) (Cause Weaker : Type 0) (weaker : Cause → Weaker)
-    where
-  fault_weaker : LeavesFault Cause answer reply marks → LeavesFault Weaker answer reply marks
-  fault_weaker fault = (fault.0, weaker fault.1, fault.2)
+  where
+    fault_weaker : LeavesFault Cause answer reply marks → LeavesFault Weaker answer reply marks
+    fault_weaker fault = (fault.0, weaker fault.1, fault.2)
 
-  pub answers_weaker : AnswersBy Cause answer reply marks → AnswersBy Weaker answer reply marks
-  answers_weaker (inl given) = inl given
-  answers_weaker (inr (inl fault)) = inr (inl (fault.0, fault_weaker fault.1))
-  answers_weaker (inr (inr lost)) =
-      inr (inr (
-        lost.0,
-        elim lost.1 [
-          | inl made ↦ inl made
-          | inr (inl fault) ↦ inr (inl (fault_weaker fault))
-          | inr (inr unmade) ↦ inr (inr unmade)
-        ],
-      ))
+    pub answers_weaker : AnswersBy Cause answer reply marks → AnswersBy Weaker answer reply marks
+    answers_weaker (inl given) = inl given
+    answers_weaker (inr (inl fault)) = inr (inl (fault.0, fault_weaker fault.1))
+    answers_weaker (inr (inr lost)) =
+        inr (inr (
+          lost.0,
+          elim lost.1 [
+            | inl made ↦ inl made
+            | inr (inl fault) ↦ inr (inl (fault_weaker fault))
+            | inr (inr unmade) ↦ inr (inr unmade)
+          ],
+        ))
 
 pub turn_weaker : (Disk Disk' Random Random' : Type 0) → (Disk → Disk') → (Random → Random') → (base : Base)
     (history : History) (wanted : Result Asked Why) (turn : Turn) → IsTurn Disk Random base history wanted turn

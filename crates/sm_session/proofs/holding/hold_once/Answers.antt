@@ -29,10 +29,10 @@ leave-requires-clause-entry g c =
     let wanted : Outcome = outcome (state c.value-2.result.now) question in
     let marks = marks_of h.result wanted in
     let before : history c.value-2.result.now ≡ entered held =
-        ap history (c.value-2.ensures.value ∙ c.value.ensures.value) ∙ sym c.enter-held.ensures.entered in
+    ap history (c.value-2.ensures.value ∙ c.value.ensures.value) ∙ sym c.enter-held.ensures.entered in
     at_most_one (holder held) (entered held) (history h.new.self) h.result wanted (h.ensures.history
-        ∙ ap (λ b. b ++ by_seat c.seat-seat.result marks) before
-        ∙ ap (λ s. entered held ++ by_seat s marks) (c.seat-seat.ensures ∙ sym c.enter-held.ensures.holder))
+    ∙ ap (λ b. b ++ by_seat c.seat-seat.result marks) before
+    ∙ ap (λ s. entered held ++ by_seat s marks) (c.seat-seat.ensures ∙ sym c.enter-held.ensures.holder))
 
 pub returns-clause-holds : goal.returns-clause-holds
 returns-clause-holds g c =

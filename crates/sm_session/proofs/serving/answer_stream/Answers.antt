@@ -185,25 +185,25 @@ returns-then-not-sent-clause-served g c =
       random = g.W.Words.faults taken.new.words;
     } in
     let turn : TakesTurn place (heard c.args.people.now (content c.in-Ok-receive.message)) now.own own
-        (reply_of taken.result.said) taken.result.item =
+    (reply_of taken.result.said) taken.result.item =
     subst (λ n. TakesTurn (record { base = place.base; seat = n })
     (heard c.args.people.now (content c.in-Ok-receive.message))
     now.own own (reply_of taken.result.said) taken.result.item) i.numbered taken.ensures.turn in
     let reads : Reads c.loop-number.reader (next.Message c.in-Ok-receive.message) c.receive.new.reader now.sides.left
-        sides.left =
+    sides.left =
     subst (λ l. Reads c.loop-number.reader (next.Message c.in-Ok-receive.message) c.receive.new.reader now.sides.left l)
     (sym c.reply-sent.ensures.left) c.in-Ok-receive.ensures.reads in
     let sends : Sends c.reply-sent.result (framed_answer (reply_of taken.result.said)) now.sides.taken sides.taken
-        now.sides.sink sides.sink =
+    now.sides.sink sides.sink =
     subst (λ t. Sends c.reply-sent.result (framed_answer (reply_of taken.result.said)) t sides.taken now.sides.sink
     sides.sink) c.receive.ensures.taken
     (subst (λ n. Sends c.reply-sent.result (framed_answer (reply_of taken.result.said))
     (g.K.Sink.taken c.receive.new.conn) sides.taken n sides.sink) c.receive.ensures.sink c.reply-sent.ensures.sent) in
     let source : now.sides.source ≤ sides.source =
-        omega (arith, c.receive.ensures.later, c.reply-sent.ensures.source) in
+    omega (arith, c.receive.ensures.later, c.reply-sent.ensures.source) in
     let sink : now.sides.sink ≤ sides.sink = omega (arith, c.receive.ensures.sink, c.reply-sent.ensures.later) in
     let added : c.push_reserved.new.self.items ≡ c.loop-number.items.items ++ taken.result.item ∷ [] =
-        c.push_reserved.ensures.items ∙ ap (λ l. l ++ taken.result.item ∷ []) c.reserve.ensures.items in
+    c.push_reserved.ensures.items ∙ ap (λ l. l ++ taken.result.item ∷ []) c.reserve.ensures.items in
     listed added
     (session_cut c.args.people.now place old c.loop-number.number now c.loop-number.reader c.loop-number.count
     c.loop-number.items.items i.so_far c.receive.new.reader sides c.in-Ok-receive.message own
@@ -257,25 +257,25 @@ loop-number-preserved g c =
       random = g.W.Words.faults taken.new.words;
     } in
     let turn : TakesTurn place (heard c.args.people.now (content c.in-Ok-receive.message)) now.own own
-        (reply_of taken.result.said) taken.result.item =
+    (reply_of taken.result.said) taken.result.item =
     subst (λ n. TakesTurn (record { base = place.base; seat = n })
     (heard c.args.people.now (content c.in-Ok-receive.message))
     now.own own (reply_of taken.result.said) taken.result.item) i.numbered taken.ensures.turn in
     let reads : Reads c.loop-number.reader (next.Message c.in-Ok-receive.message) c.receive.new.reader now.sides.left
-        sides.left =
+    sides.left =
     subst (λ l. Reads c.loop-number.reader (next.Message c.in-Ok-receive.message) c.receive.new.reader now.sides.left l)
     (sym c.reply-sent.ensures.left) c.in-Ok-receive.ensures.reads in
     let sends : Sends c.reply-sent.result (framed_answer (reply_of taken.result.said)) now.sides.taken sides.taken
-        now.sides.sink sides.sink =
+    now.sides.sink sides.sink =
     subst (λ t. Sends c.reply-sent.result (framed_answer (reply_of taken.result.said)) t sides.taken now.sides.sink
     sides.sink) c.receive.ensures.taken
     (subst (λ n. Sends c.reply-sent.result (framed_answer (reply_of taken.result.said))
     (g.K.Sink.taken c.receive.new.conn) sides.taken n sides.sink) c.receive.ensures.sink c.reply-sent.ensures.sent) in
     let source : now.sides.source ≤ sides.source =
-        omega (arith, c.receive.ensures.later, c.reply-sent.ensures.source) in
+    omega (arith, c.receive.ensures.later, c.reply-sent.ensures.source) in
     let sink : now.sides.sink ≤ sides.sink = omega (arith, c.receive.ensures.sink, c.reply-sent.ensures.later) in
     let added : c.push_reserved.new.self.items ≡ c.loop-number.items.items ++ taken.result.item ∷ [] =
-        c.push_reserved.ensures.items ∙ ap (λ l. l ++ taken.result.item ∷ []) c.reserve.ensures.items in
+    c.push_reserved.ensures.items ∙ ap (λ l. l ++ taken.result.item ∷ []) c.reserve.ensures.items in
     record {
       gate = taken.ensures.gate;
       numbered = taken.ensures.number ∙ i.numbered;
