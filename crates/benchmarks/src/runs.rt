@@ -3,6 +3,7 @@ use sm_base::NoMemory;
 use sm_disk::FileDisk;
 use sm_io::{CountWords, FixedClock, StreamSink, StreamSource};
 use sm_model::{Fails, Moment};
+use sm_rotator::LocalRotator;
 use sm_server::run_once;
 use std::alloc::Global;
 
@@ -25,6 +26,7 @@ pub fn run(rt: &HostRuntime, folder: &str) -> Option<usize> {
     let mut sink = StreamSink::new(rt.stdout());
     let mut clock = FixedClock::new(Moment(1_700_000_000));
     let mut random = CountWords::new(alloc, 0, Fails::never(alloc));
+    let mut rotator = LocalRotator::new(alloc);
     let (status, _) = run_once(
         alloc,
         words.as_slice(),
@@ -34,6 +36,7 @@ pub fn run(rt: &HostRuntime, folder: &str) -> Option<usize> {
         &mut clock,
         &mut random,
         b"",
+        &mut rotator,
     );
     Some(usize::from(status.code()))
 }

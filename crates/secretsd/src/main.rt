@@ -1,7 +1,7 @@
 //! A server with the behaviour of AWS Secrets Manager on one's own machine.
 //!
 //! For now it answers the HTTP messages of standard input on standard output and ends:
-//! `secretsd --data FOLDER < messages`.
+//! `secretsd --data FOLDER < messages`. `secretsd --mode check --data FOLDER` says what the folder holds.
 //! `secretsd --help` says which words it takes.
 #![tactic(auto)]
 
@@ -9,9 +9,10 @@ use sm_disk::{Disk, FileDisk, MemoryDisk};
 use sm_io::{
     Clock, CountWords, FixedClock, StreamSink, StreamSource, SystemClock, SystemWords, Words,
 };
-use sm_model::{Bytes, Fails, Moment, NoMemory};
+use sm_model::{Bytes, Copied, Fails, Moment, NoMemory};
 use sm_principal::{People, PeopleRefused};
-use sm_server::{Status, end_of_settings, run_once};
+use sm_rotator::{LinkRotator, LocalRotator, Rotator};
+use sm_server::{Status, run_once, task_of_mode};
 use sm_words::{Settings, WordsRefused, read_words, refusal_of};
 use std::alloc::Global;
 use std::env::Env;
@@ -47,20 +48,32 @@ fn words(rt: &(impl Env + AllocGlobal), alloc: Global) -> io::Result<Vec<String>
     Ok(words)
 }
 
+/// What a run is asked for: its words, what they say, and the text of the people who may ask.
+struct Orders<'a> {
+    words: &'a [String],
+    settings: &'a Settings,
+    people: &'a [u8],
+}
+
 /// Does what the words ask for. No folder is opened for words that are not followed.
 fn follow(rt: &HostRuntime, words: &[String]) -> Status {
     match read_words(rt.alloc(), words) {
-        Ok(settings) => match end_of_settings(&settings) {
-            Some(status) => {
-                let _ = eprintln!(rt;
-                    "secretsd: only --mode exec is built yet, and with --rotator local"
-                );
-                status
-            }
-            None => match people_text(rt, &settings) {
-                Ok(people) => run(rt, words, &settings, people.as_slice()),
+        Ok(settings) => match task_of_mode(settings.mode) {
+            Ok(_) => match people_text(rt, &settings) {
+                Ok(people) => run(
+                    rt,
+                    &Orders {
+                        words,
+                        settings: &settings,
+                        people: people.as_slice(),
+                    },
+                ),
                 Err(status) => status,
             },
+            Err(status) => {
+                let _ = eprintln!(rt; "secretsd: only --mode exec and --mode check are built yet");
+                status
+            }
         },
         Err(WordsRefused::Refused) => say_refusal(rt, words),
         Err(WordsRefused::Memory) => Status::Memory,
@@ -114,26 +127,20 @@ fn people_text(rt: &HostRuntime, settings: &Settings) -> Result<Vec<u8>, Status>
 }
 
 /// Runs over the folder that is named, and else over a disk in memory, which is let go at the end.
-fn run(rt: &HostRuntime, words: &[String], settings: &Settings, people: &[u8]) -> Status {
-    match &settings.folder {
-        Some(folder) => run_over_folder(rt, words, settings.number, folder.as_str(), people),
+fn run(rt: &HostRuntime, orders: &Orders) -> Status {
+    match &orders.settings.folder {
+        Some(folder) => run_over_folder(rt, orders, folder.as_str()),
         None => match empty_disk(rt.alloc()) {
-            Ok(disk) => run_over(rt, words, settings.number, disk, people),
+            Ok(disk) => run_over(rt, orders, disk),
             Err(NoMemory) => Status::Memory,
         },
     }
 }
 
 /// Runs over a folder.
-fn run_over_folder(
-    rt: &HostRuntime,
-    words: &[String],
-    number: Option<u64>,
-    folder: &str,
-    people: &[u8],
-) -> Status {
+fn run_over_folder(rt: &HostRuntime, orders: &Orders, folder: &str) -> Status {
     match FileDisk::open(rt, rt.alloc(), folder) {
-        Ok(disk) => run_over(rt, words, number, disk, people),
+        Ok(disk) => run_over(rt, orders, disk),
         Err(refused) => {
             let _ = eprintln!(rt; "secretsd: the folder {folder} can't be opened: {refused}");
             Status::OpenFault
@@ -153,49 +160,66 @@ fn empty_disk(alloc: Global) -> Result<MemoryDisk, NoMemory> {
 }
 
 /// Runs over a disk: with a fixed clock and bytes that count up where a number is given, and else with the system's.
-fn run_over<D: Disk + Drop>(
-    rt: &HostRuntime,
-    words: &[String],
-    number: Option<u64>,
-    disk: D,
-    people: &[u8],
-) -> Status {
+fn run_over<D: Disk + Drop>(rt: &HostRuntime, orders: &Orders, disk: D) -> Status {
     let alloc = rt.alloc();
-    match number {
+    match orders.settings.number {
         Some(number) => {
             let mut clock = FixedClock::new(FIXED_MOMENT);
             let first = (number % 256) as u8;
             let mut random = CountWords::new(alloc, first, Fails::never(alloc));
-            answer(rt, words, disk, &mut clock, &mut random, people)
+            run_with(rt, orders, disk, &mut clock, &mut random)
         }
         None => {
             let mut clock = SystemClock::new(rt);
             let mut random = SystemWords::new(alloc, rt);
-            answer(rt, words, disk, &mut clock, &mut random, people)
+            run_with(rt, orders, disk, &mut clock, &mut random)
         }
     }
 }
 
-/// Answers the messages of standard input on standard output.
-fn answer<D: Disk + Drop, C: Clock, W: Words>(
+/// Runs with the local rotator, or with one behind an address.
+fn run_with<D: Disk + Drop, C: Clock, W: Words>(
     rt: &HostRuntime,
-    words: &[String],
+    orders: &Orders,
     disk: D,
     clock: &mut C,
     random: &mut W,
-    people: &[u8],
+) -> Status {
+    let alloc = rt.alloc();
+    if orders.settings.rotator.as_str() == "local" {
+        let mut rotator = LocalRotator::new(alloc);
+        return run_stream(rt, orders, disk, clock, random, &mut rotator);
+    }
+    match orders.settings.rotator.copy(alloc) {
+        Ok(address) => {
+            let mut rotator = LinkRotator::new(alloc, rt, address);
+            run_stream(rt, orders, disk, clock, random, &mut rotator)
+        }
+        Err(NoMemory) => Status::Memory,
+    }
+}
+
+/// Answers the messages of standard input on standard output, or says there what the disk holds.
+fn run_stream<D: Disk + Drop, C: Clock, W: Words, R: Rotator>(
+    rt: &HostRuntime,
+    orders: &Orders,
+    disk: D,
+    clock: &mut C,
+    random: &mut W,
+    rotator: &mut R,
 ) -> Status {
     let mut source = StreamSource::new(rt.stdin());
     let mut sink = StreamSink::new(rt.stdout());
     let (status, _disk) = run_once(
         rt.alloc(),
-        words,
+        orders.words,
         &mut source,
         &mut sink,
         disk,
         clock,
         random,
-        people,
+        orders.people,
+        rotator,
     );
     status
 }

@@ -73,7 +73,7 @@ module _ (first mid last : ℕ) (earlier : first ≤ mid) (then : mid ≤ last) 
   rose_behind rose = rose_within first mid last last earlier rose (omega tt)
 
   pub unsure_behind : (Old Mid : Type 0) → (Mid → Old) → Mid ⊎ Rose mid last → Old ⊎ Rose first last
-  unsure_behind Old Mid before is = elim is [ inl h ↦ inl (before h) | inr rose ↦ inr (rose_behind rose) ]
+  unsure_behind Old Mid before is = elim is [ | inl h ↦ inl (before h) | inr rose ↦ inr (rose_behind rose) ]
 
 -- no verdict comes too late
 report_stale : (work : Work) (reported : Reported) → IsStale (report_ends work reported)

@@ -5,3 +5,5 @@ mod CourseLemmas
 mod TurnLemmas
 mod AloneLemmas
 mod BehindLemmas
+pub mod OriginLemmas
+pub mod RoundLemmas

@@ -4,3 +4,4 @@ pub mod Holds
 pub mod Ends
 pub mod Turns
 pub mod Alone
+pub mod Rounds

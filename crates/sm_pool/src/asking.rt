@@ -1,5 +1,5 @@
 //! Asking a rotator.
-ghost use Rattle.std.specs.Prelude.{◌≡◌, ◌≤◌, IfOk};
+ghost use Rattle.std.specs.Prelude.{◌≡◌, ◌≤◌, true, IfOk};
 ghost use Rattle.sm_base.specs.Faults.{Rose};
 ghost use Rattle.sm_model.specs.declared.entry.Answer.TheVariants.{Failed};
 
@@ -10,6 +10,8 @@ use sm_rotator::{Asked, Rotator, Verdict, Work};
 /// count of faults rose.
 pub fn ask<R: Rotator>(rotator: &mut R, work: Work) -> Result<Verdict<R>, NoMemory>
     ensures work { IfOk result (λ verdict. verdict.work ≡ work) }
+    ensures allowed { IfOk result (λ verdict. R.replies verdict.work.arn verdict.work.at verdict.work.current
+        verdict.work.pending verdict.answer ≡ true) }
     ensures failed { IfOk result (λ verdict. verdict.answer ≡ Failed
         → Rose (R.faults rotator.old) (R.faults rotator.new)) }
     ensures later { R.faults rotator.old ≤ R.faults rotator.new }

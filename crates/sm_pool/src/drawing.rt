@@ -1,8 +1,8 @@
 //! Drawing the random bytes of a token.
-ghost use Rattle.std.specs.Prelude.{◌≡◌, ◌≤◌, length, Some};
+ghost use Rattle.std.specs.Prelude.{◌≡◌, ◌≤◌};
 ghost use Rattle.std.specs.Io.KnownBytes.{append_known};
 ghost use Rattle.sm_base.specs.Faults.{Rose};
-ghost use Rattle.sm_pool.specs.Drawing.{DrawsTold, OnDrawFault, drawn_in};
+ghost use Rattle.sm_pool.specs.Drawing.{HasToken, OnDrawFault, drawn_in};
 
 use sm_io::{Drew, Words};
 
@@ -17,6 +17,7 @@ pub enum Drawn {
 /// Draws the random bytes of one token.
 pub fn draw<W: Words>(words: &mut W) -> Drawn
     ensures told { W.drawn words.new ≡ append_known (W.drawn words.old) (drawn_in result) }
+    ensures long { HasToken result }
     ensures later { W.faults words.old ≤ W.faults words.new }
     ensures failed { OnDrawFault result (Rose (W.faults words.old) (W.faults words.new)) }
 {

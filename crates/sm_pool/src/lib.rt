@@ -7,8 +7,10 @@ mod behind;
 pub mod done;
 pub mod drawing;
 pub mod holds;
+pub mod rounds;
 pub mod shared;
 
 pub use alone::one_turn;
 pub use done::{Done, Trouble};
+pub use rounds::{TURN_LIMIT, turns};
 pub use shared::{Turned, TurnedBy, rotation_turn};

@@ -1,14 +1,16 @@
 -- The same run, counted from an earlier moment on.
-use Rattle.std.proofs.Common.{◌≡◌, ℕ, ◌≤◌, List, Option, None, Result, Ok, sym, arith, subst}
+use Rattle.std.proofs.Common.{◌≡◌, ℕ, ◌≤◌, List, Option, Result, Ok, refl, sym, arith, subst}
 use Rattle.sm_http.specs.Messages.{Message}
 use Rattle.sm_principal.specs.declared.people.People.{People as Persons}
 use Rattle.sm_words.specs.declared.settings.Settings.{Settings}
 use Rattle.sm_session.specs.Told.{Growth, Within}
+use Rattle.sm_server.specs.declared.asked.Task.{Task}
+use Rattle.sm_server.specs.declared.asked.Task.TheVariants.{Answer, Summarize}
 use Rattle.sm_server.specs.declared.status.Status.{Status}
 use Rattle.sm_server.specs.declared.status.Status.TheVariants.{Done, Words, Damaged, OpenFault, Memory, People, SinkFault, SourceFault, EdgeFault, Cut, BadMessage, Enough, NotBuilt}
-use Rattle.sm_server.specs.Asked.{end_of_words, WordsDecide, PeopleDecide}
+use Rattle.sm_server.specs.Asked.{task_of_words, WordsDecide, PeopleDecide}
 use Rattle.sm_server.specs.Outside.{Outside, growth, Trace}
-use Rattle.sm_server.specs.Ran.{Course, AreAnswered, Ended, Runs}
+use Rattle.sm_server.specs.Ran.{Course, AreAnswered, Answers, Checks, EndedAt, Ended, Runs}
 use Rattle.sm_server.specs.Status.{WasFollowed, WasOpened}
 
 -- the same run, whose disk is counted from an earlier moment on
@@ -30,33 +32,41 @@ module _ (course : Course) (before after : Outside) (earlier : ℕ) (early : ear
       brought = a.brought;
       turns = a.turns;
       history = a.history;
-      accepted = a.accepted;
       told = a.told;
       disk = (omega (arith, a.disk.0, within.0), omega (arith, a.disk.1, within.1));
       random = a.random;
+      rotator = a.rotator;
     }
+
+    answers_since : (status : Status) (input : List ℕ) (left : Option (List ℕ))
+        → Answers course status input left trace → Answers course status input left longer
+    answers_since status input left e =
+        record { messages = e.messages; answered = answered_since e.messages e.answered; ends = e.ends }
+
+    checks_since : (status : Status) (input : List ℕ) → Checks course status input trace
+        → Checks course status input longer
+    checks_since status input e =
+        record { unread = e.unread; unmarked = e.unmarked; undrawn = e.undrawn; checks = e.checks }
+
+    at_since : (task : Task) (status : Status) (input : List ℕ) (left : Option (List ℕ))
+        → EndedAt task course status input left trace → EndedAt task course status input left longer
+    at_since Answer status input left e = answers_since status input left e
+    at_since Summarize status input left e = checks_since status input e
 
     ended_since : (status : Status) (input : List ℕ) (left : Option (List ℕ)) → Ended course status input left trace
         → WasOpened status → Ended course status input left longer
-    ended_since Done input left e o =
-        record { messages = e.messages; answered = answered_since e.messages e.answered; ends = e.ends }
+    ended_since Done input left e o = at_since course.task Done input left e
     ended_since Words input left e o = absurd o
     ended_since (Damaged at entry) input left e o = absurd o
     ended_since OpenFault input left e o = absurd o
-    ended_since Memory input left e o =
-        record { messages = e.messages; answered = answered_since e.messages e.answered; ends = e.ends }
+    ended_since Memory input left e o = at_since course.task Memory input left e
     ended_since (People line) input left e o = absurd o
-    ended_since (SinkFault counted) input left e o =
-        record { messages = e.messages; answered = answered_since e.messages e.answered; ends = e.ends }
-    ended_since SourceFault input left e o =
-        record { messages = e.messages; answered = answered_since e.messages e.answered; ends = e.ends }
-    ended_since EdgeFault input left e o = absurd e.ends
-    ended_since (Cut bytes) input left e o =
-        record { messages = e.messages; answered = answered_since e.messages e.answered; ends = e.ends }
-    ended_since (BadMessage place) input left e o =
-        record { messages = e.messages; answered = answered_since e.messages e.answered; ends = e.ends }
-    ended_since Enough input left e o =
-        record { messages = e.messages; answered = answered_since e.messages e.answered; ends = e.ends }
+    ended_since (SinkFault counted) input left e o = at_since course.task (SinkFault counted) input left e
+    ended_since SourceFault input left e o = at_since course.task SourceFault input left e
+    ended_since EdgeFault input left e o = at_since course.task EdgeFault input left e
+    ended_since (Cut bytes) input left e o = at_since course.task (Cut bytes) input left e
+    ended_since (BadMessage place) input left e o = at_since course.task (BadMessage place) input left e
+    ended_since Enough input left e o = at_since course.task Enough input left e
     ended_since NotBuilt input left e o = absurd o
 
   pub runs_since : (status : Status) → WasOpened status → Runs course status before after
@@ -73,6 +83,7 @@ module _ (course : Course) (before after : Outside) (earlier : ℕ) (early : ear
       sink_count = runs.passed.sink_count;
       disk_count = refl;
       random_count = runs.passed.random_count;
+      rotator_count = runs.passed.rotator_count;
     };
     ended = ended_since runs.trace runs.passed.disk_count status runs.input after.left runs.ended opened;
   }
@@ -93,21 +104,21 @@ opened_followed (BadMessage place) o = tt
 opened_followed Enough o = tt
 opened_followed NotBuilt o = o
 
-pub words_decided : (status : Status) (asked : Option Settings) → WasFollowed status → end_of_words asked ≡ None
-    → WordsDecide status asked
-words_decided Done asked f are = are
-words_decided Words asked f are = absurd f
-words_decided (Damaged at entry) asked f are = are
-words_decided OpenFault asked f are = are
-words_decided Memory asked f are = tt
-words_decided (People line) asked f are = are
-words_decided (SinkFault counted) asked f are = are
-words_decided SourceFault asked f are = are
-words_decided EdgeFault asked f are = are
-words_decided (Cut bytes) asked f are = are
-words_decided (BadMessage place) asked f are = are
-words_decided Enough asked f are = are
-words_decided NotBuilt asked f are = absurd f
+pub words_decided : (status : Status) (asked : Option Settings) (task : Task) → WasFollowed status
+    → task_of_words asked ≡ Ok task → WordsDecide status asked task
+words_decided Done asked task f are = are
+words_decided Words asked task f are = absurd f
+words_decided (Damaged at entry) asked task f are = are
+words_decided OpenFault asked task f are = are
+words_decided Memory asked task f are = tt
+words_decided (People line) asked task f are = are
+words_decided (SinkFault counted) asked task f are = are
+words_decided SourceFault asked task f are = are
+words_decided EdgeFault asked task f are = are
+words_decided (Cut bytes) asked task f are = are
+words_decided (BadMessage place) asked task f are = are
+words_decided Enough asked task f are = are
+words_decided NotBuilt asked task f are = absurd f
 
 pub people_decided : (status : Status) (read : Result Persons ℕ) (people : Persons) → WasFollowed status
     → read ≡ Ok people → PeopleDecide status read people

@@ -1,9 +1,7 @@
-pub mod HistoryLemmas
 pub mod TurnsLemmas
-pub mod LegalLemmas
 pub mod RunLemmas
 pub mod EndLemmas
 pub mod CompleteLemmas
-pub mod OriginLemmas
 pub mod StoredLemmas
 pub mod UnopenedLemmas
+pub mod CheckLemmas

@@ -3,8 +3,9 @@ use Rattle.std.proofs.Common.{◌≡◌, ℕ, ◌+◌, ◌-◌, ◌^◌, min, �
 use Rattle.std.specs.Io.KnownBytes.{append_known}
 use Rattle.sm_base.specs.Faults.{Rose}
 use Rattle.sm_model.specs.declared.entry.Mark.{Mark}
+use Rattle.sm_rotation.specs.Vouched.{Replies}
 use Rattle.sm_table.specs.Sound.{Sound}
-use Rattle.sm_core.specs.Histories.{replay, Legal}
+use Rattle.sm_core.specs.Histories.{replay}
 use Rattle.sm_account.specs.History.{entries_in, by_seat}
 use Rattle.sm_account.specs.States.{Base}
 use Rattle.sm_http.specs.declared.answer.Message.{Message as owned}
@@ -15,6 +16,7 @@ use Rattle.sm_http.specs.Chains.{unread}
 use Rattle.sm_http.specs.Framed.{Sends}
 use Rattle.sm_http.specs.Messages.{Message}
 use Rattle.sm_http.specs.Reading.{ReaderState, content, stopped, Reads}
+use Rattle.sm_pool.specs.Rounds.{Counts, NoneFell}
 use Rattle.sm_principal.specs.declared.people.People.{People}
 use Rattle.sm_reply.specs.Shown.{Answered}
 use Rattle.sm_spells.specs.Spells.{History}
@@ -28,12 +30,12 @@ use Rattle.sm_session.specs.Streams.{message_limit}
 use Rattle.sm_session.specs.Told.{Told, Growth, Within}
 use Rattle.sm_session.proofs.KnownLemmas.{append_known-nil, told_more}
 use Rattle.sm_session.proofs.WireLemmas.{Wire, wire_first, wire_enough, wire_stops, wire_more, wire_cut}
+use Rattle.sm_server.specs.declared.asked.Task.TheVariants.{Answer}
 use Rattle.sm_server.specs.Outside.{Outside, sides_of, growth, Trace, Passed}
 use Rattle.sm_server.specs.Ran.{Course, AreAnswered, passage_of, Ended as RunEnded, Runs}
 use Rattle.sm_server.specs.Status.{status_of, WasOpened}
-use Rattle.sm_server.specs.Turns.{seat, Turn, TurnOf, Brought, GoesWell, brought_nothing, Turns}
-use Rattle.sm_server.proofs.LegalLemmas.{turns_legal}
-use Rattle.sm_server.proofs.TurnsLemmas.{with_last, turns_more}
+use Rattle.sm_server.specs.Turns.{seat, Turn, TurnOf, Brought, GoesWell, brought_nothing, counts_before, Turns}
+use Rattle.sm_server.proofs.TurnsLemmas.{counts_last, turns_more, with_last}
 
 -- what passed between two states of the outside, where this was written and told
 abbrev pub trace_of : Outside → Outside → List ℕ → Told → Trace
@@ -44,6 +46,7 @@ trace_of before after written told = record {
   sink = growth (λ c. c.sink) before after;
   disk = growth (λ c. c.disk) before after;
   random = growth (λ c. c.random) before after;
+  rotator = growth (λ c. c.rotator) before after;
 }
 
 -- what passed, where this was written and told
@@ -59,14 +62,16 @@ passed_by before after written told taken readings drawn = record {
   sink_count = refl;
   disk_count = refl;
   random_count = refl;
+  rotator_count = refl;
 }
 
 -- what messages brought, from before to now, where the history is this now
-pub record Brings (people : People) (base : Base) (before now : Outside) (history : History)
+pub record Brings (replies : Replies) (people : People) (base : Base) (before now : Outside) (history : History)
     (messages : List Message) (brought : Brought) : Type 0 where
-  pub turns : Turns people base [] messages brought
+  pub turns : Turns replies people base [] messages brought
   pub disk : growth (λ c. c.disk) before now ≡ brought.disk
   pub random : growth (λ c. c.random) before now ≡ brought.random
+  pub rotator : growth (λ c. c.rotator) before now ≡ brought.rotator
   pub stands : history ≡ brought.history
   pub readings : now.readings ≡ append_known before.readings brought.told.readings
   pub drawn : now.drawn ≡ append_known before.drawn brought.told.drawn
@@ -79,26 +84,36 @@ pub record Point : Type 0 where
   pub count : ℕ
 
 -- from before to the point so many messages were read and answered
-pub record Progress (people : People) (base : Base) (before : Outside) (number : ℕ) (at : Point) : Type 0 where
+pub record Progress (replies : Replies) (people : People) (base : Base) (before : Outside) (number : ℕ) (at : Point) : Type 0 where
   pub messages : List Message
   pub size : length messages ≡ number
   pub brought : Brought
-  pub brings : Brings people base before at.now at.history messages brought
+  pub brings : Brings replies people base before at.now at.history messages brought
   pub wire : Wire (sides_of before) messages brought.replies (sides_of at.now) at.reader at.count
 
 abbrev pub first_point : Outside → ReaderState → History → Point
 first_point outside reader history = record { now = outside; reader = reader; history = history; count = 0 }
 
-pub progress_first : (people : People) (base : Base) (outside : Outside) (reader : ReaderState) (history : History)
-    → reader ≡ unread → history ≡ [] → Progress people base outside 0 (first_point outside reader history)
-progress_first people base outside reader history fresh none = record {
+-- the counts that turns can raise
+abbrev pub counts_in : Outside → Counts
+counts_in outside = record {
+  disk = outside.counts.disk;
+  words = outside.counts.random;
+  rotator = outside.counts.rotator;
+}
+
+pub progress_first : (replies : Replies) (people : People) (base : Base) (outside : Outside) (reader : ReaderState)
+    (history : History) → reader ≡ unread → history ≡ []
+    → Progress replies people base outside 0 (first_point outside reader history)
+progress_first replies people base outside reader history fresh none = record {
   messages = [];
   size = refl;
-  brought = brought_nothing outside.counts.disk outside.counts.random;
+  brought = brought_nothing (counts_in outside);
   brings = record {
     turns = refl;
     disk = refl;
     random = refl;
+    rotator = refl;
     stands = none;
     readings = sym (append_known-nil outside.readings);
     drawn = sym (append_known-nil outside.drawn);
@@ -123,26 +138,26 @@ turn_in s told marks = record {
   marks = marks;
   disk = growth (λ c. c.disk) s.now s.after;
   random = growth (λ c. c.random) s.now s.after;
+  rotator = growth (λ c. c.rotator) s.now s.after;
 }
 
 -- a message's turn
-abbrev pub Turned : People → Base → Step → Type 0
-Turned people base s = (told : Told) × (marks : List Mark)
+abbrev pub Turned : Replies → People → Base → Step → Type 0
+Turned replies people base s = (told : Told) × (marks : List Mark)
     × (s.after.readings ≡ append_known s.now.readings told.readings)
     × (s.after.drawn ≡ append_known s.now.drawn told.drawn)
-    × TurnOf base s.history (heard people (content s.message)) (turn_in s told marks)
+    × TurnOf replies base s.history (heard people (content s.message)) (turn_in s told marks)
     × (s.history' ≡ s.history ++ by_seat seat marks)
 
 -- what holds after it
 pub record Later (base : Base) (s : Step) : Type 0 where
-  pub disk : s.now.counts.disk ≤ s.after.counts.disk
-  pub random : s.now.counts.random ≤ s.after.counts.random
+  pub fell : NoneFell (counts_in s.now) (counts_in s.after)
   pub sound : Sound (replay base.rows (entries_in s.history'))
 
 -- a message's turn is one more
-module _ (people : People) (base : Base) (before : Outside) (s : Step) (messages : List Message) (brought : Brought)
-    (b : Brings people base before s.now s.history messages brought) (turned : Turned people base s)
-    (later : Later base s) where
+module _ (replies : Replies) (people : People) (base : Base) (before : Outside) (s : Step) (messages : List Message)
+    (brought : Brought) (b : Brings replies people base before s.now s.history messages brought)
+    (turned : Turned replies people base s) (later : Later base s) where
   abbrev one : Turn
   one = turn_in s turned.0 turned.1
 
@@ -154,18 +169,27 @@ module _ (people : People) (base : Base) (before : Outside) (s : Step) (messages
 
   well : GoesWell base brought.history one
   well = record {
-    disk = later.disk;
-    random = later.random;
+    fell = later.fell;
     sound = subst (λ h. Sound (replay base.rows (entries_in h))) history_now later.sound;
   }
 
-  pub brings_more : Brings people base before s.after s.history' (messages ++ content s.message ∷ []) brought_more
+  -- the turn follows what was brought
+  next : counts_last brought ≡ counts_before one
+  next =
+      let of : ℕ → ℕ → ℕ → Counts = λ disk words rotator. record { disk = disk; words = words; rotator = rotator } in
+      ap (λ (g : Growth). of g.after brought.random.after brought.rotator.after) (sym b.disk)
+      ∙ ap (λ (g : Growth). of s.now.counts.disk g.after brought.rotator.after) (sym b.random)
+      ∙ ap (λ (g : Growth). of s.now.counts.disk s.now.counts.random g.after) (sym b.rotator)
+
+  pub brings_more : Brings replies people base before s.after s.history' (messages ++ content s.message ∷ [])
+      brought_more
   brings_more = record {
-    turns = turns_more one people base (content s.message) [] messages brought
-        (subst (λ h. TurnOf base h (heard people (content s.message)) one) b.stands turned.4)
-        (sym (ap (λ (g : Growth). g.after) b.disk), sym (ap (λ (g : Growth). g.after) b.random)) well b.turns;
+    turns = turns_more one replies people base (content s.message) [] messages brought
+        (subst (λ h. TurnOf replies base h (heard people (content s.message)) one) b.stands turned.4) next well
+        b.turns;
     disk = ap (λ (g : Growth). record { before = g.before; after = s.after.counts.disk }) b.disk;
     random = ap (λ (g : Growth). record { before = g.before; after = s.after.counts.random }) b.random;
+    rotator = ap (λ (g : Growth). record { before = g.before; after = s.after.counts.rotator }) b.rotator;
     stands = history_now;
     readings = told_more before.readings s.now.readings s.after.readings brought.told.readings turned.0.readings
         b.readings turned.2;
@@ -173,21 +197,28 @@ module _ (people : People) (base : Base) (before : Outside) (s : Step) (messages
   }
 
 -- the run ends as its stream does
-module _ (people : People) (base : Base) (before after : Outside) (history : History) (messages : List Message)
-    (brought : Brought) (b : Brings people base before after history messages brought) where
+module _ (replies : Replies) (people : People) (base : Base) (entries : ℕ) (before after : Outside) (history : History)
+    (messages : List Message) (brought : Brought)
+    (b : Brings replies people base before after history messages brought) where
   abbrev course : Course
-  course = record { people = people; base = base; history = history }
+  course = record {
+    task = Answer;
+    replies = replies;
+    people = people;
+    base = base;
+    entries = entries;
+    history = history;
+  }
 
   abbrev answered : (written : List ℕ) → AreAnswered course messages (trace_of before after written brought.told)
   answered written = record {
     brought = brought;
     turns = b.turns;
     history = b.stands;
-    accepted = subst (λ h. Legal base.rows base.last (entries_in h)) (sym b.stands)
-        (turns_legal people base [] messages brought b.turns);
     told = refl;
     disk = subst (λ (g : Growth). Within g (growth (λ c. c.disk) before after)) b.disk (omega arith, omega arith);
     random = b.random;
+    rotator = b.rotator;
   }
 
   ended_by : (e : Ended) (input written : List ℕ)
@@ -240,26 +271,39 @@ moved now sides = record {
     sink = sides.sink;
     disk = now.counts.disk;
     random = now.counts.random;
+    rotator = now.counts.rotator;
   };
 }
 
-module _ (people : People) (base : Base) (before : Outside) (number : ℕ) (at : Point)
-    (p : Progress people base before number at) where
-  brings_moved : (sides : Sides) → Brings people base before (moved at.now sides) at.history p.messages p.brought
+module _ (replies : Replies) (people : People) (base : Base) (before : Outside) (number : ℕ) (at : Point)
+    (p : Progress replies people base before number at) where
+  -- a course with this history
+  abbrev pub course_with : ℕ → History → Course
+  course_with entries history = record {
+    task = Answer;
+    replies = replies;
+    people = people;
+    base = base;
+    entries = entries;
+    history = history;
+  }
+
+  brings_moved : (sides : Sides) → Brings replies people base before (moved at.now sides) at.history p.messages p.brought
   brings_moved sides = record {
     turns = p.brings.turns;
     disk = p.brings.disk;
     random = p.brings.random;
+    rotator = p.brings.rotator;
     stands = p.brings.stands;
     readings = p.brings.readings;
     drawn = p.brings.drawn;
   }
 
   -- as many messages were answered as are answered at most
-  pub run_enough : number ≡ message_limit
-      → Runs (record { people = people; base = base; history = at.history }) (status_of ended.Enough) before at.now
-  run_enough all =
-      runs_by people base before at.now at.history p.messages p.brought p.brings ended.Enough
+  pub run_enough : number ≡ message_limit → (entries : ℕ)
+      → Runs (course_with entries at.history) (status_of ended.Enough) before at.now
+  run_enough all entries =
+      runs_by replies people base entries before at.now at.history p.messages p.brought p.brings ended.Enough
       (wire_enough (sides_of before) (sides_of at.now) p.messages p.brought.replies at.reader at.count p.wire
       (p.size ∙ all))
 
@@ -270,47 +314,45 @@ module _ (people : People) (base : Base) (before : Outside) (number : ℕ) (at :
         → StopsBy at.reader.ended why at.now.left sides.left (Rose at.now.counts.source sides.source)
         → at.now.counts.source ≤ sides.source
         → Finishes why at.count e at.now.taken sides.taken at.now.counts.sink sides.sink
-        → Runs (record { people = people; base = base; history = at.history }) (status_of e) before
-        (moved at.now sides)
-    run_stops sides why e few reads stops later finishes =
-        runs_by people base before (moved at.now sides) at.history p.messages p.brought (brings_moved sides) e
+        → (entries : ℕ) → Runs (course_with entries at.history) (status_of e) before (moved at.now sides)
+    run_stops sides why e few reads stops later finishes entries =
+        runs_by replies people base entries before (moved at.now sides) at.history p.messages p.brought (brings_moved sides) e
         (wire_stops (sides_of before) (sides_of at.now) p.messages p.brought.replies at.reader at.count p.wire reader'
         sides (omega (arith, p.size, few)) why e reads stops finishes)
 
     -- a message was read, and its reply sent
     module _ (s : Step) (from_is : s.now ≡ at.now) (history_is : s.history ≡ at.history)
-        (turned : Turned people base s) (later : Later base s)
+        (turned : Turned replies people base s) (later : Later base s)
         (reads : Reads at.reader (next.Message s.message) reader' at.now.left s.after.left)
         (source : at.now.counts.source ≤ s.after.counts.source) (sink : at.now.counts.sink ≤ s.after.counts.sink)
         (sent : Sent)
         (sends : Sends sent (framed_answer s.reply) at.now.taken s.after.taken at.now.counts.sink s.after.counts.sink)
         (count' : ℕ) (counts : count' ≡ min (at.count + sent.taken) (2 ^ 64 - 1)) where
-      abbrev brings_here : Brings people base before s.now s.history p.messages p.brought
-      brings_here = subst (λ h. Brings people base before s.now h p.messages p.brought) (sym history_is)
-          (subst (λ o. Brings people base before o at.history p.messages p.brought) (sym from_is) p.brings)
+      abbrev brings_here : Brings replies people base before s.now s.history p.messages p.brought
+      brings_here = subst (λ h. Brings replies people base before s.now h p.messages p.brought) (sym history_is)
+          (subst (λ o. Brings replies people base before o at.history p.messages p.brought) (sym from_is) p.brings)
 
-      brings_now : Brings people base before s.after s.history' (p.messages ++ content s.message ∷ [])
-          (brought_more people base before s p.messages p.brought brings_here turned later)
-      brings_now = brings_more people base before s p.messages p.brought brings_here turned later
+      brings_now : Brings replies people base before s.after s.history' (p.messages ++ content s.message ∷ [])
+          (brought_more replies people base before s p.messages p.brought brings_here turned later)
+      brings_now = brings_more replies people base before s p.messages p.brought brings_here turned later
 
-      pub progress_more : sent.whole ≡ true → Progress people base before (number + 1)
+      pub progress_more : sent.whole ≡ true → Progress replies people base before (number + 1)
           (record { now = s.after; reader = reader'; history = s.history'; count = count' })
       progress_more whole = record {
         messages = p.messages ++ content s.message ∷ [];
         size = omega (arith, length-append p.messages (content s.message ∷ []), p.size);
-        brought = brought_more people base before s p.messages p.brought brings_here turned later;
+        brought = brought_more replies people base before s p.messages p.brought brings_here turned later;
         brings = brings_now;
         wire = wire_more (sides_of before) (sides_of at.now) p.messages p.brought.replies at.reader at.count p.wire
             s.message reader' (sides_of s.after) reads source sink s.reply sent sends count' counts whole;
       }
 
       -- the sink failed within the reply
-      pub run_cut : number < message_limit → sent.whole ≡ false
-          → Runs (record { people = people; base = base; history = s.history' }) (status_of (ended.WriteFault count'))
-          before s.after
-      run_cut few part =
-          runs_by people base before s.after s.history' (p.messages ++ content s.message ∷ [])
-          (brought_more people base before s p.messages p.brought brings_here turned later) brings_now
+      pub run_cut : number < message_limit → sent.whole ≡ false → (entries : ℕ)
+          → Runs (course_with entries s.history') (status_of (ended.WriteFault count')) before s.after
+      run_cut few part entries =
+          runs_by replies people base entries before s.after s.history' (p.messages ++ content s.message ∷ [])
+          (brought_more replies people base before s p.messages p.brought brings_here turned later) brings_now
           (ended.WriteFault count')
           (wire_cut (sides_of before) (sides_of at.now) p.messages p.brought.replies at.reader at.count p.wire
           s.message reader' (sides_of s.after) reads source sink s.reply sent sends count' counts

@@ -1,10 +1,11 @@
 -- Runs whose account was not opened.
-use Rattle.std.proofs.Common.{◌≡◌, ◌⊎◌, ◌≤◌, ℕ, Bool, true, false, if◌then◌else◌, [], Option, None, Some, Result, refl, sym, ap, ◌∙◌, subst, inl, inr, arith}
+use Rattle.std.proofs.Common.{◌≡◌, ◌⊎◌, ◌≤◌, ℕ, [], Option, None, Some, Result, Ok, Err, refl, sym, ap, ◌∙◌, subst, inl, inr, arith}
 use Rattle.sm_base.specs.Faults.{Rose}
 use Rattle.sm_disk.specs.declared.disk.Disk.{Ghosts}
 use Rattle.sm_journal.specs.declared.answers.OpenRefused.{OpenRefused}
 use Rattle.sm_journal.specs.declared.answers.OpenRefused.TheVariants.{Damaged, Failed, Memory}
 use Rattle.sm_account.specs.Openings.{IsRefused}
+use Rattle.sm_rotation.specs.Vouched.{Replies}
 use Rattle.sm_words.specs.declared.settings.Mode.{Mode}
 use Rattle.sm_words.specs.declared.settings.Mode.TheVariants.{Exec, Serve, Check, Drill}
 use Rattle.sm_words.specs.declared.settings.Settings.{Settings}
@@ -13,17 +14,19 @@ use Rattle.sm_server.specs.declared.status.Status.TheVariants as statuses
 use Rattle.sm_principal.specs.declared.people.People.{People as Persons}
 use Rattle.sm_session.specs.Told.{nothing_told}
 use Rattle.sm_session.proofs.KnownLemmas.{append_known-nil, prepend_known-nil}
-use Rattle.sm_server.specs.Asked.{is_unbuilt, end_of_mode, end_of_words, EndsAtWords, WordsDecide, PeopleDecide}
-use Rattle.sm_server.specs.Outside.{Outside}
-use Rattle.sm_server.specs.Ran.{Story, course_of, AreAnswered, Ended, Runs}
+use Rattle.sm_server.specs.declared.asked.Task.{Task}
+use Rattle.sm_server.specs.declared.asked.Task.TheVariants.{Answer, Summarize}
+use Rattle.sm_server.specs.Asked.{task_of_mode, task_of_words, FollowsWords, WordsDecide, PeopleDecide}
+use Rattle.sm_server.specs.Outside.{Outside, Trace}
+use Rattle.sm_server.specs.Ran.{Course, Story, course_of, AreAnswered, EndedAt, Ended, Runs}
 use Rattle.sm_server.specs.Status.{WasFollowed}
 use Rattle.sm_server.specs.Stored.{status_unopened, disk_unopened, Leaves}
 use Rattle.sm_server.specs.Turns.{brought_nothing}
-use Rattle.sm_server.proofs.RunLemmas.{trace_of, passed_by}
+use Rattle.sm_server.proofs.RunLemmas.{counts_in, trace_of, passed_by}
 
 -- nothing was opened, and nothing happened
-abbrev pub no_story : Persons → Story
-no_story people = record { people = people; taken = []; history = []; failed = None }
+abbrev pub no_story : Task → Persons → Story
+no_story task people = record { task = task; people = people; taken = []; history = []; failed = None }
 
 -- between these nothing was read, written, read from the clock or drawn, and only the disk's count may have risen
 pub record Still (before after : Outside) : Type 0 where
@@ -33,27 +36,37 @@ pub record Still (before after : Outside) : Type 0 where
   pub drawn : after.drawn ≡ before.drawn
   pub disk : before.counts.disk ≤ after.counts.disk
   pub random : after.counts.random ≡ before.counts.random
+  pub rotator : after.counts.rotator ≡ before.counts.rotator
 
-module _ (people : Persons) (before after : Outside) (still : Still before after) where
-  abbrev none_answered : AreAnswered (course_of (no_story people)) [] (trace_of before after [] nothing_told)
-  none_answered = record {
-    brought = brought_nothing before.counts.disk before.counts.random;
+module _ (replies : Replies) (task : Task) (people : Persons) (before after : Outside) (still : Still before after)
+  where
+  abbrev none : Task → Course
+  none task = course_of replies (no_story task people)
+
+  abbrev nothing : Trace
+  nothing = trace_of before after [] nothing_told
+
+  abbrev none_answered : (t : Task) → AreAnswered (none t) [] nothing
+  none_answered t = record {
+    brought = brought_nothing (counts_in before);
     turns = refl;
     history = refl;
-    accepted = tt;
     told = refl;
     disk = (omega arith, omega (arith, still.disk));
     random = ap (λ n. record { before = before.counts.random; after = n }) still.random;
+    rotator = ap (λ n. record { before = before.counts.rotator; after = n }) still.rotator;
   }
 
-  memory_ended : Ended (course_of (no_story people)) statuses.Memory [] after.left
-      (trace_of before after [] nothing_told)
-  memory_ended =
-      record { messages = []; answered = none_answered; ends = (omega arith, refl, inl ([], refl)) }
+  ended_at : (t : Task) → EndedAt t (none t) statuses.Memory [] after.left nothing
+  ended_at Answer =
+      record { messages = []; answered = none_answered Answer; ends = (omega arith, refl, inl ([], refl)) }
+  ended_at Summarize = record { unread = refl; unmarked = refl; undrawn = refl; checks = refl }
 
-  runs_still : (status : Status)
-      → Ended (course_of (no_story people)) status [] after.left (trace_of before after [] nothing_told)
-      → Runs (course_of (no_story people)) status before after
+  memory_ended : Ended (none task) statuses.Memory [] after.left nothing
+  memory_ended = ended_at task
+
+  runs_still : (status : Status) → Ended (none task) status [] after.left nothing
+      → Runs (none task) status before after
   runs_still status ended = record {
     input = [];
     trace = trace_of before after [] nothing_told;
@@ -64,9 +77,9 @@ module _ (people : Persons) (before after : Outside) (still : Still before after
     ended = ended;
   }
 
-module _ {D : Type 0} (G : Ghosts D) (people : Persons) (old : D) where
+module _ {D : Type 0} (G : Ghosts D) (replies : Replies) (task : Task) (people : Persons) (old : D) where
   pub leaves_unopened : (refused : OpenRefused D) → IsRefused G old refused
-      → Leaves G (status_unopened refused) (no_story people) old (disk_unopened refused)
+      → Leaves G (status_unopened refused) (no_story task people) old (disk_unopened refused)
   leaves_unopened (Damaged now damage) r = r
   leaves_unopened (Failed now) r = r
   leaves_unopened (Memory now) r = inr (inl r)
@@ -82,14 +95,14 @@ module _ {D : Type 0} (G : Ghosts D) (people : Persons) (old : D) where
   -- the run whose account was not opened
   pub runs_unopened : (refused : OpenRefused D) (before after : Outside) → IsRefused G old refused
       → before.counts.disk ≡ G.faults old → after.counts.disk ≡ G.faults (disk_unopened refused)
-      → Still before after → Runs (course_of (no_story people)) (status_unopened refused) before after
+      → Still before after → Runs (course_of replies (no_story task people)) (status_unopened refused) before after
   runs_unopened (Damaged now damage) before after r first last still =
-      runs_still people before after still (statuses.Damaged damage.at damage.entry) (refl, (refl, refl, refl))
+      runs_still replies task people before after still (statuses.Damaged damage.at damage.entry) (refl, (refl, refl, refl))
   runs_unopened (Failed now) before after r first last still =
       let rose : Rose before.counts.disk after.counts.disk = omega (arith, r.2, first, last) in
-      runs_still people before after still statuses.OpenFault (refl, (refl, refl, refl), rose)
+      runs_still replies task people before after still statuses.OpenFault (refl, (refl, refl, refl), rose)
   runs_unopened (Memory now) before after r first last still =
-      runs_still people before after still statuses.Memory (memory_ended people before after still)
+      runs_still replies task people before after still statuses.Memory (memory_ended replies task people before after still)
 
   pub unopened_followed : (refused : OpenRefused D) → WasFollowed (status_unopened refused)
   unopened_followed (Damaged now damage) = tt
@@ -98,29 +111,26 @@ module _ {D : Type 0} (G : Ghosts D) (people : Persons) (old : D) where
 
 -- runs that do not follow their words
 
-at_mode : (mode : Mode) (unbuilt : Bool) (status : Status)
-    → Some status ≡ end_of_mode mode (if unbuilt then Some statuses.NotBuilt else None)
+at_mode : (mode : Mode) (status : Status) → Err status ≡ task_of_mode mode
     → (status ≡ statuses.Words) ⊎ (status ≡ statuses.NotBuilt)
-at_mode Exec true status is = inr (let h : Some status ≡ Some statuses.NotBuilt = is in cc)
-at_mode Exec false status is = absurd (let h : Some status ≡ None = is in cc)
-at_mode Serve unbuilt status is = inl (let h : Some status ≡ Some statuses.Words = is in cc)
-at_mode Check unbuilt status is = inr (let h : Some status ≡ Some statuses.NotBuilt = is in cc)
-at_mode Drill unbuilt status is = inr (let h : Some status ≡ Some statuses.NotBuilt = is in cc)
+at_mode Exec status is = absurd (let h : Err status ≡ Ok Answer = is in cc)
+at_mode Serve status is = inl (let h : Err status ≡ Err statuses.Words = is in cc)
+at_mode Check status is = absurd (let h : Err status ≡ Ok Summarize = is in cc)
+at_mode Drill status is = inr (let h : Err status ≡ Err statuses.NotBuilt = is in cc)
 
-at_words : (asked : Option Settings) (status : Status) → Some status ≡ end_of_words asked
+at_words : (asked : Option Settings) (status : Status) → Err status ≡ task_of_words asked
     → (status ≡ statuses.Words) ⊎ (status ≡ statuses.NotBuilt)
-at_words None status is = inl (let h : Some status ≡ Some statuses.Words = is in cc)
-at_words (Some settings) status is =
-    at_mode settings.mode (is_unbuilt settings.rotator) status is
+at_words None status is = inl (let h : Err status ≡ Err statuses.Words = is in cc)
+at_words (Some settings) status is = at_mode settings.mode status is
 
 -- by how such a run ends
-by_end : (P : Status → Type 0) (status : Status) (asked : Option Settings) → EndsAtWords (Some status) asked
-    → P statuses.Memory → (Some statuses.Words ≡ end_of_words asked → P statuses.Words)
-    → (Some statuses.NotBuilt ≡ end_of_words asked → P statuses.NotBuilt) → P status
+by_end : (P : Status → Type 0) (status : Status) (asked : Option Settings) → FollowsWords (Err status) asked
+    → P statuses.Memory → (Err statuses.Words ≡ task_of_words asked → P statuses.Words)
+    → (Err statuses.NotBuilt ≡ task_of_words asked → P statuses.NotBuilt) → P status
 by_end P status asked (inl is) memory words unbuilt =
     let same : status ≡ statuses.Memory = cc in subst P (sym same) memory
 by_end P status asked (inr is) memory words unbuilt =
-    let Is : Status → Type 0 = λ s. Some s ≡ end_of_words asked in
+    let Is : Status → Type 0 = λ s. Err s ≡ task_of_words asked in
     elim (at_words asked status is) [
       | inl w ↦ subst P (sym w) (words (subst Is w is))
       | inr n ↦ subst P (sym n) (unbuilt (subst Is n is))
@@ -128,40 +138,53 @@ by_end P status asked (inr is) memory words unbuilt =
 
 -- a run whose text of the people was not read
 pub still_outside : (outside : Outside) → Still outside outside
-still_outside outside =
-    record { left = refl; taken = refl; readings = refl; drawn = refl; disk = omega arith; random = refl }
+still_outside outside = record {
+  left = refl;
+  taken = refl;
+  readings = refl;
+  drawn = refl;
+  disk = omega arith;
+  random = refl;
+  rotator = refl;
+}
 
-pub runs_no_people : (people : Persons) (line : ℕ) (outside : Outside)
-    → Runs (course_of (no_story people)) (statuses.People line) outside outside
-runs_no_people people line outside =
-    runs_still people outside outside (still_outside outside) (statuses.People line) (refl, (refl, refl, refl))
+module _ (replies : Replies) (task : Task) (people : Persons) where
+  pub runs_no_people : (line : ℕ) (outside : Outside)
+      → Runs (course_of replies (no_story task people)) (statuses.People line) outside outside
+  runs_no_people line outside =
+      runs_still replies task people outside outside (still_outside outside) (statuses.People line)
+      (refl, (refl, refl, refl))
 
-pub runs_no_memory : (people : Persons) (outside : Outside)
-    → Runs (course_of (no_story people)) statuses.Memory outside outside
-runs_no_memory people outside =
-    let still = still_outside outside in
-    runs_still people outside outside still statuses.Memory (memory_ended people outside outside still)
-
-module _ (people : Persons) (status : Status) (asked : Option Settings) (ends : EndsAtWords (Some status) asked) where
-  pub words_decide : WordsDecide status asked
-  words_decide = by_end (λ s. WordsDecide s asked) status asked ends tt (λ is. sym is) (λ is. sym is)
-
-  pub runs_words : (outside : Outside) → Runs (course_of (no_story people)) status outside outside
-  runs_words outside =
+  pub runs_no_memory : (outside : Outside)
+      → Runs (course_of replies (no_story task people)) statuses.Memory outside outside
+  runs_no_memory outside =
       let still = still_outside outside in
-      by_end (λ s. Runs (course_of (no_story people)) s outside outside) status asked ends
-      (runs_still people outside outside still statuses.Memory (memory_ended people outside outside still))
-      (λ is. runs_still people outside outside still statuses.Words (refl, (refl, refl, refl)))
-      (λ is. runs_still people outside outside still statuses.NotBuilt (refl, (refl, refl, refl)))
+      runs_still replies task people outside outside still statuses.Memory
+      (memory_ended replies task people outside outside still)
 
-  pub people_undecided : (read : Result Persons ℕ) → PeopleDecide status read people
-  people_undecided read = by_end (λ s. PeopleDecide s read people) status asked ends tt (λ is. tt) (λ is. tt)
+  module _ (status : Status) (asked : Option Settings) (ends : FollowsWords (Err status) asked) where
+    pub words_decide : WordsDecide status asked task
+    words_decide = by_end (λ s. WordsDecide s asked task) status asked ends tt (λ is. sym is) (λ is. sym is)
 
-  pub leaves_words : {D : Type 0} (G : Ghosts D) (disk : D) → Leaves G status (no_story people) disk disk
-  leaves_words G disk =
-      by_end (λ s. Leaves G s (no_story people) disk disk) status asked ends (inl refl) (λ is. refl) (λ is. refl)
+    pub runs_words : (outside : Outside)
+        → Runs (course_of replies (no_story task people)) status outside outside
+    runs_words outside =
+        let still = still_outside outside in
+        by_end (λ s. Runs (course_of replies (no_story task people)) s outside outside) status asked ends
+        (runs_still replies task people outside outside still statuses.Memory
+        (memory_ended replies task people outside outside still))
+        (λ is. runs_still replies task people outside outside still statuses.Words (refl, (refl, refl, refl)))
+        (λ is. runs_still replies task people outside outside still statuses.NotBuilt (refl, (refl, refl, refl)))
+
+    pub people_undecided : (read : Result Persons ℕ) → PeopleDecide status read people
+    people_undecided read = by_end (λ s. PeopleDecide s read people) status asked ends tt (λ is. tt) (λ is. tt)
+
+    pub leaves_words : {D : Type 0} (G : Ghosts D) (disk : D) → Leaves G status (no_story task people) disk disk
+    leaves_words G disk =
+        by_end (λ s. Leaves G s (no_story task people) disk disk) status asked ends (inl refl) (λ is. refl)
+        (λ is. refl)
 
 -- words that are followed
-pub followed : (asked : Option Settings) → EndsAtWords None asked → end_of_words asked ≡ None
-followed asked (inl is) = absurd (let none : Option Status = None in let h : none ≡ Some statuses.Memory = is in cc)
-followed asked (inr is) = sym is
+pub followed : (asked : Option Settings) (task : Task) → FollowsWords (Ok task) asked → task_of_words asked ≡ Ok task
+followed asked task (inl is) = absurd (let h : Ok task ≡ Err statuses.Memory = is in cc)
+followed asked task (inr is) = sym is

@@ -1,44 +1,36 @@
 -- What the words ask for, and how a run ends that cannot follow them.
-use Rattle.std.specs.Prelude.{◌≡◌, ◌⊎◌, ℕ, Bool, not, if◌then◌else◌, List, Option, Some, None, Result, Ok, Err, codes, ⊤}
-use Rattle.std.specs.Str.{bytes_eq}
+use Rattle.std.specs.Prelude.{◌≡◌, ◌⊎◌, ℕ, Option, Some, None, Result, Ok, Err, ⊤}
 use Rattle.sm_principal.specs.declared.people.People.{People as Persons}
 use Rattle.sm_words.specs.declared.settings.Mode.{Mode}
 use Rattle.sm_words.specs.declared.settings.Mode.TheVariants.{Exec, Serve, Check, Drill}
 use Rattle.sm_words.specs.declared.settings.Settings.{Settings}
+use Rattle.sm_server.specs.declared.asked.Task.{Task}
+use Rattle.sm_server.specs.declared.asked.Task.TheVariants.{Answer, Summarize}
 use Rattle.sm_server.specs.declared.status.Status.{Status}
 use Rattle.sm_server.specs.declared.status.Status.TheVariants.{Words, Memory, People, NotBuilt}
 
--- a rotator that is not the local one is not built yet
-abbrev pub is_unbuilt : List ℕ → Bool
-is_unbuilt rotator = not (bytes_eq rotator (codes "local"))
+-- what a run over one stream does in a mode, or how it ends that cannot follow it
+abbrev pub task_of_mode : Mode → Result Task Status
+task_of_mode Exec = Ok Answer
+task_of_mode Serve = Err Words
+task_of_mode Check = Ok Summarize
+task_of_mode Drill = Err NotBuilt
 
--- how a run over one stream ends that cannot follow its mode; in mode exec the rest decides
-abbrev pub end_of_mode : Mode → Option Status → Option Status
-end_of_mode Exec rest = rest
-end_of_mode Serve rest = Some Words
-end_of_mode Check rest = Some NotBuilt
-end_of_mode Drill rest = Some NotBuilt
+-- what a run does by its words, or how it ends that cannot follow them; words that are refused ask for nothing
+abbrev pub task_of_words : Option Settings → Result Task Status
+task_of_words None = Err Words
+task_of_words (Some settings) = task_of_mode settings.mode
 
--- how a run over one stream ends that cannot follow its settings
-abbrev pub end_of_settings : Settings → Option Status
-end_of_settings settings = end_of_mode settings.mode
-    (if is_unbuilt settings.rotator then Some NotBuilt else None)
+-- a run follows its words, or ends as it must, or for want of memory
+abbrev pub FollowsWords : Result Task Status → Option Settings → Type 0
+FollowsWords task asked = (task ≡ Err Memory) ⊎ (task ≡ task_of_words asked)
 
--- how a run ends that cannot follow its words; words that are refused ask for nothing
-abbrev pub end_of_words : Option Settings → Option Status
-end_of_words None = Some Words
-end_of_words (Some settings) = end_of_settings settings
-
--- how a run ends that does not follow its words: as it must, or for want of memory
-abbrev pub EndsAtWords : Option Status → Option Settings → Type 0
-EndsAtWords end asked = (end ≡ Some Memory) ⊎ (end ≡ end_of_words asked)
-
--- the words decide whether anything is opened and read; want of memory may come with any
-abbrev pub WordsDecide : Status → Option Settings → Type 0
-WordsDecide Words asked = end_of_words asked ≡ Some Words
-WordsDecide NotBuilt asked = end_of_words asked ≡ Some NotBuilt
-WordsDecide Memory asked = ⊤
-WordsDecide other asked = end_of_words asked ≡ None
+-- the words decide whether anything is opened and read, and what is done; want of memory may come with any
+abbrev pub WordsDecide : Status → Option Settings → Task → Type 0
+WordsDecide Words asked task = task_of_words asked ≡ Err Words
+WordsDecide NotBuilt asked task = task_of_words asked ≡ Err NotBuilt
+WordsDecide Memory asked task = ⊤
+WordsDecide other asked task = task_of_words asked ≡ Ok task
 
 -- So does the text of the people, once the words are followed: a run that got further knows who may ask.
 abbrev pub PeopleDecide : Status → Result Persons ℕ → Persons → Type 0

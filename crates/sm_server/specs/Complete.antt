@@ -2,6 +2,7 @@
 use Rattle.std.specs.Prelude.{◌≡◌, ℕ, ◌⊎◌, List, [], ◌∷◌, ◌++◌, take, Option, Some, Result}
 use Rattle.sm_base.specs.Faults.{Rose}
 use Rattle.sm_model.specs.declared.why.Why.{Why}
+use Rattle.sm_rotation.specs.Vouched.{Replies}
 use Rattle.sm_account.specs.States.{Base}
 use Rattle.sm_http.specs.Messages.{Message, End, Messages}
 use Rattle.sm_principal.specs.declared.people.People.{People}
@@ -13,13 +14,15 @@ use Rattle.sm_session.specs.Answer.{Asked, heard}
 use Rattle.sm_session.specs.Endings.{joined}
 use Rattle.sm_session.specs.Streams.{message_limit, AreWhole}
 use Rattle.sm_session.specs.Turns.{IsTurn}
+use Rattle.sm_server.specs.declared.asked.Task.{Task}
+use Rattle.sm_server.specs.declared.asked.Task.TheVariants.{Answer}
 use Rattle.sm_server.specs.declared.status.Status.{Status}
 use Rattle.sm_server.specs.declared.status.Status.TheVariants.{Done, Memory}
 use Rattle.sm_server.specs.Asked.{WordsDecide, PeopleDecide}
 use Rattle.sm_server.specs.Outside.{Counts, Outside}
 use Rattle.sm_server.specs.Ran.{Course, Story, course_of, Runs}
 use Rattle.sm_server.specs.Status.{WasOpened}
-use Rattle.sm_server.specs.Turns.{Turn, brings, marked}
+use Rattle.sm_server.specs.Turns.{Turn, TurnOf, marked}
 
 -- the count did not rise
 abbrev pub Steady : ℕ → ℕ → Type 0
@@ -32,17 +35,19 @@ pub record NoneFailed (before now : Counts) : Type 0 where
   pub disk : Steady before.disk now.disk
   pub random : Steady before.random now.random
 
--- a turn in which neither the disk nor the random source failed: the model's answer, or want of memory
-abbrev pub ModelTurn : Base → History → Result Asked Why → Turn → Type 0
-ModelTurn base history asked turn = IsTurn ⊥ ⊥ base history asked (brings turn)
+-- a turn in whose message neither the disk nor the random source failed: the model's answer, or want of memory
+pub record ModelTurn (replies : Replies) (base : Base) (history : History) (asked : Result Asked Why) (turn : Turn)
+    : Type 0 where
+  pub of : TurnOf replies base history asked turn
+  pub model : IsTurn ⊥ ⊥ base history asked of.own
 
 -- the replies to messages whose turns are such, each at the history that those before it made
-abbrev pub ModelTurns : People → Base → History → List Message → List Answered → Type 0
-ModelTurns people base history [] replies = replies ≡ []
-ModelTurns people base history (message ∷ messages) replies =
+abbrev pub ModelTurns : Replies → People → Base → History → List Message → List Answered → Type 0
+ModelTurns may people base history [] replies = replies ≡ []
+ModelTurns may people base history (message ∷ messages) replies =
     (turn : Turn) × (others : List Answered)
-    × ModelTurn base history (heard people message) turn
-    × ModelTurns people base (history ++ marked turn) messages others
+    × ModelTurn may base history (heard people message) turn
+    × ModelTurns may people base (history ++ marked turn) messages others
     × (replies ≡ turn.reply ∷ others)
 
 -- Each of the messages of the bytes that were read, of the first that are answered at most, got the model's reply or
@@ -50,22 +55,24 @@ ModelTurns people base history (message ∷ messages) replies =
 abbrev pub AnswersEach : Course → List ℕ → List ℕ → Type 0
 AnswersEach course input written = (all : List Message) (end : End) → Messages input 0 all end
     → (replies : List Answered) × (more : List ℕ)
-    × ModelTurns course.people course.base [] (take message_limit all) replies × (written ≡ joined replies ++ more)
+    × ModelTurns course.replies course.people course.base [] (take message_limit all) replies × (written ≡ joined replies ++ more)
 
--- a source that holds whole messages, fewer than are answered at most, is read to its end
-abbrev pub ReadsWhole : Status → Option (List ℕ) → Type 0
-ReadsWhole status left = (bytes : List ℕ) → left ≡ Some bytes → AreWhole bytes → (status ≡ Done) ⊎ (status ≡ Memory)
+-- a source that holds whole messages, fewer than are answered at most, is read to its end by a run that answers
+abbrev pub ReadsWhole : Task → Status → Option (List ℕ) → Type 0
+ReadsWhole task status left =
+    task ≡ Answer → (bytes : List ℕ) → left ≡ Some bytes → AreWhole bytes → (status ≡ Done) ⊎ (status ≡ Memory)
 
 -- what a run is asked for: its words, and the text of the people
 pub record Orders : Type 0 where
   pub words : List (List ℕ)
   pub people : List ℕ
 
--- a run under these orders that ended so
-pub record Ran (orders : Orders) (status : Status) (before after : Outside) (story : Story) : Type 0 where
-  pub words_decide : WordsDecide status (settings_of orders.words)
+-- a run under these orders that ended so, whose rotator may reply this
+pub record Ran (replies : Replies) (orders : Orders) (status : Status) (before after : Outside) (story : Story)
+    : Type 0 where
+  pub words_decide : WordsDecide status (settings_of orders.words) story.task
   pub people_decide : PeopleDecide status (people_of orders.people) story.people
-  pub runs : Runs (course_of story) status before after
+  pub runs : Runs (course_of replies story) status before after
   pub each : NoneFailed before.counts after.counts → (status ≡ Memory → ⊥)
-      → AnswersEach (course_of story) runs.input runs.trace.written
-  pub whole : NoneFailed before.counts after.counts → WasOpened status → ReadsWhole status before.left
+      → AnswersEach (course_of replies story) runs.input runs.trace.written
+  pub whole : NoneFailed before.counts after.counts → WasOpened status → ReadsWhole story.task status before.left

@@ -10,6 +10,7 @@ pub record Counts : Type 0 where
   pub sink : ℕ
   pub disk : ℕ
   pub random : ℕ
+  pub rotator : ℕ
 
 -- what the source has left, what the sink took, what the clock and the random source told, and the counts of faults
 pub record Outside : Type 0 where
@@ -36,6 +37,7 @@ pub record Trace : Type 0 where
   pub sink : Growth
   pub disk : Growth
   pub random : Growth
+  pub rotator : Growth
 
 -- how a count grew from one state of the outside to another
 abbrev pub growth : (Counts → ℕ) → Outside → Outside → Growth
@@ -50,3 +52,4 @@ pub record Passed (before after : Outside) (trace : Trace) : Type 0 where
   pub sink_count : trace.sink ≡ growth (λ c. c.sink) before after
   pub disk_count : trace.disk ≡ growth (λ c. c.disk) before after
   pub random_count : trace.random ≡ growth (λ c. c.random) before after
+  pub rotator_count : trace.rotator ≡ growth (λ c. c.rotator) before after

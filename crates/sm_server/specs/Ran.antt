@@ -1,12 +1,11 @@
 -- What a run of the program over one stream does.
-use Rattle.std.specs.Prelude.{◌≡◌, ℕ, List, [], Option}
+use Rattle.std.specs.Prelude.{◌≡◌, ℕ, List, [], length, Option}
 use Rattle.std.specs.Io.KnownBytes.{prepend_known}
 use Rattle.sm_base.specs.Faults.{Rose}
 use Rattle.sm_base.specs.declared.bad_kind.BadKind.{BadKind}
 use Rattle.sm_model.specs.declared.entry.Entry.{Entry}
 use Rattle.sm_model.specs.declared.limits.TheConstants.{JOURNAL_LIMIT}
-use Rattle.sm_core.specs.Histories.{Legal}
-use Rattle.sm_account.specs.History.{entries_in}
+use Rattle.sm_rotation.specs.Vouched.{Replies}
 use Rattle.sm_account.specs.States.{Base, base_of}
 use Rattle.sm_http.specs.Messages.{Message}
 use Rattle.sm_principal.specs.declared.people.People.{People as Persons}
@@ -16,34 +15,37 @@ use Rattle.sm_session.specs.declared.ended.Ended.TheVariants as ended
 use Rattle.sm_session.specs.Endings as streams
 use Rattle.sm_session.specs.Endings.{Passage}
 use Rattle.sm_session.specs.Told.{nothing_told, Within}
+use Rattle.sm_server.specs.declared.asked.Task.{Task}
+use Rattle.sm_server.specs.declared.asked.Task.TheVariants.{Answer, Summarize}
 use Rattle.sm_server.specs.declared.status.Status.{Status}
 use Rattle.sm_server.specs.declared.status.Status.TheVariants.{Done, Words, Damaged, OpenFault, Memory, People, SinkFault, SourceFault, Cut, BadMessage, Enough, NotBuilt}
+use Rattle.sm_server.specs.Checks.{ChecksBy}
 use Rattle.sm_server.specs.Outside.{Outside, Trace, Passed}
 use Rattle.sm_server.specs.Turns.{Brought, Turns}
 
--- who may ask, what an account goes on from, and its history
+-- what a run does, what its rotator may reply, who may ask, what its account goes on from, over how many entries, and the
+-- history since
 pub record Course : Type 0 where
+  pub task : Task
+  pub replies : Replies
   pub people : Persons
   pub base : Base
+  pub entries : ℕ
   pub history : History
 
 -- no mark was made, and nothing was written, read from the clock or drawn
 abbrev pub NothingDone : History → Trace → Type 0
 NothingDone history trace = (history ≡ []) × (trace.written ≡ []) × (trace.told ≡ nothing_told)
 
--- the accepted changes of a run are a legal history on what its account was opened over
-abbrev pub IsAccepted : Course → Type 0
-IsAccepted course = Legal course.base.rows course.base.last (entries_in course.history)
-
 -- the messages that were answered, from the first mark on, and what that brought
 pub record AreAnswered (course : Course) (messages : List Message) (trace : Trace) : Type 0 where
   pub brought : Brought
-  pub turns : Turns course.people course.base [] messages brought
+  pub turns : Turns course.replies course.people course.base [] messages brought
   pub history : course.history ≡ brought.history
-  pub accepted : IsAccepted course
   pub told : trace.told ≡ brought.told
   pub disk : Within brought.disk trace.disk
   pub random : trace.random ≡ brought.random
+  pub rotator : trace.rotator ≡ brought.rotator
 
 -- what passed on the stream
 abbrev pub passage_of : List ℕ → Option (List ℕ) → List Message → List Answered → Trace → Passage
@@ -76,6 +78,19 @@ pub record Answers (course : Course) (status : Status) (input : List ℕ) (left 
   pub answered : AreAnswered course messages trace
   pub ends : EndsBy status (passage_of input left messages answered.brought.replies trace)
 
+-- A run that shows a summary reads no message, makes no mark and draws nothing.
+pub record Checks (course : Course) (status : Status) (input : List ℕ) (trace : Trace) : Type 0 where
+  pub unread : input ≡ []
+  pub unmarked : course.history ≡ []
+  pub undrawn : trace.told.drawn ≡ []
+  pub checks : ChecksBy (Rose trace.sink.before trace.sink.after) course.base.rows course.entries status
+      trace.told.readings trace.written
+
+-- why a run ended so that had this to do
+abbrev pub EndedAt : Task → Course → Status → List ℕ → Option (List ℕ) → Trace → Type 0
+EndedAt Answer course status input left trace = Answers course status input left trace
+EndedAt Summarize course status input left trace = Checks course status input trace
+
 -- why the run ended so, where it read this input and the source has that left; no byte is read before an account is
 -- opened
 abbrev pub Ended : Course → Status → List ℕ → Option (List ℕ) → Trace → Type 0
@@ -85,20 +100,27 @@ Ended course (People line) input left trace = (input ≡ []) × NothingDone cour
 Ended course (Damaged at entry) input left trace = (input ≡ []) × NothingDone course.history trace
 Ended course OpenFault input left trace =
     (input ≡ []) × NothingDone course.history trace × Rose trace.disk.before trace.disk.after
-Ended course status input left trace = Answers course status input left trace
+Ended course status input left trace = EndedAt course.task course status input left trace
 
--- who may ask, the entries that the disk recovered at the opening, the history since, and the entry whose write failed
--- last, while that may stand on the disk
+-- what a run does, who may ask, the entries that the disk recovered at the opening, the history since, and the entry
+-- whose write failed last, while that may stand on the disk
 pub record Story : Type 0 where
+  pub task : Task
   pub people : Persons
   pub taken : List Entry
   pub history : History
   pub failed : Option Entry
 
--- the story as a course, under the greatest limit on a journal
-abbrev pub course_of : Story → Course
-course_of story =
-    record { people = story.people; base = base_of story.taken JOURNAL_LIMIT; history = story.history }
+-- the story as a course, where this is what the rotator may reply, under the greatest limit on a journal
+abbrev pub course_of : Replies → Story → Course
+course_of replies story = record {
+  task = story.task;
+  replies = replies;
+  people = story.people;
+  base = base_of story.taken JOURNAL_LIMIT;
+  entries = length story.taken;
+  history = story.history;
+}
 
 -- the run of an account that went this course: from what the outside told before it to what it tells after it
 pub record Runs (course : Course) (status : Status) (before after : Outside) : Type 0 where

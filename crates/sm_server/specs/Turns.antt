@@ -1,14 +1,16 @@
 -- What the messages of a run bring, one after the other: their replies, what the clock and the random source told for
--- them, and the marks that they leave in the history.
+-- them and for the rotation turns behind each, and the marks that these leave in the history.
 use Rattle.std.specs.Prelude.{◌≡◌, ℕ, ◌≤◌, List, [], ◌∷◌, ◌++◌, Result}
 use Rattle.sm_base.specs.Faults.{Rose}
 use Rattle.sm_model.specs.declared.entry.Mark.{Mark}
 use Rattle.sm_model.specs.declared.why.Why.{Why}
+use Rattle.sm_rotation.specs.Vouched.{Replies}
 use Rattle.sm_table.specs.Sound.{Sound}
 use Rattle.sm_core.specs.Histories.{replay}
 use Rattle.sm_account.specs.History.{entries_in, by_seat}
 use Rattle.sm_account.specs.States.{Base}
 use Rattle.sm_http.specs.Messages.{Message}
+use Rattle.sm_pool.specs.Rounds.{Counts, NoneFell, Rotated, Round, courses_in, drawn_in, readings_in}
 use Rattle.sm_principal.specs.declared.people.People.{People}
 use Rattle.sm_reply.specs.Shown.{Answered}
 use Rattle.sm_spells.specs.Spells.{History}
@@ -20,27 +22,48 @@ use Rattle.sm_session.specs.Turns as sessions
 abbrev pub seat : ℕ
 seat = 1
 
--- what one message brought: what was told for it, its reply, its marks, and how the counts of the disk and of the
--- random source grew
+-- What one message brought, with the rotation turns behind it: what was told, its reply, the marks, and how the counts of
+-- the disk, of the random source and of the rotator grew.
 pub record Turn : Type 0 where
   pub told : Told
   pub reply : Answered
   pub marks : List Mark
   pub disk : Growth
   pub random : Growth
-
--- without the counts
-abbrev pub brings : Turn → sessions.Turn
-brings turn = record { told = turn.told; reply = turn.reply; marks = turn.marks }
-
--- the turn of a message that asks for this, or is refused so: each fault comes only where its count rose
-abbrev pub TurnOf : Base → History → Result Asked Why → Turn → Type 0
-TurnOf base history asked turn = sessions.IsTurn (Rose turn.disk.before turn.disk.after)
-    (Rose turn.random.before turn.random.after) base history asked (brings turn)
+  pub rotator : Growth
 
 -- the marks of a turn beside the seat
 abbrev pub marked : Turn → History
 marked turn = by_seat seat turn.marks
+
+-- the counts before a turn and after it
+abbrev pub counts_before : Turn → Counts
+counts_before turn =
+    record { disk = turn.disk.before; words = turn.random.before; rotator = turn.rotator.before }
+
+abbrev pub counts_after : Turn → Counts
+counts_after turn = record { disk = turn.disk.after; words = turn.random.after; rotator = turn.rotator.after }
+
+-- what was told for the rotation turns
+abbrev pub told_for : Round → Told
+told_for round = record { readings = readings_in (courses_in round); drawn = drawn_in (courses_in round) }
+
+-- The turn of a message that asks for this, or is refused so: its own part, at this history, and then rotation turns.
+-- Each fault comes only where its count rose.
+pub record TurnOf (replies : Replies) (base : Base) (history : History) (asked : Result Asked Why) (turn : Turn)
+    : Type 0 where
+  pub own : sessions.Turn
+  pub between : Counts
+  pub answered : sessions.IsTurn (Rose turn.disk.before between.disk) (Rose turn.random.before between.words) base
+      history asked own
+  pub unasked : between.rotator ≡ turn.rotator.before
+  pub later : NoneFell (counts_before turn) between
+  pub round : Round
+  pub rotated : Rotated replies base seat
+      (record { history = history ++ by_seat seat own.marks; counts = between }) round
+      (record { history = history ++ marked turn; counts = counts_after turn })
+  pub reply : turn.reply ≡ own.reply
+  pub told : turn.told ≡ told_both own.told (told_for round)
 
 -- what some messages brought together
 pub record Brought : Type 0 where
@@ -49,6 +72,7 @@ pub record Brought : Type 0 where
   pub history : History
   pub disk : Growth
   pub random : Growth
+  pub rotator : Growth
 
 -- first one growth, and then the other
 abbrev pub growth_both : Growth → Growth → Growth
@@ -62,38 +86,41 @@ with_others turn others = record {
   history = marked turn ++ others.history;
   disk = growth_both turn.disk others.disk;
   random = growth_both turn.random others.random;
+  rotator = growth_both turn.rotator others.rotator;
 }
 
 abbrev pub no_growth : ℕ → Growth
 no_growth count = record { before = count; after = count }
 
--- no message brought anything
-abbrev pub brought_nothing : ℕ → ℕ → Brought
-brought_nothing disk random = record {
+-- no message brought anything, where the counts are these
+abbrev pub brought_nothing : Counts → Brought
+brought_nothing counts = record {
   told = nothing_told;
   replies = [];
   history = [];
-  disk = no_growth disk;
-  random = no_growth random;
+  disk = no_growth counts.disk;
+  random = no_growth counts.words;
+  rotator = no_growth counts.rotator;
 }
 
 -- no count fell in a turn, and the rows that its marks make are sound
 pub record GoesWell (base : Base) (history : History) (turn : Turn) : Type 0 where
-  pub disk : turn.disk.before ≤ turn.disk.after
-  pub random : turn.random.before ≤ turn.random.after
+  pub fell : NoneFell (counts_before turn) (counts_after turn)
   pub sound : Sound (replay base.rows (entries_in (history ++ marked turn)))
 
--- these follow the turn
-abbrev pub Follow : Turn → Brought → Type 0
-Follow turn others = (turn.disk.after ≡ others.disk.before) × (turn.random.after ≡ others.random.before)
+-- the counts before some messages
+abbrev pub counts_first : Brought → Counts
+counts_first brought =
+    record { disk = brought.disk.before; words = brought.random.before; rotator = brought.rotator.before }
 
--- the messages one after the other, each at the history that those before it made
-abbrev pub Turns : People → Base → History → List Message → Brought → Type 0
-Turns people base history [] brought = brought ≡ brought_nothing brought.disk.before brought.random.before
-Turns people base history (message ∷ messages) brought =
+-- The messages one after the other, each at the history that those before it made, of these people, and with these
+-- replies of the rotator.
+abbrev pub Turns : Replies → People → Base → History → List Message → Brought → Type 0
+Turns replies people base history [] brought = brought ≡ brought_nothing (counts_first brought)
+Turns replies people base history (message ∷ messages) brought =
     (turn : Turn) × (others : Brought)
-    × TurnOf base history (heard people message) turn
+    × TurnOf replies base history (heard people message) turn
     × GoesWell base history turn
-    × Turns people base (history ++ marked turn) messages others
-    × Follow turn others
+    × Turns replies people base (history ++ marked turn) messages others
+    × (counts_after turn ≡ counts_first others)
     × (brought ≡ with_others turn others)

@@ -1,35 +1,51 @@
 //! The messages of a source, answered one after the other on an account.
-ghost use Rattle.std.specs.Prelude.{◌≡◌, ◌≤◌, ◌⊎◌, [], IsSome};
+ghost use Rattle.std.specs.Prelude.{◌≡◌, ◌≤◌, ◌⊎◌, ◌++◌, ℕ, [], List, IsSome};
+ghost use Rattle.std.specs.Io.KnownBytes.{append_known};
 ghost use Rattle.sm_base.specs.Faults.{Rose};
+ghost use Rattle.sm_model.specs.declared.entry.Mark.{Mark};
 ghost use Rattle.sm_account.specs.Accounts.{history, base, disk, failed, SameOrigin};
+ghost use Rattle.sm_account.specs.History.{by_seat};
+ghost use Rattle.sm_http.specs.Framed.{Sends};
+ghost use Rattle.sm_http.specs.Reading.{content};
+ghost use Rattle.sm_reply.specs.Shown.{Answered};
+ghost use Rattle.sm_session.specs.Answer.{heard};
+ghost use Rattle.sm_session.specs.Replies.{framed_answer};
+ghost use Rattle.sm_session.specs.Told.{Told};
+ghost use Rattle.sm_server.specs.declared.asked.Task.TheVariants.{Answer};
 ghost use Rattle.sm_server.specs.Ran.{Runs};
 ghost use Rattle.sm_server.specs.Status.{status_of};
+ghost use Rattle.sm_server.specs.Turns.{TurnOf, seat};
 
-use crate::turn::take_turn;
+use crate::turn::{SEAT, take_turn};
 use sm_account::Account;
 use sm_disk::Disk;
-use sm_http::{Piece, Reader};
+use sm_http::{Message, Piece, Reader, Sent};
 use sm_io::{Clock, Sink, Source, Words};
+use sm_pool::turns;
 use sm_principal::People;
-use sm_rotator::NoRotator;
+use sm_rotator::Rotator;
 use sm_session::{Ended, MESSAGE_LIMIT, finish, next_message, send};
 use std::alloc::Global;
 
-/// Answers the messages of the source on an account without a history, of whom may ask. The reply to each is written
-/// before the next one is read.
-pub fn answer_source<Q: Source, K: Sink, D: Disk, C: Clock, W: Words>(
+/// Answers the messages of the source on an account without a history, of whom may ask. The reply to each is written,
+/// and then rotation turns are taken, before the next one is read.
+pub fn answer_source<Q: Source, K: Sink, D: Disk, C: Clock, W: Words, R: Rotator>(
     alloc: Global,
     people: &People,
-    account: &mut Account<D, NoRotator>,
+    account: &mut Account<D, R>,
     source: &mut Q,
     sink: &mut K,
     clock: &mut C,
     random: &mut W,
+    rotator: &mut R,
 ) -> Ended
     requires { history account.old ≡ [] }
-    ensures runs { Runs (record {
+    ensures runs { (entries : ℕ) → Runs (record {
+      task = Answer;
+      replies = R.replies;
       people = people.now;
       base = base account.old;
+      entries = entries;
       history = history account.new;
     }) (status_of result)
         (record {
@@ -42,6 +58,7 @@ pub fn answer_source<Q: Source, K: Sink, D: Disk, C: Clock, W: Words>(
             sink = K.sink_faults sink.old;
             disk = D.faults (disk account.old);
             random = W.faults random.old;
+            rotator = R.faults rotator.old;
           };
         })
         (record {
@@ -54,6 +71,7 @@ pub fn answer_source<Q: Source, K: Sink, D: Disk, C: Clock, W: Words>(
             sink = K.sink_faults sink.new;
             disk = D.faults (disk account.new);
             random = W.faults random.new;
+            rotator = R.faults rotator.new;
           };
         }) }
     ensures origin { SameOrigin account.old account.new }
@@ -63,6 +81,7 @@ pub fn answer_source<Q: Source, K: Sink, D: Disk, C: Clock, W: Words>(
     ensures sink_later { K.sink_faults sink.old ≤ K.sink_faults sink.new }
     ensures disk_later { D.faults (disk account.old) ≤ D.faults (disk account.new) }
     ensures random_later { W.faults random.old ≤ W.faults random.new }
+    ensures rotator_later { R.faults rotator.old ≤ R.faults rotator.new }
 {
     let mut reader = Reader::new(alloc);
     let mut piece = Piece::new();
@@ -72,13 +91,54 @@ pub fn answer_source<Q: Source, K: Sink, D: Disk, C: Clock, W: Words>(
             Ok(message) => message,
             Err(stop) => return finish(alloc, sink, &mut piece, count, stop),
         };
-        let said = take_turn(alloc, people, account, &message, clock, random);
+        let sent = answer_message(
+            alloc, people, account, &message, sink, &mut piece, clock, random, rotator,
+        );
         account.standing();
-        let sent = send(sink, &mut piece, &said);
         count = count.saturating_add(sent.taken);
         if !sent.whole {
             return Ended::WriteFault(count);
         }
     }
     Ended::Enough
+}
+
+/// Answers a message, and then takes rotation turns.
+fn answer_message<K: Sink, D: Disk, C: Clock, W: Words, R: Rotator>(
+    alloc: Global,
+    people: &People,
+    account: &mut Account<D, R>,
+    message: &Message,
+    sink: &mut K,
+    piece: &mut Piece,
+    clock: &mut C,
+    random: &mut W,
+    rotator: &mut R,
+) -> Sent
+    ensures turn { (told : Told) × (marks : List Mark) × (reply : Answered)
+        × (C.readings clock.new ≡ append_known (C.readings clock.old) told.readings)
+        × (W.drawn random.new ≡ append_known (W.drawn random.old) told.drawn)
+        × TurnOf R.replies (base account.old) (history account.old) (heard people.now (content message.now)) (record {
+          told = told;
+          reply = reply;
+          marks = marks;
+          disk = record { before = D.faults (disk account.old); after = D.faults (disk account.new) };
+          random = record { before = W.faults random.old; after = W.faults random.new };
+          rotator = record { before = R.faults rotator.old; after = R.faults rotator.new };
+        })
+        × (history account.new ≡ history account.old ++ by_seat seat marks)
+        × Sends result (framed_answer reply) (K.taken sink.old) (K.taken sink.new)
+        (K.sink_faults sink.old) (K.sink_faults sink.new) }
+    ensures origin { SameOrigin account.old account.new }
+    ensures unsure { IsSome (failed account.new) → IsSome (failed account.old)
+        ⊎ Rose (D.faults (disk account.old)) (D.faults (disk account.new)) }
+    ensures sink_later { K.sink_faults sink.old ≤ K.sink_faults sink.new }
+    ensures disk_later { D.faults (disk account.old) ≤ D.faults (disk account.new) }
+    ensures random_later { W.faults random.old ≤ W.faults random.new }
+    ensures rotator_later { R.faults rotator.old ≤ R.faults rotator.new }
+{
+    let said = take_turn(alloc, people, account, message, clock, random);
+    let sent = send(sink, piece, &said);
+    turns(account, SEAT, rotator, clock, random);
+    sent
 }

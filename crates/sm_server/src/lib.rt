@@ -3,10 +3,11 @@
 
 mod answering;
 mod asked;
+mod checking;
 mod run;
 mod status;
 mod turn;
 
-pub use asked::end_of_settings;
+pub use asked::{Task, task_of_mode};
 pub use run::run_once;
 pub use status::Status;

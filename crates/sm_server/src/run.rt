@@ -1,28 +1,36 @@
 //! The top call over one stream.
-ghost use Rattle.std.specs.Prelude.{◌≡◌, ◌≤◌, [], None, map, string_bytes};
+ghost use Rattle.std.specs.Prelude.{◌≡◌, ◌≤◌, ◌∷◌, [], ℕ, List, None, length, map, string_bytes};
+ghost use Rattle.std.specs.Io.KnownBytes.{append_known};
+ghost use Rattle.sm_base.specs.Faults.{Rose};
+ghost use Rattle.sm_base.specs.declared.moment.Moment.{Moment as moments};
 ghost use Rattle.sm_account.specs.Accounts.{history, base, began, taken, disk, failed};
 ghost use Rattle.sm_account.specs.States.{base_of};
 ghost use Rattle.sm_model.specs.declared.limits.TheConstants.{JOURNAL_LIMIT};
+ghost use Rattle.sm_server.specs.declared.asked.Task.TheVariants.{Answer, Summarize};
+ghost use Rattle.sm_principal.specs.declared.people.People.{People as Persons};
+ghost use Rattle.sm_server.specs.Checks.{Shows};
 ghost use Rattle.sm_server.specs.Complete.{Ran};
 ghost use Rattle.sm_server.specs.Ran.{Runs, Story, course_of};
 ghost use Rattle.sm_server.specs.Status.{WasFollowed, WasOpened};
 ghost use Rattle.sm_server.specs.Stored.{Leaves, Stands, status_unopened, disk_unopened};
 
 use crate::answering::answer_source;
-use crate::asked::end_of_words;
+use crate::asked::{Task, task_of_words};
+use crate::checking::summarize;
 use crate::status::{Status, status_of};
 use sm_account::{Account, OpenRefused};
 use sm_disk::Disk;
 use sm_io::{Clock, Sink, Source, Words};
 use sm_model::limits::JOURNAL_LIMIT;
 use sm_principal::{People, PeopleRefused};
-use sm_rotator::NoRotator;
+use sm_rotator::Rotator;
 use std::alloc::Global;
 
 /// Follows the words of a command line: reads the text of the people who may ask, opens the account of the disk, and
-/// answers the messages of the source one after the other, at most 1,000. The reply to each is written to the sink
-/// before the next one is read. The disk is handed back.
-pub fn run_once<Q: Source, K: Sink, D: Disk, C: Clock, W: Words>(
+/// answers the messages of the source one after the other, at most 1,000, or writes a summary of what the disk holds.
+/// The reply to each message is written, and then rotation turns are taken, before the next one is read. The disk is
+/// handed back.
+pub fn run_once<Q: Source, K: Sink, D: Disk, C: Clock, W: Words, R: Rotator>(
     alloc: Global,
     words: &[String],
     source: &mut Q,
@@ -31,9 +39,11 @@ pub fn run_once<Q: Source, K: Sink, D: Disk, C: Clock, W: Words>(
     clock: &mut C,
     random: &mut W,
     people: &[u8],
+    rotator: &mut R,
 ) -> (Status, D)
     // How the run went, and what stands on the disk.
-    ensures ran { (story : Story) × Ran (record { words = map string_bytes words.now; people = people.now }) result.0
+    ensures ran { (story : Story)
+        × Ran R.replies (record { words = map string_bytes words.now; people = people.now }) result.0
         (record {
           left = Q.left source.old;
           taken = K.taken sink.old;
@@ -44,6 +54,7 @@ pub fn run_once<Q: Source, K: Sink, D: Disk, C: Clock, W: Words>(
             sink = K.sink_faults sink.old;
             disk = D.faults disk;
             random = W.faults random.old;
+            rotator = R.faults rotator.old;
           };
         })
         (record {
@@ -56,6 +67,7 @@ pub fn run_once<Q: Source, K: Sink, D: Disk, C: Clock, W: Words>(
             sink = K.sink_faults sink.new;
             disk = D.faults result.1;
             random = W.faults random.new;
+            rotator = R.faults rotator.new;
           };
         }) story
         × Leaves D.Disk result.0 story disk result.1 }
@@ -63,28 +75,34 @@ pub fn run_once<Q: Source, K: Sink, D: Disk, C: Clock, W: Words>(
     ensures sink_later { K.sink_faults sink.old ≤ K.sink_faults sink.new }
     ensures disk_later { D.faults disk ≤ D.faults result.1 }
     ensures random_later { W.faults random.old ≤ W.faults random.new }
+    ensures rotator_later { R.faults rotator.old ≤ R.faults rotator.new }
 {
-    match end_of_words(alloc, words) {
-        Some(status) => (status, disk),
-        None => match People::read(alloc, people) {
-            Ok(people) => run_over(alloc, &people, source, sink, disk, clock, random),
+    match task_of_words(alloc, words) {
+        Ok(task) => match People::read(alloc, people) {
+            Ok(people) => run_over(
+                alloc, task, &people, source, sink, disk, clock, random, rotator,
+            ),
             Err(PeopleRefused::BadLine(line)) => (Status::People(line), disk),
             Err(PeopleRefused::Memory) => (Status::Memory, disk),
         },
+        Err(status) => (status, disk),
     }
 }
 
-/// Opens the account of the disk, and answers the messages of the source.
-fn run_over<Q: Source, K: Sink, D: Disk, C: Clock, W: Words>(
+/// Opens the account of the disk, and does what there is to do with it.
+fn run_over<Q: Source, K: Sink, D: Disk, C: Clock, W: Words, R: Rotator>(
     alloc: Global,
+    task: Task,
     people: &People,
     source: &mut Q,
     sink: &mut K,
     disk: D,
     clock: &mut C,
     random: &mut W,
+    rotator: &mut R,
 ) -> (Status, D)
-    ensures ran { (story : Story) × (story.people ≡ people.now) × Runs (course_of story) result.0
+    ensures ran { (story : Story) × (story.task ≡ task) × (story.people ≡ people.now)
+        × Runs (course_of R.replies story) result.0
         (record {
           left = Q.left source.old;
           taken = K.taken sink.old;
@@ -95,6 +113,7 @@ fn run_over<Q: Source, K: Sink, D: Disk, C: Clock, W: Words>(
             sink = K.sink_faults sink.old;
             disk = D.faults disk;
             random = W.faults random.old;
+            rotator = R.faults rotator.old;
           };
         })
         (record {
@@ -107,6 +126,7 @@ fn run_over<Q: Source, K: Sink, D: Disk, C: Clock, W: Words>(
             sink = K.sink_faults sink.new;
             disk = D.faults result.1;
             random = W.faults random.new;
+            rotator = R.faults rotator.new;
           };
         })
         × Leaves D.Disk result.0 story disk result.1 }
@@ -115,9 +135,12 @@ fn run_over<Q: Source, K: Sink, D: Disk, C: Clock, W: Words>(
     ensures sink_later { K.sink_faults sink.old ≤ K.sink_faults sink.new }
     ensures disk_later { D.faults disk ≤ D.faults result.1 }
     ensures random_later { W.faults random.old ≤ W.faults random.new }
+    ensures rotator_later { R.faults rotator.old ≤ R.faults rotator.new }
 {
     match Account::open(alloc, disk, 1, JOURNAL_LIMIT) {
-        Ok(account) => run_opened(alloc, people, account, source, sink, clock, random),
+        Ok(account) => run_opened(
+            alloc, task, people, account, source, sink, clock, random, rotator,
+        ),
         Err(refused) => end_unopened(refused),
     }
 }
@@ -134,22 +157,24 @@ fn end_unopened<D>(refused: OpenRefused<D>) -> (Status, D)
     }
 }
 
-/// Answers the messages of the source on an account that was just opened.
-fn run_opened<Q: Source, K: Sink, D: Disk, C: Clock, W: Words>(
+/// Does what there is to do with an account that was just opened.
+fn run_opened<Q: Source, K: Sink, D: Disk, C: Clock, W: Words, R: Rotator>(
     alloc: Global,
+    task: Task,
     people: &People,
-    account: Account<D, NoRotator>,
+    account: Account<D, R>,
     source: &mut Q,
     sink: &mut K,
     clock: &mut C,
     random: &mut W,
+    rotator: &mut R,
 ) -> (Status, D)
     requires fresh { history account ≡ [] }
     requires base { base account ≡ base_of (taken account) JOURNAL_LIMIT }
     requires sure { failed account ≡ None }
     requires later { D.faults (began account) ≤ D.faults (disk account) }
-    ensures ran { (story : Story) × (story.people ≡ people.now) × (story.taken ≡ taken account)
-        × Runs (course_of story) result.0
+    ensures ran { (story : Story) × (story.task ≡ task) × (story.people ≡ people.now) × (story.taken ≡ taken account)
+        × Runs (course_of R.replies story) result.0
         (record {
           left = Q.left source.old;
           taken = K.taken sink.old;
@@ -160,6 +185,7 @@ fn run_opened<Q: Source, K: Sink, D: Disk, C: Clock, W: Words>(
             sink = K.sink_faults sink.old;
             disk = D.faults (began account);
             random = W.faults random.old;
+            rotator = R.faults rotator.old;
           };
         })
         (record {
@@ -172,6 +198,7 @@ fn run_opened<Q: Source, K: Sink, D: Disk, C: Clock, W: Words>(
             sink = K.sink_faults sink.new;
             disk = D.faults result.1;
             random = W.faults random.new;
+            rotator = R.faults rotator.new;
           };
         })
         × Stands D.Disk story (began account) result.1 }
@@ -180,9 +207,100 @@ fn run_opened<Q: Source, K: Sink, D: Disk, C: Clock, W: Words>(
     ensures sink_later { K.sink_faults sink.old ≤ K.sink_faults sink.new }
     ensures disk_later { D.faults (disk account) ≤ D.faults result.1 }
     ensures random_later { W.faults random.old ≤ W.faults random.new }
+    ensures rotator_later { R.faults rotator.old ≤ R.faults rotator.new }
+{
+    match task {
+        Task::Answer => answer_opened(
+            alloc, people, account, source, sink, clock, random, rotator,
+        ),
+        Task::Summarize => check_opened(alloc, account, sink, clock),
+    }
+}
+
+/// Answers the messages of the source on an account that was just opened.
+fn answer_opened<Q: Source, K: Sink, D: Disk, C: Clock, W: Words, R: Rotator>(
+    alloc: Global,
+    people: &People,
+    account: Account<D, R>,
+    source: &mut Q,
+    sink: &mut K,
+    clock: &mut C,
+    random: &mut W,
+    rotator: &mut R,
+) -> (Status, D)
+    requires fresh { history account ≡ [] }
+    requires base { base account ≡ base_of (taken account) JOURNAL_LIMIT }
+    requires sure { failed account ≡ None }
+    requires later { D.faults (began account) ≤ D.faults (disk account) }
+    ensures ran { (story : Story) × (story.task ≡ Answer) × (story.people ≡ people.now) × (story.taken ≡ taken account)
+        × Runs (course_of R.replies story) result.0
+        (record {
+          left = Q.left source.old;
+          taken = K.taken sink.old;
+          readings = C.readings clock.old;
+          drawn = W.drawn random.old;
+          counts = record {
+            source = Q.source_faults source.old;
+            sink = K.sink_faults sink.old;
+            disk = D.faults (began account);
+            random = W.faults random.old;
+            rotator = R.faults rotator.old;
+          };
+        })
+        (record {
+          left = Q.left source.new;
+          taken = K.taken sink.new;
+          readings = C.readings clock.new;
+          drawn = W.drawn random.new;
+          counts = record {
+            source = Q.source_faults source.new;
+            sink = K.sink_faults sink.new;
+            disk = D.faults result.1;
+            random = W.faults random.new;
+            rotator = R.faults rotator.new;
+          };
+        })
+        × Stands D.Disk story (began account) result.1 }
+    ensures opened { WasOpened result.0 }
+    ensures source_later { Q.source_faults source.old ≤ Q.source_faults source.new }
+    ensures sink_later { K.sink_faults sink.old ≤ K.sink_faults sink.new }
+    ensures disk_later { D.faults (disk account) ≤ D.faults result.1 }
+    ensures random_later { W.faults random.old ≤ W.faults random.new }
+    ensures rotator_later { R.faults rotator.old ≤ R.faults rotator.new }
 {
     let mut account = account;
-    let ended = answer_source(alloc, people, &mut account, source, sink, clock, random);
+    let ended = answer_source(
+        alloc, people, &mut account, source, sink, clock, random, rotator,
+    );
     account.standing();
     (status_of(ended), account.close())
+}
+
+/// Writes a summary of what an account holds that was just opened.
+fn check_opened<K: Sink, D: Disk, C: Clock, R: Rotator>(
+    alloc: Global,
+    account: Account<D, R>,
+    sink: &mut K,
+    clock: &mut C,
+) -> (Status, D)
+    requires fresh { history account ≡ [] }
+    requires sure { failed account ≡ None }
+    ensures shows { (now : moments) × (written : List ℕ)
+        × (C.readings clock.new ≡ append_known (C.readings clock.old) (now.0 ∷ []))
+        × (K.taken sink.new ≡ append_known (K.taken sink.old) written)
+        × Shows (Rose (K.sink_faults sink.old) (K.sink_faults sink.new)) (base account).rows now
+        (length (taken account)) result.0 written }
+    ensures disk { result.1 ≡ disk account }
+    ensures stands { (people : Persons) → Stands D.Disk (record {
+      task = Summarize;
+      people = people;
+      taken = taken account;
+      history = history account;
+      failed = failed account;
+    }) (began account) (disk account) }
+    ensures sink_later { K.sink_faults sink.old ≤ K.sink_faults sink.new }
+{
+    account.standing();
+    let status = summarize(alloc, &account, sink, clock);
+    (status, account.close())
 }

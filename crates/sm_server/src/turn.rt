@@ -9,7 +9,8 @@ ghost use Rattle.sm_http.specs.Reading.{content};
 ghost use Rattle.sm_session.specs.Answer.{heard};
 ghost use Rattle.sm_session.specs.Replies.{reply_of};
 ghost use Rattle.sm_session.specs.Told.{Told};
-ghost use Rattle.sm_server.specs.Turns.{TurnOf, seat};
+ghost use Rattle.sm_session.specs.Turns.{IsTurn};
+ghost use Rattle.sm_server.specs.Turns.{seat};
 
 use sm_account::Account;
 use sm_disk::Disk;
@@ -17,18 +18,18 @@ use sm_http::Message;
 use sm_io::{Clock, Drew, Words};
 use sm_model::{Person, Request, Why, need};
 use sm_principal::People;
-use sm_rotator::NoRotator;
+use sm_rotator::Rotator;
 use sm_session::{Heard, Said, draw, read, say_refusal, turn};
 use std::alloc::Global;
 
 /// The seat of a run's only caller.
-const SEAT: u32 = 1;
+pub const SEAT: u32 = 1;
 
 /// The reply to a message.
-pub fn take_turn<D: Disk, C: Clock, W: Words>(
+pub fn take_turn<D: Disk, C: Clock, W: Words, R: Rotator>(
     alloc: Global,
     people: &People,
-    account: &mut Account<D, NoRotator>,
+    account: &mut Account<D, R>,
     message: &Message,
     clock: &mut C,
     random: &mut W,
@@ -36,13 +37,9 @@ pub fn take_turn<D: Disk, C: Clock, W: Words>(
     ensures turn { (told : Told) × (marks : List Mark)
         × (C.readings clock.new ≡ append_known (C.readings clock.old) told.readings)
         × (W.drawn random.new ≡ append_known (W.drawn random.old) told.drawn)
-        × TurnOf (base account.old) (history account.old) (heard people.now (content message.now)) (record {
-          told = told;
-          reply = reply_of result;
-          marks = marks;
-          disk = record { before = D.faults (disk account.old); after = D.faults (disk account.new) };
-          random = record { before = W.faults random.old; after = W.faults random.new };
-        })
+        × IsTurn (Rose (D.faults (disk account.old)) (D.faults (disk account.new)))
+        (Rose (W.faults random.old) (W.faults random.new)) (base account.old) (history account.old)
+        (heard people.now (content message.now)) (record { told = told; reply = reply_of result; marks = marks })
         × (history account.new ≡ history account.old ++ by_seat seat marks) }
     ensures origin { SameOrigin account.old account.new }
     ensures unsure { IsSome (failed account.new) → IsSome (failed account.old)
@@ -60,9 +57,9 @@ pub fn take_turn<D: Disk, C: Clock, W: Words>(
 }
 
 /// The reply to a person's request: the random bytes that it needs are drawn, and then the clock is read.
-fn draw_and_answer<D: Disk, C: Clock, W: Words>(
+fn draw_and_answer<D: Disk, C: Clock, W: Words, R: Rotator>(
     alloc: Global,
-    account: &mut Account<D, NoRotator>,
+    account: &mut Account<D, R>,
     person: &Person,
     request: &Request,
     clock: &mut C,
@@ -72,14 +69,10 @@ fn draw_and_answer<D: Disk, C: Clock, W: Words>(
     ensures turn { (told : Told) × (marks : List Mark)
         × (C.readings clock.new ≡ append_known (C.readings clock.old) told.readings)
         × (W.drawn random.new ≡ append_known (W.drawn random.old) told.drawn)
-        × TurnOf (base account.old) (history account.old) (Ok (record { person = person.now; request = request.now }))
-        (record {
-          told = told;
-          reply = reply_of result;
-          marks = marks;
-          disk = record { before = D.faults (disk account.old); after = D.faults (disk account.new) };
-          random = record { before = W.faults random.old; after = W.faults random.new };
-        })
+        × IsTurn (Rose (D.faults (disk account.old)) (D.faults (disk account.new)))
+        (Rose (W.faults random.old) (W.faults random.new)) (base account.old) (history account.old)
+        (Ok (record { person = person.now; request = request.now }))
+        (record { told = told; reply = reply_of result; marks = marks })
         × (history account.new ≡ history account.old ++ by_seat seat marks) }
     ensures origin { SameOrigin account.old account.new }
     ensures unsure { IsSome (failed account.new) → IsSome (failed account.old)

@@ -2,6 +2,8 @@
 #![tactic(auto)]
 
 #[cfg(test)]
+mod checks;
+#[cfg(test)]
 mod conversations;
 #[cfg(test)]
 mod disks;
@@ -13,6 +15,8 @@ mod failing;
 mod outside;
 #[cfg(test)]
 mod people;
+#[cfg(test)]
+mod rotations;
 #[cfg(test)]
 mod streams;
 #[cfg(test)]

@@ -2,6 +2,7 @@
 use sm_disk::MemoryDisk;
 use sm_io::{CountWords, FixedClock, MemorySink, MemorySource};
 use sm_model::{Bytes, Fails, List, Moment, NoMemory};
+use sm_rotator::LocalRotator;
 use sm_server::{Status, run_once};
 use std::alloc::Global;
 use std::process::Abort;
@@ -81,6 +82,7 @@ pub fn run_people(
     let mut sink = MemorySink::new(alloc, put, fails(alloc, outside.sink_from));
     let mut clock = FixedClock::new(Moment(1_700_000_000));
     let mut random = CountWords::new(alloc, 0, fails(alloc, outside.random_from));
+    let mut rotator = LocalRotator::new(alloc);
     let words = words(alloc, line)?;
     let (status, disk) = run_once(
         alloc,
@@ -91,6 +93,7 @@ pub fn run_people(
         &mut clock,
         &mut random,
         people,
+        &mut rotator,
     );
     let written = Vec::from_slice(alloc, sink.taken().as_slice())?;
     Ok((status, written, disk))

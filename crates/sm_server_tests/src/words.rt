@@ -6,7 +6,7 @@ use std::alloc::Global;
 use std::test::Fail;
 
 /// The words of a line, and how a run with them ends over no input.
-const LINES: [(&str, Status); 13] = [
+const LINES: [(&str, Status); 12] = [
     ("", Status::Done),
     ("--mode exec --number 0", Status::Done),
     ("--data ignored --rotator local", Status::Done),
@@ -15,11 +15,10 @@ const LINES: [(&str, Status); 13] = [
     ("--mode serve --people p", Status::Words),
     ("--number -1", Status::Words),
     ("--help", Status::Words),
-    ("--mode check", Status::NotBuilt),
     ("--mode drill --number 1", Status::NotBuilt),
     ("--people p", Status::Done),
-    ("--people p --rotator 127.0.0.1:9000", Status::NotBuilt),
-    ("--rotator 127.0.0.1:9000", Status::NotBuilt),
+    ("--people p --rotator 127.0.0.1:9000", Status::Done),
+    ("--rotator 127.0.0.1:9000", Status::Done),
 ];
 
 /// How a run with these words ends. Nothing is written.

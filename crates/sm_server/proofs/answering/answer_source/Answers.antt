@@ -6,10 +6,9 @@ use Rattle.sm_account.specs.Accounts.{history, base, disk}
 use Rattle.sm_account.specs.History.{entries_in}
 use Rattle.sm_account.specs.States.{Base}
 use Rattle.sm_session.specs.Endings.{Sides}
-use Rattle.sm_session.specs.Replies.{reply_of}
 use Rattle.sm_session.proofs.UnsureLemmas.{unsure_since}
 use Rattle.sm_server.specs.Outside.{Outside}
-use Rattle.sm_server.proofs.OriginLemmas.{same_origin, same_origin_still}
+use Rattle.sm_pool.proofs.OriginLemmas.{same_origin, same_origin_still}
 use Rattle.sm_server.proofs.RunLemmas.{Point, Step, Turned, Later, progress_first, progress_more, run_cut, run_enough, run_stops}
 use Rattle.sm_server.proofs.answering.answer_source.Goals as goal
 
@@ -25,6 +24,7 @@ loop-number-init g c =
         sink = g.K.Sink.sink_faults c.args.sink.now;
         disk = g.D.Disk.faults (disk c.args.account.now);
         random = g.W.Words.faults c.args.random.now;
+        rotator = g.R.Rotator.faults c.args.rotator.now;
       };
     } in
     record {
@@ -34,7 +34,8 @@ loop-number-init g c =
       sink_later = omega arith;
       disk_later = omega arith;
       random_later = omega arith;
-      progress = progress_first c.args.people.now (base c.args.account.now) before c.new-reader.result
+      rotator_later = omega arith;
+      progress = progress_first g.R.Rotator.replies c.args.people.now (base c.args.account.now) before c.new-reader.result
           (history c.args.account.now) c.new-reader.ensures c.requires;
     }
 
@@ -51,6 +52,7 @@ returns-in-Err-clause-runs g c =
         sink = g.K.Sink.sink_faults c.args.sink.now;
         disk = g.D.Disk.faults (disk c.args.account.now);
         random = g.W.Words.faults c.args.random.now;
+        rotator = g.R.Rotator.faults c.args.rotator.now;
       };
     } in
     let at : Point = record {
@@ -64,6 +66,7 @@ returns-in-Err-clause-runs g c =
           sink = g.K.Sink.sink_faults c.loop-number.sink;
           disk = g.D.Disk.faults (disk c.loop-number.account);
           random = g.W.Words.faults c.loop-number.random;
+          rotator = g.R.Rotator.faults c.loop-number.rotator;
         };
       };
       reader = c.loop-number.reader;
@@ -76,7 +79,7 @@ returns-in-Err-clause-runs g c =
       source = g.Q.Source.source_faults c.next_message.new.source;
       sink = g.K.Sink.sink_faults c.finish.new.sink;
     } in
-    run_stops c.args.people.now (base c.args.account.now) before c.loop-number.number at i.progress
+    run_stops g.R.Rotator.replies c.args.people.now (base c.args.account.now) before c.loop-number.number at i.progress
     c.next_message.new.reader sides c.in-Err.stop c.finish.result c.loop-number-test.true c.in-Err.ensures.reads
     c.in-Err.ensures.stops c.next_message.ensures.later c.finish.ensures.finishes
 
@@ -93,6 +96,7 @@ returns-then-not-sent-clause-runs g c =
         sink = g.K.Sink.sink_faults c.args.sink.now;
         disk = g.D.Disk.faults (disk c.args.account.now);
         random = g.W.Words.faults c.args.random.now;
+        rotator = g.R.Rotator.faults c.args.rotator.now;
       };
     } in
     let at : Point = record {
@@ -106,6 +110,7 @@ returns-then-not-sent-clause-runs g c =
           sink = g.K.Sink.sink_faults c.loop-number.sink;
           disk = g.D.Disk.faults (disk c.loop-number.account);
           random = g.W.Words.faults c.loop-number.random;
+          rotator = g.R.Rotator.faults c.loop-number.rotator;
         };
       };
       reader = c.loop-number.reader;
@@ -118,43 +123,49 @@ returns-then-not-sent-clause-runs g c =
       message = c.in-Ok.message;
       after = record {
         left = g.Q.Source.left c.next_message.new.source;
-        taken = g.K.Sink.taken c.send-sent.new.sink;
-        readings = g.C.Clock.readings c.take_turn-said.new.clock;
-        drawn = g.W.Words.drawn c.take_turn-said.new.random;
+        taken = g.K.Sink.taken c.answer_message-sent.new.sink;
+        readings = g.C.Clock.readings c.answer_message-sent.new.clock;
+        drawn = g.W.Words.drawn c.answer_message-sent.new.random;
         counts = record {
           source = g.Q.Source.source_faults c.next_message.new.source;
-          sink = g.K.Sink.sink_faults c.send-sent.new.sink;
-          disk = g.D.Disk.faults (disk c.take_turn-said.new.account);
-          random = g.W.Words.faults c.take_turn-said.new.random;
+          sink = g.K.Sink.sink_faults c.answer_message-sent.new.sink;
+          disk = g.D.Disk.faults (disk c.answer_message-sent.new.account);
+          random = g.W.Words.faults c.answer_message-sent.new.random;
+          rotator = g.R.Rotator.faults c.answer_message-sent.new.rotator;
         };
       };
-      history' = history c.take_turn-said.new.account;
-      reply = reply_of c.take_turn-said.result;
+      history' = history c.answer_message-sent.new.account;
+      reply = c.answer_message-sent.ensures.turn.2;
     } in
     let stays : base c.loop-number.account ≡ base c.args.account.now = i.origin.base_stays in
-    let turned : Turned c.args.people.now (base c.args.account.now) step =
-    subst (λ (b : Base). Turned c.args.people.now b step) stays c.take_turn-said.ensures.turn in
+    let t = c.answer_message-sent.ensures.turn in
+    let turned : Turned g.R.Rotator.replies c.args.people.now (base c.args.account.now) step =
+    subst (λ (b : Base). Turned g.R.Rotator.replies c.args.people.now b step) stays
+    (t.0, t.1, t.3, t.4, t.5, t.6) in
     let later : Later (base c.args.account.now) step = record {
-      disk = c.take_turn-said.ensures.disk_later;
-      random = c.take_turn-said.ensures.random_later;
-      sound = subst (λ (b : Base). Sound (replay b.rows (entries_in (history c.take_turn-said.new.account))))
-          (c.take_turn-said.ensures.origin.base_stays ∙ stays)
+      fell = record {
+        disk = c.answer_message-sent.ensures.disk_later;
+        words = c.answer_message-sent.ensures.random_later;
+        rotator = c.answer_message-sent.ensures.rotator_later;
+      };
+      sound = subst (λ (b : Base). Sound (replay b.rows (entries_in (history c.answer_message-sent.new.account))))
+          (c.answer_message-sent.ensures.origin.base_stays ∙ stays)
           (subst Sound c.standing.ensures.rows c.standing.ensures.sound);
     } in
-    run_cut c.args.people.now (base c.args.account.now) before c.loop-number.number at i.progress
+    run_cut g.R.Rotator.replies c.args.people.now (base c.args.account.now) before c.loop-number.number at i.progress
     c.next_message.new.reader step refl refl turned later c.in-Ok.ensures.reads c.next_message.ensures.later
-    c.send-sent.ensures.later c.send-sent.result c.send-sent.ensures.sent c.saturating_add-count.result
+    c.answer_message-sent.ensures.sink_later c.answer_message-sent.result t.7 c.saturating_add-count.result
     c.saturating_add-count.ensures c.loop-number-test.true
-    (not-true c.send-sent.result.whole c.if-not-sent.true)
+    (not-true c.answer_message-sent.result.whole c.if-not-sent.true)
 
 pub returns-then-not-sent-clause-origin : goal.returns-then-not-sent-clause-origin
 returns-then-not-sent-clause-origin g c =
-    same_origin _ _ _ c.loop-number.invariant.origin c.take_turn-said.ensures.origin
+    same_origin _ _ _ c.loop-number.invariant.origin c.answer_message-sent.ensures.origin
 
 pub returns-then-not-sent-clause-unsure : goal.returns-then-not-sent-clause-unsure
 returns-then-not-sent-clause-unsure g c =
-    unsure_since _ _ _ _ _ _ c.loop-number.invariant.unsure c.take_turn-said.ensures.unsure
-    c.loop-number.invariant.disk_later c.take_turn-said.ensures.disk_later
+    unsure_since _ _ _ _ _ _ c.loop-number.invariant.unsure c.answer_message-sent.ensures.unsure
+    c.loop-number.invariant.disk_later c.answer_message-sent.ensures.disk_later
 
 pub loop-number-preserved : goal.loop-number-preserved
 loop-number-preserved g c =
@@ -169,6 +180,7 @@ loop-number-preserved g c =
         sink = g.K.Sink.sink_faults c.args.sink.now;
         disk = g.D.Disk.faults (disk c.args.account.now);
         random = g.W.Words.faults c.args.random.now;
+        rotator = g.R.Rotator.faults c.args.rotator.now;
       };
     } in
     let at : Point = record {
@@ -182,6 +194,7 @@ loop-number-preserved g c =
           sink = g.K.Sink.sink_faults c.loop-number.sink;
           disk = g.D.Disk.faults (disk c.loop-number.account);
           random = g.W.Words.faults c.loop-number.random;
+          rotator = g.R.Rotator.faults c.loop-number.rotator;
         };
       };
       reader = c.loop-number.reader;
@@ -194,42 +207,49 @@ loop-number-preserved g c =
       message = c.in-Ok.message;
       after = record {
         left = g.Q.Source.left c.next_message.new.source;
-        taken = g.K.Sink.taken c.send-sent.new.sink;
-        readings = g.C.Clock.readings c.take_turn-said.new.clock;
-        drawn = g.W.Words.drawn c.take_turn-said.new.random;
+        taken = g.K.Sink.taken c.answer_message-sent.new.sink;
+        readings = g.C.Clock.readings c.answer_message-sent.new.clock;
+        drawn = g.W.Words.drawn c.answer_message-sent.new.random;
         counts = record {
           source = g.Q.Source.source_faults c.next_message.new.source;
-          sink = g.K.Sink.sink_faults c.send-sent.new.sink;
-          disk = g.D.Disk.faults (disk c.take_turn-said.new.account);
-          random = g.W.Words.faults c.take_turn-said.new.random;
+          sink = g.K.Sink.sink_faults c.answer_message-sent.new.sink;
+          disk = g.D.Disk.faults (disk c.answer_message-sent.new.account);
+          random = g.W.Words.faults c.answer_message-sent.new.random;
+          rotator = g.R.Rotator.faults c.answer_message-sent.new.rotator;
         };
       };
-      history' = history c.take_turn-said.new.account;
-      reply = reply_of c.take_turn-said.result;
+      history' = history c.answer_message-sent.new.account;
+      reply = c.answer_message-sent.ensures.turn.2;
     } in
     let stays : base c.loop-number.account ≡ base c.args.account.now = i.origin.base_stays in
-    let turned : Turned c.args.people.now (base c.args.account.now) step =
-    subst (λ (b : Base). Turned c.args.people.now b step) stays c.take_turn-said.ensures.turn in
+    let t = c.answer_message-sent.ensures.turn in
+    let turned : Turned g.R.Rotator.replies c.args.people.now (base c.args.account.now) step =
+    subst (λ (b : Base). Turned g.R.Rotator.replies c.args.people.now b step) stays
+    (t.0, t.1, t.3, t.4, t.5, t.6) in
     let later : Later (base c.args.account.now) step = record {
-      disk = c.take_turn-said.ensures.disk_later;
-      random = c.take_turn-said.ensures.random_later;
-      sound = subst (λ (b : Base). Sound (replay b.rows (entries_in (history c.take_turn-said.new.account))))
-          (c.take_turn-said.ensures.origin.base_stays ∙ stays)
+      fell = record {
+        disk = c.answer_message-sent.ensures.disk_later;
+        words = c.answer_message-sent.ensures.random_later;
+        rotator = c.answer_message-sent.ensures.rotator_later;
+      };
+      sound = subst (λ (b : Base). Sound (replay b.rows (entries_in (history c.answer_message-sent.new.account))))
+          (c.answer_message-sent.ensures.origin.base_stays ∙ stays)
           (subst Sound c.standing.ensures.rows c.standing.ensures.sound);
     } in
     record {
-      origin = same_origin _ _ _ i.origin c.take_turn-said.ensures.origin;
-      unsure = unsure_since _ _ _ _ _ _ i.unsure c.take_turn-said.ensures.unsure i.disk_later
-          c.take_turn-said.ensures.disk_later;
+      origin = same_origin _ _ _ i.origin c.answer_message-sent.ensures.origin;
+      unsure = unsure_since _ _ _ _ _ _ i.unsure c.answer_message-sent.ensures.unsure i.disk_later
+          c.answer_message-sent.ensures.disk_later;
       source_later = omega (arith, i.source_later, c.next_message.ensures.later);
-      sink_later = omega (arith, i.sink_later, c.send-sent.ensures.later);
-      disk_later = omega (arith, i.disk_later, c.take_turn-said.ensures.disk_later);
-      random_later = omega (arith, i.random_later, c.take_turn-said.ensures.random_later);
-      progress = progress_more c.args.people.now (base c.args.account.now) before c.loop-number.number at i.progress
+      sink_later = omega (arith, i.sink_later, c.answer_message-sent.ensures.sink_later);
+      disk_later = omega (arith, i.disk_later, c.answer_message-sent.ensures.disk_later);
+      random_later = omega (arith, i.random_later, c.answer_message-sent.ensures.random_later);
+      rotator_later = omega (arith, i.rotator_later, c.answer_message-sent.ensures.rotator_later);
+      progress = progress_more g.R.Rotator.replies c.args.people.now (base c.args.account.now) before c.loop-number.number at i.progress
           c.next_message.new.reader step refl refl turned later c.in-Ok.ensures.reads c.next_message.ensures.later
-          c.send-sent.ensures.later c.send-sent.result c.send-sent.ensures.sent c.saturating_add-count.result
+          c.answer_message-sent.ensures.sink_later c.answer_message-sent.result t.7 c.saturating_add-count.result
           c.saturating_add-count.ensures
-          (not-false c.send-sent.result.whole c.if-not-sent.false);
+          (not-false c.answer_message-sent.result.whole c.if-not-sent.false);
     }
 
 pub returns-clause-runs : goal.returns-clause-runs
@@ -244,6 +264,7 @@ returns-clause-runs g c =
         sink = g.K.Sink.sink_faults c.args.sink.now;
         disk = g.D.Disk.faults (disk c.args.account.now);
         random = g.W.Words.faults c.args.random.now;
+        rotator = g.R.Rotator.faults c.args.rotator.now;
       };
     } in
     let at : Point = record {
@@ -257,11 +278,12 @@ returns-clause-runs g c =
           sink = g.K.Sink.sink_faults c.loop-number.sink;
           disk = g.D.Disk.faults (disk c.loop-number.account);
           random = g.W.Words.faults c.loop-number.random;
+          rotator = g.R.Rotator.faults c.loop-number.rotator;
         };
       };
       reader = c.loop-number.reader;
       history = history c.loop-number.account;
       count = c.loop-number.count;
     } in
-    run_enough c.args.people.now (base c.args.account.now) before c.loop-number.number at
+    run_enough g.R.Rotator.replies c.args.people.now (base c.args.account.now) before c.loop-number.number at
     c.loop-number.invariant.progress (omega (arith, c.loop-number.auto.number-end, c.loop-number-test.false))

@@ -14,7 +14,8 @@ invariant-loop-number g l = record {
   sink_later : g.K.Sink.sink_faults l.initial.sink ≤ g.K.Sink.sink_faults l.sink;
   disk_later : g.D.Disk.faults (disk l.initial.account) ≤ g.D.Disk.faults (disk l.account);
   random_later : g.W.Words.faults l.initial.random ≤ g.W.Words.faults l.random;
-  progress : Progress l.people (base l.initial.account)
+  rotator_later : g.R.Rotator.faults l.initial.rotator ≤ g.R.Rotator.faults l.rotator;
+  progress : Progress g.R.Rotator.replies l.people (base l.initial.account)
       (record {
         left = g.Q.Source.left l.initial.source;
         taken = g.K.Sink.taken l.initial.sink;
@@ -25,6 +26,7 @@ invariant-loop-number g l = record {
           sink = g.K.Sink.sink_faults l.initial.sink;
           disk = g.D.Disk.faults (disk l.initial.account);
           random = g.W.Words.faults l.initial.random;
+          rotator = g.R.Rotator.faults l.initial.rotator;
         };
       })
       l.number
@@ -39,6 +41,7 @@ invariant-loop-number g l = record {
             sink = g.K.Sink.sink_faults l.sink;
             disk = g.D.Disk.faults (disk l.account);
             random = g.W.Words.faults l.random;
+            rotator = g.R.Rotator.faults l.rotator;
           };
         };
         reader = l.reader;

@@ -12,11 +12,11 @@ use Rattle.sm_server.proofs.EndLemmas.{words_decided, people_decided}
 use Rattle.sm_server.proofs.UnopenedLemmas.{no_story, followed, leaves_words, runs_words, words_decide, people_undecided, runs_no_people, runs_no_memory}
 use Rattle.sm_server.proofs.run.run_once.Goals as goal
 
-pub returns-in-Some-clause-ran : goal.returns-in-Some-clause-ran
-returns-in-Some-clause-ran g c =
+pub returns-in-Err-clause-ran : goal.returns-in-Err-clause-ran
+returns-in-Err-clause-ran g c =
     let orders : Orders = record { words = map string_bytes c.args.words.now; people = c.args.people.now } in
     let asked : Option Settings = settings_of orders.words in
-    let status = c.in-Some.status in
+    let status = c.in-Err.status in
     let outside : Outside = record {
       left = g.Q.Source.left c.args.source.now;
       taken = g.K.Sink.taken c.args.sink.now;
@@ -27,18 +27,19 @@ returns-in-Some-clause-ran g c =
         sink = g.K.Sink.sink_faults c.args.sink.now;
         disk = g.D.Disk.faults c.args.disk;
         random = g.W.Words.faults c.args.random.now;
+        rotator = g.R.Rotator.faults c.args.rotator.now;
       };
     } in (
-      no_story Everybody,
-      ran_by orders status outside outside (no_story Everybody)
-          (words_decide Everybody status asked c.in-Some.ensures)
-          (people_undecided Everybody status asked c.in-Some.ensures (people_of orders.people))
-          (runs_words Everybody status asked c.in-Some.ensures outside),
-      leaves_words Everybody status asked c.in-Some.ensures g.D.Disk c.args.disk,
+      no_story Answer Everybody,
+      ran_by g.R.Rotator.replies orders status outside outside (no_story Answer Everybody)
+          (words_decide g.R.Rotator.replies Answer Everybody status asked c.in-Err.ensures)
+          (people_undecided g.R.Rotator.replies Answer Everybody status asked c.in-Err.ensures (people_of orders.people))
+          (runs_words g.R.Rotator.replies Answer Everybody status asked c.in-Err.ensures outside),
+      leaves_words g.R.Rotator.replies Answer Everybody status asked c.in-Err.ensures g.D.Disk c.args.disk,
     )
 
-pub returns-in-Ok-clause-ran : goal.returns-in-Ok-clause-ran
-returns-in-Ok-clause-ran g c =
+pub returns-in-Ok-in-Ok-clause-ran : goal.returns-in-Ok-in-Ok-clause-ran
+returns-in-Ok-in-Ok-clause-ran g c =
     let run = c.run_over in
     let story = run.ensures.ran.0 in
     let orders : Orders = record { words = map string_bytes c.args.words.now; people = c.args.people.now } in
@@ -52,6 +53,7 @@ returns-in-Ok-clause-ran g c =
         sink = g.K.Sink.sink_faults c.args.sink.now;
         disk = g.D.Disk.faults c.args.disk;
         random = g.W.Words.faults c.args.random.now;
+        rotator = g.R.Rotator.faults c.args.rotator.now;
       };
     } in
     let after : Outside = record {
@@ -64,13 +66,14 @@ returns-in-Ok-clause-ran g c =
         sink = g.K.Sink.sink_faults c.run_over.new.sink;
         disk = g.D.Disk.faults run.result.1;
         random = g.W.Words.faults c.run_over.new.random;
+        rotator = g.R.Rotator.faults c.run_over.new.rotator;
       };
     } in
     let read : people_of orders.people ≡ Ok c.in-Ok.people = some_ok _ _ c.in-Ok.ensures in
     let same : people_of orders.people ≡ Ok story.people =
     subst (λ (p : Persons). people_of orders.people ≡ Ok p) (sym run.ensures.ran.1) read in (
       story,
-      ran_by orders run.result.0 before after story
+      ran_by g.R.Rotator.replies orders run.result.0 before after story
           (words_decided run.result.0 (settings_of orders.words) run.ensures.followed
           (followed (settings_of orders.words) c.in-None.ensures))
           (people_decided run.result.0 (people_of orders.people) story.people run.ensures.followed same)
@@ -82,8 +85,8 @@ returns-in-Ok-clause-ran g c =
         → read ≡ Ok people
     some_ok people read is = sym is
 
-pub returns-in-Err-BadLine-clause-ran : goal.returns-in-Err-BadLine-clause-ran
-returns-in-Err-BadLine-clause-ran g c =
+pub returns-in-Ok-in-Err-BadLine-clause-ran : goal.returns-in-Ok-in-Err-BadLine-clause-ran
+returns-in-Ok-in-Err-BadLine-clause-ran g c =
     let orders : Orders = record { words = map string_bytes c.args.words.now; people = c.args.people.now } in
     let line = c.in-Err-BadLine.line in
     let outside : Outside = record {
@@ -96,18 +99,19 @@ returns-in-Err-BadLine-clause-ran g c =
         sink = g.K.Sink.sink_faults c.args.sink.now;
         disk = g.D.Disk.faults c.args.disk;
         random = g.W.Words.faults c.args.random.now;
+        rotator = g.R.Rotator.faults c.args.rotator.now;
       };
     } in
     let read : people_of orders.people ≡ Err line =
     sym (rw c.in-Err-BadLine.field-0-is at c.in-Err-BadLine.ensures) in (
-      no_story Everybody,
-      ran_by orders (statuses.People line) outside outside (no_story Everybody)
-          (followed (settings_of orders.words) c.in-None.ensures) read (runs_no_people Everybody line outside),
+      no_story Answer Everybody,
+      ran_by g.R.Rotator.replies orders (statuses.People line) outside outside (no_story Answer Everybody)
+          (followed (settings_of orders.words) c.in-None.ensures) read (runs_no_people g.R.Rotator.replies c.in-Ok.task Everybody line outside),
       refl,
     )
 
-pub returns-in-Err-Memory-clause-ran : goal.returns-in-Err-Memory-clause-ran
-returns-in-Err-Memory-clause-ran g c =
+pub returns-in-Ok-in-Err-Memory-clause-ran : goal.returns-in-Ok-in-Err-Memory-clause-ran
+returns-in-Ok-in-Err-Memory-clause-ran g c =
     let orders : Orders = record { words = map string_bytes c.args.words.now; people = c.args.people.now } in
     let outside : Outside = record {
       left = g.Q.Source.left c.args.source.now;
@@ -119,9 +123,10 @@ returns-in-Err-Memory-clause-ran g c =
         sink = g.K.Sink.sink_faults c.args.sink.now;
         disk = g.D.Disk.faults c.args.disk;
         random = g.W.Words.faults c.args.random.now;
+        rotator = g.R.Rotator.faults c.args.rotator.now;
       };
     } in (
-      no_story Everybody,
-      ran_by orders statuses.Memory outside outside (no_story Everybody) tt tt (runs_no_memory Everybody outside),
+      no_story Answer Everybody,
+      ran_by g.R.Rotator.replies orders statuses.Memory outside outside (no_story Answer Everybody) tt tt (runs_no_memory g.R.Rotator.replies Answer Everybody outside),
       inl refl,
     )

@@ -1,28 +1,36 @@
-use Rattle.std.proofs.Common.{◌≡◌, ℕ, refl, sym, ap, subst, ◌∙◌}
+use Rattle.std.proofs.Common.{◌≡◌, ◌≤◌, ℕ, [], length, refl, sym, ap, subst, ◌∙◌, arith}
 use Rattle.sm_model.specs.declared.limits.TheConstants.{JOURNAL_LIMIT}
-use Rattle.sm_account.specs.Accounts.{history, base, began, taken, disk, failed}
-use Rattle.sm_account.specs.Books.{FaultsBound}
+use Rattle.sm_account.specs.Accounts.{base, began, disk, failed, history, taken}
 use Rattle.sm_account.specs.States.{Base, base_of}
+use Rattle.sm_spells.specs.Spells.{History}
+use Rattle.sm_server.specs.declared.asked.Task.TheVariants.{Summarize}
 use Rattle.sm_server.specs.Outside.{Outside}
-use Rattle.sm_server.specs.Ran.{Story, Runs, course_of}
-use Rattle.sm_server.specs.Status.{status_of, WasOpened}
+use Rattle.sm_server.specs.Ran.{Course, Story, Runs, course_of}
 use Rattle.sm_server.specs.Stored.{Stands}
+use Rattle.sm_server.proofs.CheckLemmas.{runs_checked, shows_opened}
 use Rattle.sm_server.proofs.EndLemmas.{runs_since}
-use Rattle.sm_server.proofs.RunLemmas.{status_opened}
-use Rattle.sm_server.proofs.StoredLemmas.{cause_since}
 use Rattle.sm_server.proofs.run.run_opened.Goals as goal
 
-pub returns-clause-ran : goal.returns-clause-ran
-returns-clause-ran g c =
-    let answered = c.answer_source-ended in
-    let status = status_of answered.result in
-    let old = c.args.account in
-    let new = answered.new.account in
-    let story : Story = record {
-      people = c.args.people.now;
-      taken = taken new;
-      history = history new;
-      failed = failed new;
+pub returns-in-Answer-clause-ran : goal.returns-in-Answer-clause-ran
+returns-in-Answer-clause-ran g c =
+    let ran = c.answer_opened.ensures.ran in
+    (ran.0, ran.1 ∙ sym c.in-Answer.field-is, ran.2, ran.3, ran.4, ran.5)
+
+pub returns-in-Summarize-clause-ran : goal.returns-in-Summarize-clause-ran
+returns-in-Summarize-clause-ran g c =
+    let checked = c.check_opened in
+    let status = checked.result.0 in
+    let account = c.args.account in
+    let people = c.args.people.now in
+    let replies = g.R.Rotator.replies in
+    let s = checked.ensures.shows in
+    let story : Story =
+    record {
+      task = Summarize;
+      people = people;
+      taken = taken account;
+      history = history account;
+      failed = failed account;
     } in
     let before : ℕ → Outside = λ (faults : ℕ). record {
       left = g.Q.Source.left c.args.source.now;
@@ -34,48 +42,51 @@ returns-clause-ran g c =
         sink = g.K.Sink.sink_faults c.args.sink.now;
         disk = faults;
         random = g.W.Words.faults c.args.random.now;
+        rotator = g.R.Rotator.faults c.args.rotator.now;
       };
     } in
-    let after : ℕ → Outside = λ (faults : ℕ). record {
-      left = g.Q.Source.left c.answer_source-ended.new.source;
-      taken = g.K.Sink.taken c.answer_source-ended.new.sink;
-      readings = g.C.Clock.readings c.answer_source-ended.new.clock;
-      drawn = g.W.Words.drawn c.answer_source-ended.new.random;
+    let after : Outside = record {
+      left = g.Q.Source.left c.args.source.now;
+      taken = g.K.Sink.taken checked.new.sink;
+      readings = g.C.Clock.readings checked.new.clock;
+      drawn = g.W.Words.drawn c.args.random.now;
       counts = record {
-        source = g.Q.Source.source_faults c.answer_source-ended.new.source;
-        sink = g.K.Sink.sink_faults c.answer_source-ended.new.sink;
-        disk = faults;
-        random = g.W.Words.faults c.answer_source-ended.new.random;
+        source = g.Q.Source.source_faults c.args.source.now;
+        sink = g.K.Sink.sink_faults checked.new.sink;
+        disk = g.D.Disk.faults checked.result.1;
+        random = g.W.Words.faults c.args.random.now;
+        rotator = g.R.Rotator.faults c.args.rotator.now;
       };
     } in
-    let based : base old ≡ base_of (taken new) JOURNAL_LIMIT =
-    c.requires.base ∙ ap (λ t. base_of t JOURNAL_LIMIT) (sym answered.ensures.origin.taken_stays) in
-    let first = g.D.Disk.faults (began old) in
-    let runs : Runs (course_of story) status (before first) (after (g.D.Disk.faults (disk new))) =
-    subst (λ (b : Base). Runs (record { people = c.args.people.now; base = b; history = history new }) status
-    (before first) (after (g.D.Disk.faults (disk new)))) based
-    (runs_since (record { people = c.args.people.now; base = base old; history = history new })
-    (before (g.D.Disk.faults (disk old))) (after (g.D.Disk.faults (disk new))) first c.requires.later status
-    (status_opened answered.result) answered.ensures.runs) in
-    let stands : Stands g.D.Disk story (began old) (disk new) = record {
-      images = c.standing.ensures.images;
-      cause = cause_since (failed old) (failed new) first (g.D.Disk.faults (disk old)) (g.D.Disk.faults (disk new))
-          c.requires.sure answered.ensures.unsure c.requires.later;
-      legal = c.standing.ensures.legal;
-      next = c.standing.ensures.next;
-      faults = subst (λ d. FaultsBound (g.D.Disk.faults d) (history new) (g.D.Disk.faults (disk new)))
-          answered.ensures.origin.began_stays c.standing.ensures.faults;
-    } in (
+    let course : Base → History → Course = λ (b : Base) (h : History). record {
+      task = Summarize;
+      replies = replies;
+      people = people;
+      base = b;
+      entries = length (taken account);
+      history = h;
+    } in
+    let first = g.D.Disk.faults (began account) in
+    let opened = g.D.Disk.faults (disk account) in
+    let runs : Runs (course (base account) (history account)) status (before opened) after =
+    subst (λ h. Runs (course (base account) h) status (before opened) after) (sym c.requires.fresh)
+    (runs_checked replies people (base account) (length (taken account)) (before opened) after s.0 s.1 status s.4 refl
+    s.3 s.2 refl) in (
       story,
       refl,
-      answered.ensures.origin.taken_stays,
-      subst (λ s. Runs (course_of story) s (before first) (after (g.D.Disk.faults c.close.result)))
-          (sym c.status_of.ensures)
-          (subst (λ d. Runs (course_of story) status (before first) (after (g.D.Disk.faults d)))
-          (sym c.close.ensures) runs),
-      subst (Stands g.D.Disk story (began old)) (sym c.close.ensures) stands,
+      refl,
+      refl,
+      subst (λ (b : Base). Runs (course b (history account)) status (before first) after) c.requires.base
+          (runs_since (course (base account) (history account)) (before opened) after first c.requires.later status
+          (shows_opened _ _ _ _ _ status s.4) runs),
+      subst (Stands g.D.Disk story (began account)) (sym checked.ensures.disk) (checked.ensures.stands people),
     )
 
-pub returns-clause-opened : goal.returns-clause-opened
-returns-clause-opened g c =
-    subst WasOpened (sym c.status_of.ensures) (status_opened c.answer_source-ended.result)
+pub returns-in-Summarize-clause-opened : goal.returns-in-Summarize-clause-opened
+returns-in-Summarize-clause-opened g c =
+    shows_opened _ _ _ _ _ c.check_opened.result.0 c.check_opened.ensures.shows.4
+
+pub returns-in-Summarize-clause-disk_later : goal.returns-in-Summarize-clause-disk_later
+returns-in-Summarize-clause-disk_later g c =
+    subst (λ d. g.D.Disk.faults (disk c.args.account) ≤ g.D.Disk.faults d) (sym c.check_opened.ensures.disk)
+    (omega arith)

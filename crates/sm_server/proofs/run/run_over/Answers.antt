@@ -15,6 +15,7 @@ use Rattle.sm_server.proofs.run.run_over.Goals as goal
 pub returns-in-Ok-clause-ran : goal.returns-in-Ok-clause-ran
 returns-in-Ok-clause-ran g c =
     let run = c.run_opened in
+    let replies = g.R.Rotator.replies in
     let opened = c.in-Ok.ensures.opened in
     let story = run.ensures.ran.0 in
     let before : ℕ → Outside = λ (faults : ℕ). record {
@@ -27,6 +28,7 @@ returns-in-Ok-clause-ran g c =
         sink = g.K.Sink.sink_faults c.args.sink.now;
         disk = faults;
         random = g.W.Words.faults c.args.random.now;
+        rotator = g.R.Rotator.faults c.args.rotator.now;
       };
     } in
     let after : Outside = record {
@@ -39,16 +41,18 @@ returns-in-Ok-clause-ran g c =
         sink = g.K.Sink.sink_faults c.run_opened.new.sink;
         disk = g.D.Disk.faults run.result.1;
         random = g.W.Words.faults c.run_opened.new.random;
+        rotator = g.R.Rotator.faults c.run_opened.new.rotator;
       };
     } in (
       story,
       run.ensures.ran.1,
-      subst (λ d. Runs (course_of story) run.result.0 (before (g.D.Disk.faults d)) after) opened.began_is
-          run.ensures.ran.3,
+      run.ensures.ran.2,
+      subst (λ d. Runs (course_of replies story) run.result.0 (before (g.D.Disk.faults d)) after) opened.began_is
+          run.ensures.ran.4,
       leaves_opened g.D.Disk run.result.0 story c.args.disk run.result.1 run.ensures.opened (record {
         recovered = subst (λ (t : List Entry). ReadsAs JOURNAL (λ bytes. HasEntries bytes t)
-            (g.D.Disk.sight c.args.disk)) (sym run.ensures.ran.2) c.in-Ok.ensures.list;
-        stands = subst (λ d. Stands g.D.Disk story d run.result.1) opened.began_is run.ensures.ran.4;
+            (g.D.Disk.sight c.args.disk)) (sym run.ensures.ran.3) c.in-Ok.ensures.list;
+        stands = subst (λ d. Stands g.D.Disk story d run.result.1) opened.began_is run.ensures.ran.5;
       }),
     )
 
@@ -61,6 +65,8 @@ returns-in-Err-clause-ran g c =
     let why = c.in-Err.ensures.refused in
     let now = c.end_unopened.result.1 in
     let people = c.args.people.now in
+    let task = c.args.task in
+    let replies = g.R.Rotator.replies in
     let before : Outside = record {
       left = g.Q.Source.left c.args.source.now;
       taken = g.K.Sink.taken c.args.sink.now;
@@ -71,34 +77,37 @@ returns-in-Err-clause-ran g c =
         sink = g.K.Sink.sink_faults c.args.sink.now;
         disk = g.D.Disk.faults c.args.disk;
         random = g.W.Words.faults c.args.random.now;
+        rotator = g.R.Rotator.faults c.args.rotator.now;
       };
     } in
     let after : Outside = record before { counts = record before.counts { disk = g.D.Disk.faults now } } in
     let same : disk_unopened refused ≡ now = sym c.end_unopened.ensures.disk in (
-      no_story people,
+      no_story task people,
       refl,
-      subst (λ s. Runs (course_of (no_story people)) s before after) (sym c.end_unopened.ensures.status)
-          (runs_unopened g.D.Disk people c.args.disk refused before after why refl (ap g.D.Disk.faults (sym same))
+      refl,
+      subst (λ s. Runs (course_of replies (no_story task people)) s before after) (sym c.end_unopened.ensures.status)
+          (runs_unopened g.D.Disk replies task people c.args.disk refused before after why refl (ap g.D.Disk.faults (sym same))
           (record {
             left = refl;
             taken = refl;
             readings = refl;
             drawn = refl;
             disk = subst (λ d. g.D.Disk.faults c.args.disk ≤ g.D.Disk.faults d) same
-                (later_unopened g.D.Disk people c.args.disk refused why);
+                (later_unopened g.D.Disk replies task people c.args.disk refused why);
             random = refl;
+            rotator = refl;
           })),
-      subst (λ s. Leaves g.D.Disk s (no_story people) c.args.disk now) (sym c.end_unopened.ensures.status)
-          (subst (λ d. Leaves g.D.Disk (status_unopened refused) (no_story people) c.args.disk d) same
-          (leaves_unopened g.D.Disk people c.args.disk refused why)),
+      subst (λ s. Leaves g.D.Disk s (no_story task people) c.args.disk now) (sym c.end_unopened.ensures.status)
+          (subst (λ d. Leaves g.D.Disk (status_unopened refused) (no_story task people) c.args.disk d) same
+          (leaves_unopened g.D.Disk replies task people c.args.disk refused why)),
     )
 
 pub returns-in-Err-clause-followed : goal.returns-in-Err-clause-followed
 returns-in-Err-clause-followed g c =
     subst WasFollowed (sym c.end_unopened.ensures.status)
-    (unopened_followed g.D.Disk c.args.people.now c.args.disk c.in-Err.refused)
+    (unopened_followed g.D.Disk g.R.Rotator.replies c.args.task c.args.people.now c.args.disk c.in-Err.refused)
 
 pub returns-in-Err-clause-disk_later : goal.returns-in-Err-clause-disk_later
 returns-in-Err-clause-disk_later g c =
     subst (λ d. g.D.Disk.faults c.args.disk ≤ g.D.Disk.faults d) (sym c.end_unopened.ensures.disk)
-    (later_unopened g.D.Disk c.args.people.now c.args.disk c.in-Err.refused c.in-Err.ensures.refused)
+    (later_unopened g.D.Disk g.R.Rotator.replies c.args.task c.args.people.now c.args.disk c.in-Err.refused c.in-Err.ensures.refused)

@@ -8,7 +8,7 @@ use Rattle.sm_session.specs.Replies.{reply_of}
 use Rattle.sm_session.specs.Told.{nothing_told}
 use Rattle.sm_session.proofs.KnownLemmas.{append_known-nil}
 use Rattle.sm_session.proofs.TurnLemmas.{refused_turn, forgotten_turn}
-use Rattle.sm_server.specs.Turns.{Turn, TurnOf}
+use Rattle.sm_session.specs.Turns.{Turn, IsTurn}
 use Rattle.sm_server.proofs.turn.take_turn.Goals as goal
 
 pub returns-in-Ask-clause-turn : goal.returns-in-Ask-clause-turn
@@ -18,21 +18,15 @@ returns-in-Ask-clause-turn g c =
       told = t.0;
       reply = reply_of c.draw_and_answer.result;
       marks = t.1;
-      disk = record {
-        before = g.D.Disk.faults (disk c.args.account.now);
-        after = g.D.Disk.faults (disk c.draw_and_answer.new.account);
-      };
-      random = record {
-        before = g.W.Words.faults c.args.random.now;
-        after = g.W.Words.faults c.draw_and_answer.new.random;
-      };
     } in (
       t.0,
       t.1,
       t.2,
       t.3,
-      subst (λ (h : Result Asked Why). TurnOf (base c.args.account.now) (history c.args.account.now) h turn)
-          (sym c.in-Ask.ensures.hears) t.4,
+      subst (λ (h : Result Asked Why). IsTurn
+          (Rose (g.D.Disk.faults (disk c.args.account.now)) (g.D.Disk.faults (disk c.draw_and_answer.new.account)))
+          (Rose (g.W.Words.faults c.args.random.now) (g.W.Words.faults c.draw_and_answer.new.random))
+          (base c.args.account.now) (history c.args.account.now) h turn) (sym c.in-Ask.ensures.hears) t.4,
       t.5,
     )
 
@@ -44,15 +38,13 @@ returns-in-Refused-clause-turn g c =
       told = nothing_told;
       reply = reply_of c.say_refusal.result;
       marks = [];
-      disk = record { before = faults; after = faults };
-      random = record { before = random; after = random };
     } in (
       nothing_told,
       [],
       sym (append_known-nil _),
       sym (append_known-nil _),
-      subst (λ (h : Result Asked Why). TurnOf (base c.args.account.now) (history c.args.account.now) h turn)
-          (sym c.in-Refused.ensures.hears)
+      subst (λ (h : Result Asked Why). IsTurn (Rose faults faults) (Rose random random) (base c.args.account.now)
+          (history c.args.account.now) h turn) (sym c.in-Refused.ensures.hears)
           (refused_turn (Rose faults faults) (Rose random random) (base c.args.account.now)
           (history c.args.account.now) c.in-Refused.why c.say_refusal.result c.say_refusal.ensures),
       sym (append-nil (history c.args.account.now)),

@@ -1,0 +1,29 @@
+use Rattle.std.proofs.Common.{◌≡◌, [], length, sym, subst, append-nil}
+use Rattle.sm_base.specs.Faults.{Rose}
+use Rattle.sm_account.specs.Accounts.{all_of, rows}
+use Rattle.sm_server.specs.Checks.{Shows, WritesBy}
+use Rattle.sm_session.proofs.KnownLemmas.{append_known-nil}
+use Rattle.sm_server.proofs.CheckLemmas.{shows_by}
+use Rattle.sm_server.proofs.checking.summarize.Goals as goal
+
+pub returns-in-Ok-clause-shows : goal.returns-in-Ok-clause-shows
+returns-in-Ok-clause-shows g c =
+    let account = c.args.account.now in
+    let s = c.show.ensures.shows in
+    let cause = Rose (g.K.Sink.sink_faults c.args.sink.now) (g.K.Sink.sink_faults c.show.new.sink) in (
+      c.now-now.result,
+      s.0,
+      c.now-now.ensures.told,
+      s.1,
+      shows_by cause (rows account) c.now-now.result (length (all_of account)) c.as_bytes.result.now _ s.0
+          c.show.result s.2,
+    )
+
+pub returns-in-Err-clause-shows : goal.returns-in-Err-clause-shows
+returns-in-Err-clause-shows g c = (
+  c.now-now.result,
+  [],
+  c.now-now.ensures.told,
+  sym (append_known-nil _),
+  refl,
+)

@@ -1,0 +1,37 @@
+use Rattle.std.proofs.Common.{◌≡◌, ◌++◌, false, is_some, length, ap, subst, ◌∙◌, append-nil}
+use Rattle.sm_base.specs.Faults.{Rose}
+use Rattle.sm_model.specs.declared.rows.Rows.{Rows}
+use Rattle.sm_account.specs.Accounts.{all_of, base, failed, rows, taken}
+use Rattle.sm_account.specs.History.{entries_in}
+use Rattle.sm_core.specs.Histories.{replay}
+use Rattle.sm_server.specs.Checks.{Shows}
+use Rattle.sm_server.proofs.run.check_opened.Goals as goal
+
+pub returns-clause-shows : goal.returns-clause-shows
+returns-clause-shows g c =
+    let account = c.args.account in
+    let s = c.summarize-status.ensures.shows in
+    let cause = Rose (g.K.Sink.sink_faults c.args.sink.now) (g.K.Sink.sink_faults c.summarize-status.new.sink) in
+    let same : rows account ≡ (base account).rows =
+    c.standing.ensures.rows ∙ ap (λ h. replay (base account).rows (entries_in h)) c.requires.fresh in
+    let many : length (all_of account) ≡ length (taken account) =
+    ap (λ h. length (taken account ++ entries_in h)) c.requires.fresh
+    ∙ ap (λ entries. length entries) (append-nil (taken account)) in (
+      s.0,
+      s.1,
+      s.2,
+      s.3,
+      subst (λ n. Shows cause (base account).rows s.0 n c.summarize-status.result s.1) many
+          (subst (λ (r : Rows). Shows cause r s.0 (length (all_of account)) c.summarize-status.result s.1) same s.4),
+    )
+
+pub returns-clause-stands : goal.returns-clause-stands
+returns-clause-stands g c people =
+    let standing = c.standing.ensures in
+    record {
+      images = standing.images;
+      cause = λ some. absurd (let h : is_some (failed c.args.account) ≡ false = ap is_some c.requires.sure in cc);
+      legal = standing.legal;
+      next = standing.next;
+      faults = standing.faults;
+    }
