@@ -49,6 +49,7 @@ fn words(rt: &(impl Env + AllocGlobal), alloc: Global) -> io::Result<Vec<String>
 }
 
 /// What a run is asked for: its words, what they say, and the text of the people who may ask.
+#[derive(Drop)]
 struct Orders<'a> {
     words: &'a [String],
     settings: &'a Settings,

@@ -255,7 +255,11 @@ const SCRIPTED: [(u64, Step, &str, &str); 8] = [
 ];
 
 /// What differs in scripts, one after the other, on a new account.
-fn run<R: Rotator>(alloc: Global, rotator: R, scripts: &[&[Line]]) -> Result<Option<String>, Fail> {
+fn run<R: Rotator + Drop>(
+    alloc: Global,
+    rotator: R,
+    scripts: &[&[Line]],
+) -> Result<Option<String>, Fail> {
     let calls = List::empty(alloc);
     let disk = disk_of(alloc, Bytes::empty(alloc), Fails { calls, from: None })?;
     let Ok(account) = Account::open(alloc, disk, 1, 100_000) else {

@@ -47,6 +47,7 @@ pub enum Step {
 }
 
 /// An account, its rotator, and the works that were taken up.
+#[derive(Drop)]
 pub struct Run<R: Rotator> {
     pub account: Account<MemoryDisk, R>,
     pub rotator: R,

@@ -74,7 +74,7 @@ fn a_sink_that_fails_gets_the_front(rt: HostRuntime) -> Result<(), Fail> {
         ..WELL
     };
     let (status, written) = checked(rt.alloc(), &[(CREATE, APP)], &outside)?;
-    assert_eq!(rt; status, Status::SinkFault(10));
-    assert!(rt; written.as_slice() == b"secrets 1 ".as_slice());
+    assert_eq!(rt; status, Status::SinkFault(5));
+    assert!(rt; written.as_slice() == b"secre".as_slice());
     Ok(())
 }

@@ -283,7 +283,7 @@ const MEMBERS: [Exchange; 14] = [
         "RotateSecret",
         r#"{"SecretId":"n"}"#,
         BAD,
-        r#"{"Message":"not built","__type":"SerializationException"}"#,
+        r#"{"Message":"secret not found","__type":"ResourceNotFoundException"}"#,
     ),
     (
         "BurnSecret",

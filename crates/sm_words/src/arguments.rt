@@ -43,11 +43,11 @@ pub fn mode<'a>(alloc: Global) -> Arg<'a>
         alloc,
         "mode",
         "MODE",
-        "What the run does; exec alone is built yet",
-        "What the run does: exec answers the messages of standard input and ends; serve is to answer at an address, \
-         check to say what a folder holds, and drill to make messages of its own and answer them. exec alone is built \
+        "What the run does; exec and check are built yet",
+        "What the run does: exec answers the messages of standard input and ends, and check says what a folder holds; \
+         serve is to answer at an address, and drill to make messages of its own and answer them, which are not built \
          yet.\n\
-         Example: --mode exec",
+         Example: --mode check",
     )
     .value_parser(ValueParser::Names(MODES.as_slice()))
     .default_value("exec")
@@ -78,9 +78,8 @@ pub fn people<'a>(alloc: Global) -> Arg<'a>
         alloc,
         "people",
         "FILE",
-        "The file that says who may call (not built yet); without it everybody may",
-        "The file that says who may call, a line for each access key. It is not built yet. Without it everybody may do \
-         all.\n\
+        "The file that says who may call; without it everybody may",
+        "The file that says who may call, a line for each access key. Without it everybody may do all.\n\
          Example: --people /etc/secretsd/people",
     )
 }
@@ -112,8 +111,8 @@ pub fn rotator<'a>(alloc: Global) -> Arg<'a>
         "local|HOST:PORT",
         "Who makes new values when a secret is rotated: the program itself, or a server",
         "Who makes new values when a secret is rotated: local is the program itself, all else the address of a \
-         server that is asked, which is not built yet.\n\
-         Example: --rotator local",
+         server that is asked.\n\
+         Example: --rotator 127.0.0.1:7778",
     )
     .default_value(ROTATOR)
 }
