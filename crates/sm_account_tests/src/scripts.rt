@@ -218,7 +218,7 @@ fn report<R: Rotator>(alloc: Global, run: &mut Run<R>, moment: Moment) -> Result
 }
 
 /// Does one step of a script, and says what came of it.
-fn step<R: Rotator>(
+fn make_step<R: Rotator>(
     alloc: Global,
     run: &mut Run<R>,
     moment: Moment,
@@ -322,7 +322,7 @@ pub fn differs<R: Rotator>(
 ) -> Result<Option<String>, Fail> {
     for (after, what, told, stands) in script {
         let moment = Moment((*after).min(10_000_000_000) + BEGIN);
-        let said = step(alloc, run, moment, *what)?;
+        let said = make_step(alloc, run, moment, *what)?;
         let seen = secret(alloc, run, moment)?;
         if said.as_str() != *told || seen.as_str() != *stands {
             return Ok(Some(format!(in alloc; "at {after}: {said}: {seen}")?));

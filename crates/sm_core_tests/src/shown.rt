@@ -319,7 +319,6 @@ fn reply_text(alloc: Global, reply: &Reply) -> Result<String, Fail> {
         Reply::UpdateSecret(reply) => created_text(alloc, reply),
         Reply::UpdateSecretVersionStage(reply) => named_text(alloc, reply),
         Reply::ValidateResourcePolicy(reply) => validation_text(alloc, reply),
-        _ => plain(alloc, "another reply"),
     }
 }
 

@@ -1,5 +1,5 @@
 -- A turn of an account that nobody else holds.
-use Rattle.std.proofs.Common.{◌≡◌, ℕ, ◌≤◌, Option, Some, None, IsSome, sym, ap, ◌∙◌, subst, inl, inr}
+use Rattle.std.proofs.Common.{◌≡◌, ℕ, ◌≤◌, false, Option, None, IsSome, is_some, ap, subst, inl, inr, arith}
 use Rattle.std.specs.Prelude.{◌⊎◌}
 use Rattle.sm_base.specs.Faults.{Rose}
 use Rattle.sm_base.proofs.FaultCounts.{rose_within}
@@ -38,7 +38,8 @@ module _ {D : Type 0} {G : Ghosts D} (old new : Books D G) (seat : ℕ) where
       → IsSome old.failed.value ⊎ HasRisen
   unsure_as Nothing failed fault is = inl (same_failed failed is)
   unsure_as (Claimed arn at moment) failed fault is = inl (same_failed failed is)
-  unsure_as (Made entry) failed fault is = absurd (subst (λ (o : Option Entry). IsSome o) failed is)
+  unsure_as (Made entry) failed fault is =
+      absurd (let h : is_some new.failed.value ≡ false = ap is_some failed in cc)
   unsure_as (Failed entry) failed fault is = inr fault
 
   pub unsure_by : (deed : Deed) → Leaves G old new seat deed → IsSome new.failed.value
@@ -68,12 +69,12 @@ module _ (P : Type 0) where
   start_on_disk starts.Memory wanted is fault = tt
 
 -- one thing after the other
-module _ (first mid last : ℕ) (earlier : first ≤ mid) (then : mid ≤ last) where
+module _ (first mid last : ℕ) (earlier : first ≤ mid) (on : mid ≤ last) where
   pub rose_behind : Rose mid last → Rose first last
-  rose_behind rose = rose_within first mid last last earlier rose (omega tt)
+  rose_behind rose = rose_within first mid last last earlier rose (omega arith)
 
   pub unsure_behind : (Old Mid : Type 0) → (Mid → Old) → Mid ⊎ Rose mid last → Old ⊎ Rose first last
-  unsure_behind Old Mid before is = elim is [ | inl h ↦ inl (before h) | inr rose ↦ inr (rose_behind rose) ]
+  unsure_behind Old Mid before is = elim is [ inl h ↦ inl (before h) | inr rose ↦ inr (rose_behind rose) ]
 
 -- no verdict comes too late
 report_stale : (work : Work) (reported : Reported) → IsStale (report_ends work reported)

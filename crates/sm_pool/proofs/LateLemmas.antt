@@ -40,14 +40,14 @@ module _ (base : Base) (seat : ℕ) (before : History) (moment : Moment) (work :
       → ReportsAs (reports.Stale at) (report_at state now work answer) → ⊥
   not_late state now answer at same is =
       let s : State = state_at base before in
-      let then : Moment = later s.last now in
-      let entry : Entry = reported_entry then work answer in
-      let fresh = ready_holds s.rows before moment then work sound ready in
+      let stands : Moment = later s.last now in
+      let entry : Entry = reported_entry stands work answer in
+      let fresh = ready_holds s.rows before moment stands work sound ready in
       let is' : ReportsAs (reports.Stale at) (report_at s now work answer) =
       subst (λ t. ReportsAs (reports.Stale at) (report_at t now work answer)) same is in
       within_not_stale at (passed_at s entry) entry
       (subst (λ (b : Bool). ReportsAs (reports.Stale at) (if b then effort_within (passed_at s entry) entry
-      else Undue (step_of (found_arn s.rows then work.arn)))) fresh is')
+      else Undue (step_of (found_arn s.rows stands work.arn)))) fresh is')
 
   pub late_apart : (answer : Answer) (hold : Hold) (reported : Reported) → ReportsIn base hold work answer reported
       → IsLate reported → hold.before ≡ before ++ by_seat seat (Claim work.arn work.at moment ∷ []) → ⊥

@@ -32,11 +32,16 @@ drawn_more (c ∷ on) course =
 
 -- a turn that made no entry, and was not too late, came to rest
 rests : (done : Done) → goes_on done ≡ false → (IsStale done → ⊥) → ComesToRest done
-rests (ends.Did arn at) no not_stale = absurd (cc)
-rests (ends.Started arn) no not_stale = absurd (cc)
-rests ends.Idle no not_stale = tt
-rests (ends.Stale at) no not_stale = absurd (not_stale tt)
-rests (ends.Trouble trouble) no not_stale = tt
+rests (ends.Did arn at) stops not_stale = absurd (cc)
+rests (ends.Started arn) stops not_stale = absurd (cc)
+rests ends.Idle stops not_stale = tt
+rests (ends.Stale at) stops not_stale = absurd (not_stale tt)
+rests (ends.Trouble trouble) stops not_stale = tt
+
+-- what the clock and the random source have told
+pub record Heard : Type 0 where
+  pub clock : Option (List ℕ)
+  pub words : Option (List ℕ)
 
 module _ (replies : Replies) (base : Base) (seat : ℕ) where
   -- one turn more
@@ -64,11 +69,6 @@ module _ (replies : Replies) (base : Base) (seat : ℕ) where
     later = later;
   }
 
-  -- what the clock and the random source have told
-  pub record Heard : Type 0 where
-    pub clock : Option (List ℕ)
-    pub words : Option (List ℕ)
-
   -- so many turns that each made an entry, and what was told for them
   pub record Progress (from : Point) (before : Heard) (number : ℕ) (at : Point) (now : Heard) : Type 0 where
     pub on : List Course
@@ -89,10 +89,10 @@ module _ (replies : Replies) (base : Base) (seat : ℕ) where
   module _ (from : Point) (before : Heard) (number : ℕ) (at : Point) (now : Heard)
       (progress : Progress from before number at now) where
     -- a round, with what was told for it
-    pub abbrev RoundFrom : Point → Heard → Type 0
-    RoundFrom to then = (round : Round)
-        × (then.clock ≡ append_known before.clock (readings_in (courses_in round)))
-        × (then.words ≡ append_known before.words (drawn_in (courses_in round)))
+    abbrev pub RoundFrom : Point → Heard → Type 0
+    RoundFrom to after = (round : Round)
+        × (after.clock ≡ append_known before.clock (readings_in (courses_in round)))
+        × (after.words ≡ append_known before.words (drawn_in (courses_in round)))
         × Rotated replies base seat from round to
 
     -- as many turns were taken as are taken at most
@@ -106,21 +106,21 @@ module _ (replies : Replies) (base : Base) (seat : ℕ) where
           record { at = at; turned = progress.turned; ends = (progress.size ∙ full, refl) },
         )
 
-    module _ (to : Point) (then : Heard) (course : Course) (turned : Turned replies base seat at course to)
-        (readings : then.clock ≡ append_known now.clock (readings_of (holds_of course)))
-        (drawn : then.words ≡ append_known now.words (drawn_of course)) where
-      clock_more : then.clock ≡ append_known before.clock (readings_in (progress.on ++ course ∷ []))
+    module _ (to : Point) (after : Heard) (course : Course) (turned : Turned replies base seat at course to)
+        (readings : after.clock ≡ append_known now.clock (readings_of (holds_of course)))
+        (drawn : after.words ≡ append_known now.words (drawn_of course)) where
+      clock_more : after.clock ≡ append_known before.clock (readings_in (progress.on ++ course ∷ []))
       clock_more =
-          told_more before.clock now.clock then.clock (readings_in progress.on) (readings_of (holds_of course))
+          told_more before.clock now.clock after.clock (readings_in progress.on) (readings_of (holds_of course))
           progress.readings readings
           ∙ ap (append_known before.clock) (sym (readings_more progress.on course))
 
-      words_more : then.words ≡ append_known before.words (drawn_in (progress.on ++ course ∷ []))
+      words_more : after.words ≡ append_known before.words (drawn_in (progress.on ++ course ∷ []))
       words_more =
-          told_more before.words now.words then.words (drawn_in progress.on) (drawn_of course) progress.drawn drawn
+          told_more before.words now.words after.words (drawn_in progress.on) (drawn_of course) progress.drawn drawn
           ∙ ap (append_known before.words) (sym (drawn_more progress.on course))
 
-      pub progress_more : goes_on (done_of course) ≡ true → Progress from before (number + 1) to then
+      pub progress_more : goes_on (done_of course) ≡ true → Progress from before (number + 1) to after
       progress_more goes = record {
         on = progress.on ++ course ∷ [];
         size = omega (arith, length-append progress.on (course ∷ []), progress.size);
@@ -131,7 +131,7 @@ module _ (replies : Replies) (base : Base) (seat : ℕ) where
 
       -- the turn came to rest
       pub round_rests : number < TURN_LIMIT → goes_on (done_of course) ≡ false → (IsStale (done_of course) → ⊥)
-          → RoundFrom to then
+          → RoundFrom to after
       round_rests few stops not_stale = (
         record { on = progress.on; last = Some course },
         clock_more,
@@ -155,7 +155,7 @@ marks-append (hold ∷ a) b =
     ap (λ (marks : List Mark). hold.marks ++ marks) (marks-append a b)
     ∙ sym (append_assoc hold.marks (marks_in hold_shape a) (marks_in hold_shape b))
 
--- the history with some marks of the seat, and then with more
+-- the history with some marks of the seat, and after with more
 pub marked_more : (seat : ℕ) (history : History) (a b : List Mark)
     → (history ++ by_seat seat a) ++ by_seat seat b ≡ history ++ by_seat seat (a ++ b)
 marked_more seat history a b =
@@ -215,10 +215,10 @@ module _ (replies : Replies) (base : Base) (seat : ℕ) where
 
   -- no count fell in a round
   fell_more : (a b c : Counts) → NoneFell a b → NoneFell b c → NoneFell a c
-  fell_more a b c first then = record {
-    disk = omega (arith, first.disk, then.disk);
-    words = omega (arith, first.words, then.words);
-    rotator = omega (arith, first.rotator, then.rotator);
+  fell_more a b c first after = record {
+    disk = omega (arith, first.disk, after.disk);
+    words = omega (arith, first.words, after.words);
+    rotator = omega (arith, first.rotator, after.rotator);
   }
 
   fell_still : (a : Counts) → NoneFell a a

@@ -92,9 +92,9 @@ courses_in round = round.on ++ last_in round.last
 -- a round of a seat from one point to another
 pub record Rotated (replies : Replies) (base : Base) (seat : ℕ) (from : Point) (round : Round) (to : Point) : Type 0
   where
-  pub at : Point
-  pub turned : TurnedOn replies base seat from round.on at
-  pub ends : EndsRound replies base seat (length round.on) at round.last to
+    pub at : Point
+    pub turned : TurnedOn replies base seat from round.on at
+    pub ends : EndsRound replies base seat (length round.on) at round.last to
 
 -- the holds of turns, one after the other
 abbrev pub holds_in : List Course → List Hold

@@ -11,7 +11,7 @@ use Rattle.sm_server.specs.declared.status.Status.TheVariants.{Done, Words, Dama
 use Rattle.sm_server.specs.Asked.{task_of_words, WordsDecide, PeopleDecide}
 use Rattle.sm_server.specs.Outside.{Outside, growth, Trace}
 use Rattle.sm_server.specs.Ran.{Course, AreAnswered, Answers, Checks, EndedAt, Ended, Runs}
-use Rattle.sm_server.specs.Status.{WasFollowed, WasOpened}
+use Rattle.sm_server.specs.Status.{WasFollowed, WasOpened, WasUnderstood}
 
 -- the same run, whose disk is counted from an earlier moment on
 module _ (course : Course) (before after : Outside) (earlier : ℕ) (early : earlier ≤ before.counts.disk) where
@@ -104,7 +104,23 @@ opened_followed (BadMessage place) o = tt
 opened_followed Enough o = tt
 opened_followed NotBuilt o = o
 
-pub words_decided : (status : Status) (asked : Option Settings) (task : Task) → WasFollowed status
+-- a run that followed its words and its people followed its words
+pub followed_understood : (status : Status) → WasFollowed status → WasUnderstood status
+followed_understood Done f = tt
+followed_understood Words f = f
+followed_understood (Damaged at entry) f = tt
+followed_understood OpenFault f = tt
+followed_understood Memory f = tt
+followed_understood (People line) f = tt
+followed_understood (SinkFault counted) f = tt
+followed_understood SourceFault f = tt
+followed_understood EdgeFault f = tt
+followed_understood (Cut bytes) f = tt
+followed_understood (BadMessage place) f = tt
+followed_understood Enough f = tt
+followed_understood NotBuilt f = f
+
+pub words_decided : (status : Status) (asked : Option Settings) (task : Task) → WasUnderstood status
     → task_of_words asked ≡ Ok task → WordsDecide status asked task
 words_decided Done asked task f are = are
 words_decided Words asked task f are = absurd f

@@ -174,8 +174,8 @@ module _ (replies : Replies) (people : People) (base : Base) (before : Outside) 
   }
 
   -- the turn follows what was brought
-  next : counts_last brought ≡ counts_before one
-  next =
+  follows : counts_last brought ≡ counts_before one
+  follows =
       let of : ℕ → ℕ → ℕ → Counts = λ disk words rotator. record { disk = disk; words = words; rotator = rotator } in
       ap (λ (g : Growth). of g.after brought.random.after brought.rotator.after) (sym b.disk)
       ∙ ap (λ (g : Growth). of s.now.counts.disk g.after brought.rotator.after) (sym b.random)
@@ -185,7 +185,7 @@ module _ (replies : Replies) (people : People) (base : Base) (before : Outside) 
       brought_more
   brings_more = record {
     turns = turns_more one replies people base (content s.message) [] messages brought
-        (subst (λ h. TurnOf replies base h (heard people (content s.message)) one) b.stands turned.4) next well
+        (subst (λ h. TurnOf replies base h (heard people (content s.message)) one) b.stands turned.4) follows well
         b.turns;
     disk = ap (λ (g : Growth). record { before = g.before; after = s.after.counts.disk }) b.disk;
     random = ap (λ (g : Growth). record { before = g.before; after = s.after.counts.random }) b.random;

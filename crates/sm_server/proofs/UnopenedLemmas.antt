@@ -11,15 +11,19 @@ use Rattle.sm_words.specs.declared.settings.Mode.TheVariants.{Exec, Serve, Check
 use Rattle.sm_words.specs.declared.settings.Settings.{Settings}
 use Rattle.sm_server.specs.declared.status.Status.{Status}
 use Rattle.sm_server.specs.declared.status.Status.TheVariants as statuses
+use Rattle.sm_base.specs.Outcomes.{OrMemory}
 use Rattle.sm_principal.specs.declared.people.People.{People as Persons}
+use Rattle.sm_principal.specs.declared.people.PeopleRefused.{PeopleRefused}
+use Rattle.sm_principal.specs.declared.people.PeopleRefused.TheVariants as refusals
+use Rattle.sm_principal.specs.Callers.{told}
 use Rattle.sm_session.specs.Told.{nothing_told}
 use Rattle.sm_session.proofs.KnownLemmas.{append_known-nil, prepend_known-nil}
 use Rattle.sm_server.specs.declared.asked.Task.{Task}
 use Rattle.sm_server.specs.declared.asked.Task.TheVariants.{Answer, Summarize}
-use Rattle.sm_server.specs.Asked.{task_of_mode, task_of_words, FollowsWords, WordsDecide, PeopleDecide}
+use Rattle.sm_server.specs.Asked.{end_of_people, task_of_mode, task_of_words, FollowsPeople, FollowsWords, WordsDecide, PeopleDecide}
 use Rattle.sm_server.specs.Outside.{Outside, Trace}
 use Rattle.sm_server.specs.Ran.{Course, Story, course_of, AreAnswered, EndedAt, Ended, Runs}
-use Rattle.sm_server.specs.Status.{WasFollowed}
+use Rattle.sm_server.specs.Status.{WasFollowed, WasUnderstood}
 use Rattle.sm_server.specs.Stored.{status_unopened, disk_unopened, Leaves}
 use Rattle.sm_server.specs.Turns.{brought_nothing}
 use Rattle.sm_server.proofs.RunLemmas.{counts_in, trace_of, passed_by}
@@ -40,42 +44,42 @@ pub record Still (before after : Outside) : Type 0 where
 
 module _ (replies : Replies) (task : Task) (people : Persons) (before after : Outside) (still : Still before after)
   where
-  abbrev none : Task → Course
-  none task = course_of replies (no_story task people)
+    abbrev none : Task → Course
+    none task = course_of replies (no_story task people)
 
-  abbrev nothing : Trace
-  nothing = trace_of before after [] nothing_told
+    abbrev nothing : Trace
+    nothing = trace_of before after [] nothing_told
 
-  abbrev none_answered : (t : Task) → AreAnswered (none t) [] nothing
-  none_answered t = record {
-    brought = brought_nothing (counts_in before);
-    turns = refl;
-    history = refl;
-    told = refl;
-    disk = (omega arith, omega (arith, still.disk));
-    random = ap (λ n. record { before = before.counts.random; after = n }) still.random;
-    rotator = ap (λ n. record { before = before.counts.rotator; after = n }) still.rotator;
-  }
+    abbrev none_answered : (t : Task) → AreAnswered (none t) [] nothing
+    none_answered t = record {
+      brought = brought_nothing (counts_in before);
+      turns = refl;
+      history = refl;
+      told = refl;
+      disk = (omega arith, omega (arith, still.disk));
+      random = ap (λ n. record { before = before.counts.random; after = n }) still.random;
+      rotator = ap (λ n. record { before = before.counts.rotator; after = n }) still.rotator;
+    }
 
-  ended_at : (t : Task) → EndedAt t (none t) statuses.Memory [] after.left nothing
-  ended_at Answer =
-      record { messages = []; answered = none_answered Answer; ends = (omega arith, refl, inl ([], refl)) }
-  ended_at Summarize = record { unread = refl; unmarked = refl; undrawn = refl; checks = refl }
+    ended_at : (t : Task) → EndedAt t (none t) statuses.Memory [] after.left nothing
+    ended_at Answer =
+        record { messages = []; answered = none_answered Answer; ends = (omega arith, refl, inl ([], refl)) }
+    ended_at Summarize = record { unread = refl; unmarked = refl; undrawn = refl; checks = refl }
 
-  memory_ended : Ended (none task) statuses.Memory [] after.left nothing
-  memory_ended = ended_at task
+    memory_ended : Ended (none task) statuses.Memory [] after.left nothing
+    memory_ended = ended_at task
 
-  runs_still : (status : Status) → Ended (none task) status [] after.left nothing
-      → Runs (none task) status before after
-  runs_still status ended = record {
-    input = [];
-    trace = trace_of before after [] nothing_told;
-    reads = sym still.left ∙ sym (prepend_known-nil after.left);
-    passed = passed_by before after [] nothing_told (still.taken ∙ sym (append_known-nil before.taken))
-        (still.readings ∙ sym (append_known-nil before.readings))
-        (still.drawn ∙ sym (append_known-nil before.drawn));
-    ended = ended;
-  }
+    runs_still : (status : Status) → Ended (none task) status [] after.left nothing
+        → Runs (none task) status before after
+    runs_still status ended = record {
+      input = [];
+      trace = trace_of before after [] nothing_told;
+      reads = sym still.left ∙ sym (prepend_known-nil after.left);
+      passed = passed_by before after [] nothing_told (still.taken ∙ sym (append_known-nil before.taken))
+          (still.readings ∙ sym (append_known-nil before.readings))
+          (still.drawn ∙ sym (append_known-nil before.drawn));
+      ended = ended;
+    }
 
 module _ {D : Type 0} (G : Ghosts D) (replies : Replies) (task : Task) (people : Persons) (old : D) where
   pub leaves_unopened : (refused : OpenRefused D) → IsRefused G old refused
@@ -149,18 +153,44 @@ still_outside outside = record {
 }
 
 module _ (replies : Replies) (task : Task) (people : Persons) where
-  pub runs_no_people : (line : ℕ) (outside : Outside)
+  runs_no_people : (line : ℕ) (outside : Outside)
       → Runs (course_of replies (no_story task people)) (statuses.People line) outside outside
   runs_no_people line outside =
       runs_still replies task people outside outside (still_outside outside) (statuses.People line)
       (refl, (refl, refl, refl))
 
-  pub runs_no_memory : (outside : Outside)
+  runs_no_memory : (outside : Outside)
       → Runs (course_of replies (no_story task people)) statuses.Memory outside outside
   runs_no_memory outside =
       let still = still_outside outside in
       runs_still replies task people outside outside still statuses.Memory
       (memory_ended replies task people outside outside still)
+
+  -- a run whose text of the people was refused
+  module _ (read : Result Persons ℕ) where
+    -- by how it ends
+    by_people : (P : Status → Type 0) (status : Status) → FollowsPeople (Err status) read → P statuses.Memory
+        → ((line : ℕ) → read ≡ Err line → P (statuses.People line)) → P status
+    by_people P status (inl is) memory bad = subst P (sym is) memory
+    by_people P status (inr (line, is, ends)) memory bad = subst P (sym ends) (bad line is)
+
+    module _ (status : Status) (follows : FollowsPeople (Err status) read) where
+      pub people_refused : PeopleDecide status read people
+      people_refused = by_people (λ s. PeopleDecide s read people) status follows tt (λ line is. is)
+
+      pub runs_refused : (outside : Outside)
+          → Runs (course_of replies (no_story task people)) status outside outside
+      runs_refused outside =
+          by_people (λ s. Runs (course_of replies (no_story task people)) s outside outside) status follows
+          (runs_no_memory outside) (λ line is. runs_no_people line outside)
+
+      pub leaves_refused : {D : Type 0} (G : Ghosts D) (disk : D)
+          → Leaves G status (no_story task people) disk disk
+      leaves_refused G disk =
+          by_people (λ s. Leaves G s (no_story task people) disk disk) status follows (inl refl) (λ line is. refl)
+
+      pub understood_refused : WasUnderstood status
+      understood_refused = by_people WasUnderstood status follows tt (λ line is. tt)
 
   module _ (status : Status) (asked : Option Settings) (ends : FollowsWords (Err status) asked) where
     pub words_decide : WordsDecide status asked task
@@ -188,3 +218,18 @@ module _ (replies : Replies) (task : Task) (people : Persons) where
 pub followed : (asked : Option Settings) (task : Task) → FollowsWords (Ok task) asked → task_of_words asked ≡ Ok task
 followed asked task (inl is) = absurd (let h : Ok task ≡ Err statuses.Memory = is in cc)
 followed asked task (inr is) = sym is
+
+-- the text of the people, as it was read
+pub followed_people : (people : Persons) (read : Result Persons ℕ) → OrMemory (told (Ok people)) read
+    → FollowsPeople (Ok people) read
+followed_people people read is = sym is
+
+refused_as : (refused : PeopleRefused) (read : Result Persons ℕ) → OrMemory (told (Err refused)) read
+    → FollowsPeople (Err (end_of_people refused)) read
+refused_as (refusals.BadLine line) read is = inr (line, sym is, refl)
+refused_as refusals.Memory read is = inl refl
+
+pub refused_people : (refused : PeopleRefused) (read : Result Persons ℕ) (status : Status)
+    → OrMemory (told (Err refused)) read → status ≡ end_of_people refused → FollowsPeople (Err status) read
+refused_people refused read status is ends =
+    subst (λ s. FollowsPeople (Err s) read) (sym ends) (refused_as refused read is)

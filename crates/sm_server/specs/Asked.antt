@@ -1,6 +1,8 @@
 -- What the words ask for, and how a run ends that cannot follow them.
 use Rattle.std.specs.Prelude.{◌≡◌, ◌⊎◌, ℕ, Option, Some, None, Result, Ok, Err, ⊤}
 use Rattle.sm_principal.specs.declared.people.People.{People as Persons}
+use Rattle.sm_principal.specs.declared.people.PeopleRefused.{PeopleRefused}
+use Rattle.sm_principal.specs.declared.people.PeopleRefused.TheVariants as refusals
 use Rattle.sm_words.specs.declared.settings.Mode.{Mode}
 use Rattle.sm_words.specs.declared.settings.Mode.TheVariants.{Exec, Serve, Check, Drill}
 use Rattle.sm_words.specs.declared.settings.Settings.{Settings}
@@ -24,6 +26,16 @@ task_of_words (Some settings) = task_of_mode settings.mode
 -- a run follows its words, or ends as it must, or for want of memory
 abbrev pub FollowsWords : Result Task Status → Option Settings → Type 0
 FollowsWords task asked = (task ≡ Err Memory) ⊎ (task ≡ task_of_words asked)
+
+-- how a run ends whose text of the people is refused
+abbrev pub end_of_people : PeopleRefused → Status
+end_of_people (refusals.BadLine line) = People line
+end_of_people refusals.Memory = Memory
+
+-- A text of the people says who may ask, or its first bad line ends the run; so does want of memory.
+abbrev pub FollowsPeople : Result Persons Status → Result Persons ℕ → Type 0
+FollowsPeople (Ok people) read = read ≡ Ok people
+FollowsPeople (Err status) read = (status ≡ Memory) ⊎ ((line : ℕ) × (read ≡ Err line) × (status ≡ People line))
 
 -- the words decide whether anything is opened and read, and what is done; want of memory may come with any
 abbrev pub WordsDecide : Status → Option Settings → Task → Type 0

@@ -28,9 +28,9 @@ Shows Cause rows now entries status written = Summarizes Cause rows now entries 
 -- the summary at one reading of the clock
 pub record ChecksAt (Cause : Type 0) (rows : Rows) (entries : ℕ) (status : Status) (readings written : List ℕ) : Type 0
   where
-  pub now : Moment
-  pub reading : readings ≡ now.0 ∷ []
-  pub shows : Shows Cause rows now entries status written
+    pub now : Moment
+    pub reading : readings ≡ now.0 ∷ []
+    pub shows : Shows Cause rows now entries status written
 
 -- for want of memory the clock may not have been read
 abbrev pub ChecksBy : Type 0 → Rows → ℕ → Status → List ℕ → List ℕ → Type 0

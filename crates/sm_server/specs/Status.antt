@@ -30,6 +30,12 @@ status_of ended.ReadFault = SourceFault
 status_of (ended.WriteFault taken) = SinkFault taken
 status_of ended.Memory = Memory
 
+-- a run that ended so followed its words
+abbrev pub WasUnderstood : Status → Type 0
+WasUnderstood Words = ⊥
+WasUnderstood NotBuilt = ⊥
+WasUnderstood status = Unit {0}
+
 -- a run that ended so followed its words and its text of the people
 abbrev pub WasFollowed : Status → Type 0
 WasFollowed Words = ⊥

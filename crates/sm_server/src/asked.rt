@@ -1,9 +1,11 @@
 //! What the words of a run ask for.
 ghost use Rattle.std.specs.Prelude.{◌≡◌, map, string_bytes};
+ghost use Rattle.sm_principal.specs.Callers.{people_of};
 ghost use Rattle.sm_words.specs.Reading.{settings_of};
-ghost use Rattle.sm_server.specs.Asked.{FollowsWords, task_of_mode};
+ghost use Rattle.sm_server.specs.Asked.{FollowsPeople, FollowsWords, end_of_people, task_of_mode};
 
 use crate::status::Status;
+use sm_principal::{People, PeopleRefused};
 use sm_words::{Mode, WordsRefused, read_words};
 use std::alloc::Global;
 
@@ -37,5 +39,25 @@ pub fn task_of_mode(mode: Mode) -> Result<Task, Status>
         Mode::Serve => Err(Status::Words),
         Mode::Check => Ok(Task::Summarize),
         Mode::Drill => Err(Status::NotBuilt),
+    }
+}
+
+/// Who may ask by a text, or how a run ends whose text of the people is refused.
+pub fn people_of(alloc: Global, text: &[u8]) -> Result<People, Status>
+    ensures { FollowsPeople result (people_of text.now) }
+{
+    match People::read(alloc, text) {
+        Ok(people) => Ok(people),
+        Err(refused) => Err(end_of_people(refused)),
+    }
+}
+
+/// How a run ends whose text of the people is refused.
+fn end_of_people(refused: PeopleRefused) -> Status
+    ensures { result ≡ end_of_people refused }
+{
+    match refused {
+        PeopleRefused::BadLine(line) => Status::People(line),
+        PeopleRefused::Memory => Status::Memory,
     }
 }

@@ -8,21 +8,23 @@ ghost use Rattle.sm_account.specs.States.{base_of};
 ghost use Rattle.sm_model.specs.declared.limits.TheConstants.{JOURNAL_LIMIT};
 ghost use Rattle.sm_server.specs.declared.asked.Task.TheVariants.{Answer, Summarize};
 ghost use Rattle.sm_principal.specs.declared.people.People.{People as Persons};
+ghost use Rattle.sm_principal.specs.Callers.{people_of};
+ghost use Rattle.sm_server.specs.Asked.{PeopleDecide};
 ghost use Rattle.sm_server.specs.Checks.{Shows};
 ghost use Rattle.sm_server.specs.Complete.{Ran};
 ghost use Rattle.sm_server.specs.Ran.{Runs, Story, course_of};
-ghost use Rattle.sm_server.specs.Status.{WasFollowed, WasOpened};
+ghost use Rattle.sm_server.specs.Status.{WasFollowed, WasOpened, WasUnderstood};
 ghost use Rattle.sm_server.specs.Stored.{Leaves, Stands, status_unopened, disk_unopened};
 
 use crate::answering::answer_source;
-use crate::asked::{Task, task_of_words};
+use crate::asked::{Task, people_of, task_of_words};
 use crate::checking::summarize;
 use crate::status::{Status, status_of};
 use sm_account::{Account, OpenRefused};
 use sm_disk::Disk;
 use sm_io::{Clock, Sink, Source, Words};
 use sm_model::limits::JOURNAL_LIMIT;
-use sm_principal::{People, PeopleRefused};
+use sm_principal::People;
 use sm_rotator::Rotator;
 use std::alloc::Global;
 
@@ -78,13 +80,66 @@ pub fn run_once<Q: Source, K: Sink, D: Disk, C: Clock, W: Words, R: Rotator>(
     ensures rotator_later { R.faults rotator.old ≤ R.faults rotator.new }
 {
     match task_of_words(alloc, words) {
-        Ok(task) => match People::read(alloc, people) {
-            Ok(people) => run_over(
-                alloc, task, &people, source, sink, disk, clock, random, rotator,
-            ),
-            Err(PeopleRefused::BadLine(line)) => (Status::People(line), disk),
-            Err(PeopleRefused::Memory) => (Status::Memory, disk),
-        },
+        Ok(task) => run_task(
+            alloc, task, people, source, sink, disk, clock, random, rotator,
+        ),
+        Err(status) => (status, disk),
+    }
+}
+
+/// Reads the text of the people, and does a task.
+fn run_task<Q: Source, K: Sink, D: Disk, C: Clock, W: Words, R: Rotator>(
+    alloc: Global,
+    task: Task,
+    people: &[u8],
+    source: &mut Q,
+    sink: &mut K,
+    disk: D,
+    clock: &mut C,
+    random: &mut W,
+    rotator: &mut R,
+) -> (Status, D)
+    ensures ran { (story : Story) × (story.task ≡ task)
+        × PeopleDecide result.0 (people_of people.now) story.people
+        × Runs (course_of R.replies story) result.0
+        (record {
+          left = Q.left source.old;
+          taken = K.taken sink.old;
+          readings = C.readings clock.old;
+          drawn = W.drawn random.old;
+          counts = record {
+            source = Q.source_faults source.old;
+            sink = K.sink_faults sink.old;
+            disk = D.faults disk;
+            random = W.faults random.old;
+            rotator = R.faults rotator.old;
+          };
+        })
+        (record {
+          left = Q.left source.new;
+          taken = K.taken sink.new;
+          readings = C.readings clock.new;
+          drawn = W.drawn random.new;
+          counts = record {
+            source = Q.source_faults source.new;
+            sink = K.sink_faults sink.new;
+            disk = D.faults result.1;
+            random = W.faults random.new;
+            rotator = R.faults rotator.new;
+          };
+        })
+        × Leaves D.Disk result.0 story disk result.1 }
+    ensures understood { WasUnderstood result.0 }
+    ensures source_later { Q.source_faults source.old ≤ Q.source_faults source.new }
+    ensures sink_later { K.sink_faults sink.old ≤ K.sink_faults sink.new }
+    ensures disk_later { D.faults disk ≤ D.faults result.1 }
+    ensures random_later { W.faults random.old ≤ W.faults random.new }
+    ensures rotator_later { R.faults rotator.old ≤ R.faults rotator.new }
+{
+    match people_of(alloc, people) {
+        Ok(people) => run_over(
+            alloc, task, &people, source, sink, disk, clock, random, rotator,
+        ),
         Err(status) => (status, disk),
     }
 }
@@ -210,9 +265,7 @@ fn run_opened<Q: Source, K: Sink, D: Disk, C: Clock, W: Words, R: Rotator>(
     ensures rotator_later { R.faults rotator.old ≤ R.faults rotator.new }
 {
     match task {
-        Task::Answer => answer_opened(
-            alloc, people, account, source, sink, clock, random, rotator,
-        ),
+        Task::Answer => answer_opened(alloc, people, account, source, sink, clock, random, rotator),
         Task::Summarize => check_opened(alloc, account, sink, clock),
     }
 }
@@ -270,7 +323,14 @@ fn answer_opened<Q: Source, K: Sink, D: Disk, C: Clock, W: Words, R: Rotator>(
 {
     let mut account = account;
     let ended = answer_source(
-        alloc, people, &mut account, source, sink, clock, random, rotator,
+        alloc,
+        people,
+        &mut account,
+        source,
+        sink,
+        clock,
+        random,
+        rotator,
     );
     account.standing();
     (status_of(ended), account.close())

@@ -6,14 +6,17 @@ use sm_server::Status;
 use std::alloc::Global;
 use std::test::Fail;
 
-const MADE: &str = "{\"Name\":\"app/db\",\"ClientRequestToken\":\"11111111-1111-4111-8111-111111111111\",\
+const MADE: &str =
+    "{\"Name\":\"app/db\",\"ClientRequestToken\":\"11111111-1111-4111-8111-111111111111\",\
     \"SecretString\":\"{\\\"username\\\":\\\"app\\\",\\\"password\\\":\\\"old-password\\\",\
     \\\"host\\\":\\\"db\\\"}\"}";
 
-const ROTATE: &str = "{\"SecretId\":\"app/db\",\"ClientRequestToken\":\"22222222-2222-4222-8222-222222222222\",\
+const ROTATE: &str =
+    "{\"SecretId\":\"app/db\",\"ClientRequestToken\":\"22222222-2222-4222-8222-222222222222\",\
     \"RotationRules\":{\"AutomaticallyAfterDays\":30}}";
 
-const ROTATES: &str = "{\"ARN\":\"arn:aws:secretsmanager:us-east-1:000000000000:secret:app/db-ABCDEF\",\
+const ROTATES: &str =
+    "{\"ARN\":\"arn:aws:secretsmanager:us-east-1:000000000000:secret:app/db-ABCDEF\",\
     \"Name\":\"app/db\",\"VersionId\":\"22222222-2222-4222-8222-222222222222\"}";
 
 /// The operation, the body and the reply to each message: a rotation is done when the next message is read, and its
@@ -69,7 +72,8 @@ fn a_rotation_is_done_behind_its_message(rt: HostRuntime) -> Result<(), Fail> {
     assert_eq!(rt; status, Status::Done);
     assert!(rt; written.as_slice() == output.as_slice());
     let (_, said, _) = run_words(rt.alloc(), "--mode check --number 0", b"", &WELL, disk)?;
-    let wanted = "secrets 1 versions 2 entries 7\napp/db 2023-11-14 versions 2 labels 2 live idle\n";
+    let wanted =
+        "secrets 1 versions 2 entries 7\napp/db 2023-11-14 versions 2 labels 2 live idle\n";
     assert!(rt; said.as_slice() == wanted.as_bytes());
     Ok(())
 }

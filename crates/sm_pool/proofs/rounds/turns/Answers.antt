@@ -1,5 +1,4 @@
 use Rattle.std.proofs.Common.{◌≡◌, true, false, refl, sym, subst, ◌∙◌, inl, arith}
-use Rattle.std.proofs.lemmas.Bool.{not-true, not-false}
 use Rattle.sm_account.specs.Accounts.{history, base, disk}
 use Rattle.sm_account.specs.States.{Base}
 use Rattle.sm_rotation.specs.Vouched.{Replies}
@@ -7,8 +6,7 @@ use Rattle.sm_pool.specs.declared.done.Done.{Done}
 use Rattle.sm_pool.specs.Alone.{IsStale, NoGap}
 use Rattle.sm_pool.specs.Rounds.{Point, Turned, goes_on}
 use Rattle.sm_pool.specs.Turns.{Passing, TurnDone}
-use Rattle.sm_pool.proofs.AloneLemmas.{unsure_behind}
-use Rattle.sm_pool.proofs.OriginLemmas.{same_origin, same_origin_still}
+use Rattle.sm_pool.proofs.OriginLemmas.{same_origin, same_origin_still, unsure_since}
 use Rattle.sm_pool.proofs.RoundLemmas.{Heard, progress_first, progress_more, round_full, round_rests, turned_by}
 use Rattle.sm_pool.proofs.rounds.turns.Goals as goal
 
@@ -68,10 +66,10 @@ loop-number-preserved g c =
     } in
     let before : Heard = record { clock = g.C.Clock.readings c.args.clock.now; words = g.W.Words.drawn c.args.words.now } in
     let now : Heard = record { clock = g.C.Clock.readings c.loop-number.clock; words = g.W.Words.drawn c.loop-number.words } in
-    let then : Heard = record { clock = g.C.Clock.readings c.one_turn-done.new.clock; words = g.W.Words.drawn c.one_turn-done.new.words } in
+    let later : Heard = record { clock = g.C.Clock.readings c.one_turn-done.new.clock; words = g.W.Words.drawn c.one_turn-done.new.words } in
     let passing : Passing = record {
-      clock = record { before = now.clock; after = then.clock };
-      words = record { before = now.words; after = then.words };
+      clock = record { before = now.clock; after = later.clock };
+      words = record { before = now.words; after = later.words };
       words_count = record { before = at.counts.words; after = to.counts.words };
       rotator_count = record { before = at.counts.rotator; after = to.counts.rotator };
     } in
@@ -86,15 +84,15 @@ loop-number-preserved g c =
     }) in
     record {
       origin = same_origin _ _ _ i.origin c.one_turn-done.ensures.origin;
-      unsure = λ some. unsure_behind _ _ _ i.disk_later c.one_turn-done.ensures.disk_later _ _ i.unsure
-          (c.one_turn-done.ensures.unsure some);
+      unsure = unsure_since _ _ _ _ _ _ i.unsure c.one_turn-done.ensures.unsure i.disk_later
+          c.one_turn-done.ensures.disk_later;
       disk_later = omega (arith, i.disk_later, c.one_turn-done.ensures.disk_later);
       rotator_later = omega (arith, i.rotator_later, c.one_turn-done.ensures.rotator_later);
       words_later = omega (arith, i.words_later, c.one_turn-done.ensures.words_later);
-      progress = progress_more replies over seat from before c.loop-number.number at now i.progress to then turn.course
+      progress = progress_more replies over seat from before c.loop-number.number at now i.progress to later turn.course
           turned turn.takes.readings turn.takes.drawn
           (subst (λ d. goes_on d ≡ true) turn.takes.done_is
-          (sym c.goes_on.ensures ∙ not-false c.goes_on.result c.if-not-goes_on.false));
+          (sym c.goes_on.ensures ∙ c.if-not-goes_on.false));
     }
 
 pub returns-then-not-goes_on-clause-rotated : goal.returns-then-not-goes_on-clause-rotated
@@ -132,10 +130,10 @@ returns-then-not-goes_on-clause-rotated g c =
     } in
     let before : Heard = record { clock = g.C.Clock.readings c.args.clock.now; words = g.W.Words.drawn c.args.words.now } in
     let now : Heard = record { clock = g.C.Clock.readings c.loop-number.clock; words = g.W.Words.drawn c.loop-number.words } in
-    let then : Heard = record { clock = g.C.Clock.readings c.one_turn-done.new.clock; words = g.W.Words.drawn c.one_turn-done.new.words } in
+    let later : Heard = record { clock = g.C.Clock.readings c.one_turn-done.new.clock; words = g.W.Words.drawn c.one_turn-done.new.words } in
     let passing : Passing = record {
-      clock = record { before = now.clock; after = then.clock };
-      words = record { before = now.words; after = then.words };
+      clock = record { before = now.clock; after = later.clock };
+      words = record { before = now.words; after = later.words };
       words_count = record { before = at.counts.words; after = to.counts.words };
       rotator_count = record { before = at.counts.rotator; after = to.counts.rotator };
     } in
@@ -148,10 +146,10 @@ returns-then-not-goes_on-clause-rotated g c =
       words = c.one_turn-done.ensures.words_later;
       rotator = c.one_turn-done.ensures.rotator_later;
     }) in
-    round_rests replies over seat from before c.loop-number.number at now i.progress to then turn.course turned
+    round_rests replies over seat from before c.loop-number.number at now i.progress to later turn.course turned
     turn.takes.readings turn.takes.drawn c.loop-number-test.true
     (subst (λ d. goes_on d ≡ false) turn.takes.done_is
-    (sym c.goes_on.ensures ∙ not-true c.goes_on.result c.if-not-goes_on.true))
+    (sym c.goes_on.ensures ∙ c.if-not-goes_on.true))
     (subst (λ d. IsStale d → ⊥) turn.takes.done_is c.one_turn-done.ensures.never_stale)
 
 pub returns-then-not-goes_on-clause-origin : goal.returns-then-not-goes_on-clause-origin
@@ -159,9 +157,9 @@ returns-then-not-goes_on-clause-origin g c =
     same_origin _ _ _ c.loop-number.invariant.origin c.one_turn-done.ensures.origin
 
 pub returns-then-not-goes_on-clause-unsure : goal.returns-then-not-goes_on-clause-unsure
-returns-then-not-goes_on-clause-unsure g c some =
-    unsure_behind _ _ _ c.loop-number.invariant.disk_later c.one_turn-done.ensures.disk_later _ _
-    c.loop-number.invariant.unsure (c.one_turn-done.ensures.unsure some)
+returns-then-not-goes_on-clause-unsure g c =
+    unsure_since _ _ _ _ _ _ c.loop-number.invariant.unsure c.one_turn-done.ensures.unsure
+    c.loop-number.invariant.disk_later c.one_turn-done.ensures.disk_later
 
 pub returns-clause-rotated : goal.returns-clause-rotated
 returns-clause-rotated g c =

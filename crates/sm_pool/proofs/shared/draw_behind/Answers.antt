@@ -10,9 +10,9 @@ use Rattle.sm_pool.proofs.shared.draw_behind.Goals as goal
 pub returns-in-Bytes-clause-starts : goal.returns-in-Bytes-clause-starts
 returns-in-Bytes-clause-starts g c =
     let pass = c.args.pass in
-    begun_start (base (built_with c.args.gate.now)) (Grows (number pass ∷ [])) (grows-same (number pass ∷ [])) (number pass) c.in-Bytes.drawn c.start_behind.result.begun.started
-    c.start_behind.result.begun.now _ _ _ (seen pass) (seen c.start_behind.result.pass)
-    c.done_started.result c.start_behind.ensures.starts c.in-Bytes.ensures.long c.start_behind.ensures.told
+    begun_start (base (built_with c.args.gate.now)) (Grows (number pass ∷ [])) (grows-same (number pass ∷ [])) (number pass) c.in-Bytes.drawn c.start_behind-pass.result.begun.started
+    c.start_behind-pass.result.begun.now _ _ _ (seen pass) (seen c.start_behind-pass.result.pass)
+    c.done_started.result c.start_behind-pass.ensures.starts c.in-Bytes.ensures.long c.start_behind-pass.ensures.told
     c.in-Bytes.ensures.told c.done_started.ensures
 
 pub returns-in-Failed-clause-starts : goal.returns-in-Failed-clause-starts

@@ -36,13 +36,13 @@ returns-clause-turn g c =
     } in
     let last : Counts = record {
       disk = g.D.Disk.faults (disk c.turns.new.account);
-      words = g.W.Words.faults c.turns.new.random;
+      words = g.W.Words.faults c.turns.new.words;
       rotator = g.R.Rotator.faults c.turns.new.rotator;
     } in
     let to : History = history c.turns.new.account in
     let rotated : Rotated g.R.Rotator.replies (base old) seat
-        (record { history = history old ++ by_seat seat t.1; counts = between }) round
-        (record { history = to; counts = last }) =
+    (record { history = history old ++ by_seat seat t.1; counts = between }) round
+    (record { history = to; counts = last }) =
     subst (λ h. Rotated g.R.Rotator.replies (base old) seat (record { history = h; counts = between }) round
     (record { history = to; counts = last })) t.5
     (subst (λ (b : Base). Rotated g.R.Rotator.replies b seat
@@ -54,7 +54,7 @@ returns-clause-turn g c =
       told_more (g.C.Clock.readings c.args.clock.now) (g.C.Clock.readings said.new.clock)
           (g.C.Clock.readings c.turns.new.clock) t.0.readings (readings_in (courses_in round)) t.2 r.1,
       told_more (g.W.Words.drawn c.args.random.now) (g.W.Words.drawn said.new.random)
-          (g.W.Words.drawn c.turns.new.random) t.0.drawn (drawn_in (courses_in round)) t.3 r.2,
+          (g.W.Words.drawn c.turns.new.words) t.0.drawn (drawn_in (courses_in round)) t.3 r.2,
       turn_joined g.R.Rotator.replies (base old) (history old) (heard c.args.people.now (content c.args.message.now))
           own first between last round to rotated t.4 refl
           (record {

@@ -1,7 +1,8 @@
-use Rattle.std.proofs.Common.{◌≡◌, [], length, sym, subst, append-nil}
+use Rattle.std.proofs.Common.{[], length, refl, sym, subst}
+use Rattle.sm_summary.specs.Summary.{IsSummary}
 use Rattle.sm_base.specs.Faults.{Rose}
+use Rattle.sm_model.specs.declared.rows.Rows.{Rows}
 use Rattle.sm_account.specs.Accounts.{all_of, rows}
-use Rattle.sm_server.specs.Checks.{Shows, WritesBy}
 use Rattle.sm_session.proofs.KnownLemmas.{append_known-nil}
 use Rattle.sm_server.proofs.CheckLemmas.{shows_by}
 use Rattle.sm_server.proofs.checking.summarize.Goals as goal
@@ -9,14 +10,20 @@ use Rattle.sm_server.proofs.checking.summarize.Goals as goal
 pub returns-in-Ok-clause-shows : goal.returns-in-Ok-clause-shows
 returns-in-Ok-clause-shows g c =
     let account = c.args.account.now in
+    let now = c.now-now.result in
+    let text = c.as_bytes.result.now in
     let s = c.show.ensures.shows in
-    let cause = Rose (g.K.Sink.sink_faults c.args.sink.now) (g.K.Sink.sink_faults c.show.new.sink) in (
-      c.now-now.result,
+    let cause = Rose (g.K.Sink.sink_faults c.args.sink.now) (g.K.Sink.sink_faults c.show.new.sink) in
+    let is : IsSummary (rows account) now (length (all_of account)) text =
+    subst (λ (r : Rows). IsSummary r now (length (all_of account)) text) c.table.ensures
+    (subst (λ n. IsSummary c.table.result.now now n text) c.entries.ensures
+    (subst (IsSummary c.table.result.now now c.entries.result) (sym c.as_bytes.ensures.value)
+    c.in-Ok.ensures.summary)) in (
+      now,
       s.0,
       c.now-now.ensures.told,
       s.1,
-      shows_by cause (rows account) c.now-now.result (length (all_of account)) c.as_bytes.result.now _ s.0
-          c.show.result s.2,
+      shows_by cause (rows account) now (length (all_of account)) text is s.0 c.show.result s.2,
     )
 
 pub returns-in-Err-clause-shows : goal.returns-in-Err-clause-shows

@@ -14,7 +14,7 @@ use Rattle.sm_server.proofs.run.run_opened.Goals as goal
 pub returns-in-Answer-clause-ran : goal.returns-in-Answer-clause-ran
 returns-in-Answer-clause-ran g c =
     let ran = c.answer_opened.ensures.ran in
-    (ran.0, ran.1 ∙ sym c.in-Answer.field-is, ran.2, ran.3, ran.4, ran.5)
+    (ran.0, ran.1 ∙ sym c.in-Answer.is, ran.2, ran.3, ran.4, ran.5)
 
 pub returns-in-Summarize-clause-ran : goal.returns-in-Summarize-clause-ran
 returns-in-Summarize-clause-ran g c =
@@ -73,7 +73,7 @@ returns-in-Summarize-clause-ran g c =
     (runs_checked replies people (base account) (length (taken account)) (before opened) after s.0 s.1 status s.4 refl
     s.3 s.2 refl) in (
       story,
-      refl,
+      sym c.in-Summarize.is,
       refl,
       refl,
       subst (λ (b : Base). Runs (course b (history account)) status (before first) after) c.requires.base

@@ -1,0 +1,55 @@
+use Rattle.std.proofs.Common.{◌≡◌, Ok, refl, sym, subst}
+use Rattle.sm_principal.specs.declared.people.People.{People as Persons}
+use Rattle.sm_principal.specs.declared.people.People.TheVariants.{Everybody}
+use Rattle.sm_principal.specs.Callers.{people_of}
+use Rattle.sm_server.specs.Outside.{Outside}
+use Rattle.sm_server.proofs.EndLemmas.{followed_understood, people_decided}
+use Rattle.sm_server.proofs.UnopenedLemmas.{leaves_refused, no_story, people_refused, runs_refused, understood_refused}
+use Rattle.sm_server.proofs.run.run_task.Goals as goal
+
+pub returns-in-Ok-clause-ran : goal.returns-in-Ok-clause-ran
+returns-in-Ok-clause-ran g c =
+    let run = c.run_over in
+    let ran = run.ensures.ran in
+    let read = people_of c.args.people.now in (
+      ran.0,
+      ran.1,
+      people_decided run.result.0 read ran.0.people run.ensures.followed
+          (subst (λ (p : Persons). read ≡ Ok p) (sym ran.2) c.in-Ok.ensures),
+      ran.3,
+      ran.4,
+    )
+
+pub returns-in-Ok-clause-understood : goal.returns-in-Ok-clause-understood
+returns-in-Ok-clause-understood g c = followed_understood c.run_over.result.0 c.run_over.ensures.followed
+
+pub returns-in-Err-clause-ran : goal.returns-in-Err-clause-ran
+returns-in-Err-clause-ran g c =
+    let status = c.in-Err.status in
+    let replies = g.R.Rotator.replies in
+    let task = c.args.task in
+    let read = people_of c.args.people.now in
+    let outside : Outside = record {
+      left = g.Q.Source.left c.args.source.now;
+      taken = g.K.Sink.taken c.args.sink.now;
+      readings = g.C.Clock.readings c.args.clock.now;
+      drawn = g.W.Words.drawn c.args.random.now;
+      counts = record {
+        source = g.Q.Source.source_faults c.args.source.now;
+        sink = g.K.Sink.sink_faults c.args.sink.now;
+        disk = g.D.Disk.faults c.args.disk;
+        random = g.W.Words.faults c.args.random.now;
+        rotator = g.R.Rotator.faults c.args.rotator.now;
+      };
+    } in (
+      no_story task Everybody,
+      refl,
+      people_refused replies task Everybody read status c.in-Err.ensures,
+      runs_refused replies task Everybody read status c.in-Err.ensures outside,
+      leaves_refused replies task Everybody read status c.in-Err.ensures g.D.Disk c.args.disk,
+    )
+
+pub returns-in-Err-clause-understood : goal.returns-in-Err-clause-understood
+returns-in-Err-clause-understood g c =
+    understood_refused g.R.Rotator.replies c.args.task Everybody (people_of c.args.people.now) c.in-Err.status
+    c.in-Err.ensures
