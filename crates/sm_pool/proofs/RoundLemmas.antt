@@ -182,9 +182,11 @@ module _ (replies : Replies) (base : Base) (seat : ℕ) where
   turns_marks from [] at is = ap (λ (p : Point). p.history) is ∙ sym (append-nil from.history)
   turns_marks from (course ∷ on) at (next, first, goes, more) =
       turns_marks next on at more
-      ∙ ap (λ (h : History). h ++ by_seat seat (marks_in hold_shape (holds_in on))) (turned_marks from course next first)
+      ∙ ap (λ (h : History). h ++ by_seat seat (marks_in hold_shape (holds_in on)))
+      (turned_marks from course next first)
       ∙ marked_more seat from.history (marks_in hold_shape (holds_of course)) (marks_in hold_shape (holds_in on))
-      ∙ ap (λ (marks : List Mark). from.history ++ by_seat seat marks) (sym (marks-append (holds_of course) (holds_in on)))
+      ∙ ap (λ (marks : List Mark). from.history ++ by_seat seat marks)
+      (sym (marks-append (holds_of course) (holds_in on)))
 
   holds_in-append : (a b : List Course) → holds_in (a ++ b) ≡ holds_in a ++ holds_in b
   holds_in-append [] b = refl
@@ -232,7 +234,8 @@ module _ (replies : Replies) (base : Base) (seat : ℕ) where
 
   end_fell : (turned : ℕ) (at : Point) (last : Option Course) (to : Point)
       → EndsRound replies base seat turned at last to → NoneFell at.counts to.counts
-  end_fell turned at None to ends = subst (λ (p : Point). NoneFell at.counts p.counts) (sym ends.1) (fell_still at.counts)
+  end_fell turned at None to ends = subst (λ (p : Point). NoneFell at.counts p.counts) (sym ends.1)
+      (fell_still at.counts)
   end_fell turned at (Some last) to ends = ends.1.later
 
   pub rotated_fell : (from : Point) (round : Round) (to : Point) → Rotated replies base seat from round to

@@ -1,4 +1,5 @@
--- The rotation turns behind a message: one after the other, on an account that nobody else holds, until there is nothing
+-- The rotation turns behind a message: one after the other, on an account that nobody else holds, until there is
+-- nothing
 -- to do, one cannot go on, or as many were taken as are taken at most.
 use Rattle.std.specs.Prelude.{◌≡◌, ⊤, ℕ, ◌<◌, ◌≤◌, Bool, true, false, List, [], ◌∷◌, ◌++◌, length, Option, Some, None}
 use Rattle.sm_base.specs.Faults.{Rose}

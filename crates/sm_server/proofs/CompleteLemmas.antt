@@ -82,7 +82,8 @@ model_turns : (replies : Replies) (people : Persons) (base : Base) (history : Hi
     → Steady brought.disk.before brought.disk.after → Steady brought.random.before brought.random.after
     → ModelTurns replies people base history messages brought.replies
 model_turns replies people base history [] brought is disk random = ap (λ (b : Brought). b.replies) is
-model_turns replies people base history (m ∷ messages) brought (turn, others, turned, goes, more, follow, is) disk random
+model_turns replies people base history (m ∷ messages) brought (turn, others, turned, goes, more, follow, is) disk
+    random
     =
     let fell = grew replies people base (history ++ marked turn) messages others more in
     let at : turn.disk.after ≡ others.disk.before = ap (λ (c : Counts). c.disk) follow in
@@ -141,7 +142,8 @@ module _ (course : Course) (before after : Outside) (trace : Trace)
     each_of input messages a more writes first all end are = (
       a.brought.replies,
       more,
-      subst (λ ms. ModelTurns course.replies course.people course.base [] ms a.brought.replies) (sym (first all end are))
+      subst (λ ms. ModelTurns course.replies course.people course.base [] ms a.brought.replies)
+          (sym (first all end are))
           (answers_model messages a),
       writes,
     )
@@ -162,7 +164,8 @@ module _ (course : Course) (before after : Outside) (trace : Trace)
         let none : all ≡ [] = no_messages all end (subst (λ bytes. Messages bytes 0 all end) nothing are) in
         let no : List Answered = [] in
         let turns : ModelTurns course.replies course.people course.base [] (take message_limit all) no =
-        subst (λ ms. ModelTurns course.replies course.people course.base [] (take message_limit ms) no) (sym none) refl in
+        subst (λ ms. ModelTurns course.replies course.people course.base [] (take message_limit ms) no) (sym none)
+        refl in
         (no, trace.written, turns, refl)
 
     module _ (sink_is : trace.sink ≡ growth (λ c. c.sink) before after)

@@ -84,7 +84,8 @@ pub record Point : Type 0 where
   pub count : ℕ
 
 -- from before to the point so many messages were read and answered
-pub record Progress (replies : Replies) (people : People) (base : Base) (before : Outside) (number : ℕ) (at : Point) : Type 0 where
+pub record Progress (replies : Replies) (people : People) (base : Base) (before : Outside) (number : ℕ) (at : Point) :
+    Type 0 where
   pub messages : List Message
   pub size : length messages ≡ number
   pub brought : Brought
@@ -288,7 +289,8 @@ module _ (replies : Replies) (people : People) (base : Base) (before : Outside) 
     history = history;
   }
 
-  brings_moved : (sides : Sides) → Brings replies people base before (moved at.now sides) at.history p.messages p.brought
+  brings_moved : (sides : Sides) → Brings replies people base before (moved at.now sides) at.history p.messages
+      p.brought
   brings_moved sides = record {
     turns = p.brings.turns;
     disk = p.brings.disk;
@@ -316,7 +318,8 @@ module _ (replies : Replies) (people : People) (base : Base) (before : Outside) 
         → Finishes why at.count e at.now.taken sides.taken at.now.counts.sink sides.sink
         → (entries : ℕ) → Runs (course_with entries at.history) (status_of e) before (moved at.now sides)
     run_stops sides why e few reads stops later finishes entries =
-        runs_by replies people base entries before (moved at.now sides) at.history p.messages p.brought (brings_moved sides) e
+        runs_by replies people base entries before (moved at.now sides) at.history p.messages p.brought
+        (brings_moved sides) e
         (wire_stops (sides_of before) (sides_of at.now) p.messages p.brought.replies at.reader at.count p.wire reader'
         sides (omega (arith, p.size, few)) why e reads stops finishes)
 

@@ -117,7 +117,8 @@ module _ (turn : Turn) where
 -- a message's own part, and then rotation turns
 module _ (replies : Replies) (base : Base) (history : History) (asked : Result Asked Why) (own : sessions.Turn)
     (first between last : Counts) (round : Round) (to : History)
-    (rotated : Rotated replies base seat (record { history = history ++ by_seat seat own.marks; counts = between }) round
+    (rotated : Rotated replies base seat (record { history = history ++ by_seat seat own.marks; counts = between })
+    round
     (record { history = to; counts = last })) where
   abbrev pub joined : Turn
   joined = record {

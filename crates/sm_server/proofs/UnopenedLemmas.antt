@@ -101,12 +101,14 @@ module _ {D : Type 0} (G : Ghosts D) (replies : Replies) (task : Task) (people :
       → before.counts.disk ≡ G.faults old → after.counts.disk ≡ G.faults (disk_unopened refused)
       → Still before after → Runs (course_of replies (no_story task people)) (status_unopened refused) before after
   runs_unopened (Damaged now damage) before after r first last still =
-      runs_still replies task people before after still (statuses.Damaged damage.at damage.entry) (refl, (refl, refl, refl))
+      runs_still replies task people before after still (statuses.Damaged damage.at damage.entry)
+      (refl, (refl, refl, refl))
   runs_unopened (Failed now) before after r first last still =
       let rose : Rose before.counts.disk after.counts.disk = omega (arith, r.2, first, last) in
       runs_still replies task people before after still statuses.OpenFault (refl, (refl, refl, refl), rose)
   runs_unopened (Memory now) before after r first last still =
-      runs_still replies task people before after still statuses.Memory (memory_ended replies task people before after still)
+      runs_still replies task people before after still statuses.Memory
+      (memory_ended replies task people before after still)
 
   pub unopened_followed : (refused : OpenRefused D) → WasFollowed (status_unopened refused)
   unopened_followed (Damaged now damage) = tt

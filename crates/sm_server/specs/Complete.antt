@@ -55,7 +55,8 @@ ModelTurns may people base history (message ∷ messages) replies =
 abbrev pub AnswersEach : Course → List ℕ → List ℕ → Type 0
 AnswersEach course input written = (all : List Message) (end : End) → Messages input 0 all end
     → (replies : List Answered) × (more : List ℕ)
-    × ModelTurns course.replies course.people course.base [] (take message_limit all) replies × (written ≡ joined replies ++ more)
+    × ModelTurns course.replies course.people course.base [] (take message_limit all) replies ×
+    (written ≡ joined replies ++ more)
 
 -- a source that holds whole messages, fewer than are answered at most, is read to its end by a run that answers
 abbrev pub ReadsWhole : Task → Status → Option (List ℕ) → Type 0

@@ -28,7 +28,8 @@ returns-in-Work-clause-turn g c =
     (sym (append_known-nil (g.W.Words.drawn c.args.words.now)))
     (subst (λ (b : Base). WorkDone g.R.Rotator.replies b NoGap c.args.seat c.in-Work.work
     (record { before = between; after = passing.clock.after }) passing.rotator_count (history looked.new.account)
-    (history c.do_work.new.account) c.do_work.result) looked.ensures.origin.base_stays (rw c.in-Work.work-is at c.do_work.ensures.does))
+    (history c.do_work.new.account) c.do_work.result) looked.ensures.origin.base_stays
+    (rw c.in-Work.work-is at c.do_work.ensures.does))
 
 pub returns-in-Work-clause-never_stale : goal.returns-in-Work-clause-never_stale
 returns-in-Work-clause-never_stale g c =
@@ -43,7 +44,10 @@ returns-in-Due-clause-turn g c =
     let passing : Passing = record {
       clock = record { before = g.C.Clock.readings c.args.clock.now; after = g.C.Clock.readings c.start_one.new.clock };
       words = record { before = g.W.Words.drawn c.args.words.now; after = g.W.Words.drawn c.start_one.new.words };
-      words_count = record { before = g.W.Words.faults c.args.words.now; after = g.W.Words.faults c.start_one.new.words };
+      words_count = record {
+        before = g.W.Words.faults c.args.words.now;
+        after = g.W.Words.faults c.start_one.new.words;
+      };
       rotator_count = record {
         before = g.R.Rotator.faults c.args.rotator.now;
         after = g.R.Rotator.faults c.args.rotator.now;

@@ -10,7 +10,8 @@ leave-requires-clause-entry g c =
     let account = c.value.result.now in
     report_once c.seat-seat.result _ (c.seat-seat.ensures ∙ sym c.enter-held.ensures.holder) (history account) _
     (history c.report-told.new.account) (ap (λ a. history a) c.value.ensures.value ∙ sym c.enter-held.ensures.entered)
-    (base account) c.report-told.result.now c.args.verdict.now.work c.args.verdict.now.answer c.report-told.result.reported c.report-told.ensures.reports
+    (base account) c.report-told.result.now c.args.verdict.now.work c.args.verdict.now.answer
+    c.report-told.result.reported c.report-told.ensures.reports
 
 pub returns-clause-reports : goal.returns-clause-reports
 returns-clause-reports g c =
@@ -22,4 +23,5 @@ returns-clause-reports g c =
     (subst (λ a. Grows (number pass ∷ []) (seen pass) (history a)) (sym c.value.ensures.value)
     c.enter-held.ensures.seen) c.leave.ensures.seen (base account) (base built)
     (ap (λ a. base a) c.value.ensures.value ∙ same_base c.enter-held.result.value built c.enter-held.ensures.origin)
-    c.report-told.result.now c.args.verdict.now.work c.args.verdict.now.answer c.report-told.result.reported c.report-told.ensures.reports
+    c.report-told.result.now c.args.verdict.now.work c.args.verdict.now.answer c.report-told.result.reported
+    c.report-told.ensures.reports

@@ -64,9 +64,18 @@ loop-number-preserved g c =
         rotator = g.R.Rotator.faults c.one_turn-done.new.rotator;
       };
     } in
-    let before : Heard = record { clock = g.C.Clock.readings c.args.clock.now; words = g.W.Words.drawn c.args.words.now } in
-    let now : Heard = record { clock = g.C.Clock.readings c.loop-number.clock; words = g.W.Words.drawn c.loop-number.words } in
-    let later : Heard = record { clock = g.C.Clock.readings c.one_turn-done.new.clock; words = g.W.Words.drawn c.one_turn-done.new.words } in
+    let before : Heard = record {
+      clock = g.C.Clock.readings c.args.clock.now;
+      words = g.W.Words.drawn c.args.words.now;
+    } in
+    let now : Heard = record {
+      clock = g.C.Clock.readings c.loop-number.clock;
+      words = g.W.Words.drawn c.loop-number.words;
+    } in
+    let later : Heard = record {
+      clock = g.C.Clock.readings c.one_turn-done.new.clock;
+      words = g.W.Words.drawn c.one_turn-done.new.words;
+    } in
     let passing : Passing = record {
       clock = record { before = now.clock; after = later.clock };
       words = record { before = now.words; after = later.words };
@@ -128,9 +137,18 @@ returns-then-not-goes_on-clause-rotated g c =
         rotator = g.R.Rotator.faults c.one_turn-done.new.rotator;
       };
     } in
-    let before : Heard = record { clock = g.C.Clock.readings c.args.clock.now; words = g.W.Words.drawn c.args.words.now } in
-    let now : Heard = record { clock = g.C.Clock.readings c.loop-number.clock; words = g.W.Words.drawn c.loop-number.words } in
-    let later : Heard = record { clock = g.C.Clock.readings c.one_turn-done.new.clock; words = g.W.Words.drawn c.one_turn-done.new.words } in
+    let before : Heard = record {
+      clock = g.C.Clock.readings c.args.clock.now;
+      words = g.W.Words.drawn c.args.words.now;
+    } in
+    let now : Heard = record {
+      clock = g.C.Clock.readings c.loop-number.clock;
+      words = g.W.Words.drawn c.loop-number.words;
+    } in
+    let later : Heard = record {
+      clock = g.C.Clock.readings c.one_turn-done.new.clock;
+      words = g.W.Words.drawn c.one_turn-done.new.words;
+    } in
     let passing : Passing = record {
       clock = record { before = now.clock; after = later.clock };
       words = record { before = now.words; after = later.words };
@@ -180,7 +198,13 @@ returns-clause-rotated g c =
         rotator = g.R.Rotator.faults c.loop-number.rotator;
       };
     } in
-    let before : Heard = record { clock = g.C.Clock.readings c.args.clock.now; words = g.W.Words.drawn c.args.words.now } in
-    let now : Heard = record { clock = g.C.Clock.readings c.loop-number.clock; words = g.W.Words.drawn c.loop-number.words } in
+    let before : Heard = record {
+      clock = g.C.Clock.readings c.args.clock.now;
+      words = g.W.Words.drawn c.args.words.now;
+    } in
+    let now : Heard = record {
+      clock = g.C.Clock.readings c.loop-number.clock;
+      words = g.W.Words.drawn c.loop-number.words;
+    } in
     round_full g.R.Rotator.replies (base account) c.args.seat from before c.loop-number.number at now
     c.loop-number.invariant.progress (omega (arith, c.loop-number.auto.number-end, c.loop-number-test.false))

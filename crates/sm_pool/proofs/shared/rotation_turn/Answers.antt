@@ -15,7 +15,10 @@ returns-in-Work-clause-turn g c =
     let looked = c.look_behind-pass in
     let found = looked.result.looked.found in
     let passing : Passing = record {
-      clock = record { before = g.C.Clock.readings c.args.clock.now; after = g.C.Clock.readings c.work_behind.new.clock };
+      clock = record {
+        before = g.C.Clock.readings c.args.clock.now;
+        after = g.C.Clock.readings c.work_behind.new.clock;
+      };
       words = record { before = g.W.Words.drawn c.args.words.now; after = g.W.Words.drawn c.args.words.now };
       words_count = record { before = g.W.Words.faults c.args.words.now; after = g.W.Words.faults c.args.words.now };
       rotator_count = record {
@@ -25,13 +28,19 @@ returns-in-Work-clause-turn g c =
     } in
     let turn = works_turn g.R.Rotator.replies (base (built_with c.args.gate.now)) (Grows (number c.args.pass ∷ []))
     (grows-same (number c.args.pass ∷ [])) (number pass) looked.result.looked.now found
-    (seen pass) (seen looked.result.pass) (seen c.work_behind.result.pass) passing (g.C.Clock.readings looked.new.clock) c.work_behind.result.done looked.ensures.told
+    (seen pass) (seen looked.result.pass) (seen c.work_behind.result.pass) passing
+    (g.C.Clock.readings looked.new.clock) c.work_behind.result.done looked.ensures.told
     c.in-Work.work c.in-Work.is looked.ensures.looks
     (sym (append_known-nil (g.W.Words.drawn c.args.words.now)))
     (subst (λ n. WorkDone g.R.Rotator.replies (base (built_with c.args.gate.now)) (Grows (n ∷ [])) n c.in-Work.work
-    (record { before = g.C.Clock.readings looked.new.clock; after = passing.clock.after }) passing.rotator_count (seen looked.result.pass)
-    (seen c.work_behind.result.pass) c.work_behind.result.done) looked.ensures.number (rw c.in-Work.work-is at c.work_behind.ensures.does)) in
-    (turn, holds_mine c.args.gate.now pass c.work_behind.result.pass (holds_of turn.course) c.requires c.work_behind.ensures.gate (c.work_behind.ensures.number ∙ looked.ensures.number) turn.spell)
+    (record { before = g.C.Clock.readings looked.new.clock; after = passing.clock.after }) passing.rotator_count
+    (seen looked.result.pass)
+    (seen c.work_behind.result.pass) c.work_behind.result.done) looked.ensures.number
+    (rw c.in-Work.work-is at c.work_behind.ensures.does)) in (
+      turn,
+      holds_mine c.args.gate.now pass c.work_behind.result.pass (holds_of turn.course) c.requires
+          c.work_behind.ensures.gate (c.work_behind.ensures.number ∙ looked.ensures.number) turn.spell,
+    )
 
 pub returns-in-Due-clause-turn : goal.returns-in-Due-clause-turn
 returns-in-Due-clause-turn g c =
@@ -39,9 +48,15 @@ returns-in-Due-clause-turn g c =
     let looked = c.look_behind-pass in
     let found = looked.result.looked.found in
     let passing : Passing = record {
-      clock = record { before = g.C.Clock.readings c.args.clock.now; after = g.C.Clock.readings c.draw_behind.new.clock };
+      clock = record {
+        before = g.C.Clock.readings c.args.clock.now;
+        after = g.C.Clock.readings c.draw_behind.new.clock;
+      };
       words = record { before = g.W.Words.drawn c.args.words.now; after = g.W.Words.drawn c.draw_behind.new.words };
-      words_count = record { before = g.W.Words.faults c.args.words.now; after = g.W.Words.faults c.draw_behind.new.words };
+      words_count = record {
+        before = g.W.Words.faults c.args.words.now;
+        after = g.W.Words.faults c.draw_behind.new.words;
+      };
       rotator_count = record {
         before = g.R.Rotator.faults c.args.rotator.now;
         after = g.R.Rotator.faults c.args.rotator.now;
@@ -49,12 +64,17 @@ returns-in-Due-clause-turn g c =
     } in
     let turn = starts_turn g.R.Rotator.replies (base (built_with c.args.gate.now)) (Grows (number c.args.pass ∷ []))
     (grows-same (number c.args.pass ∷ [])) (number pass) looked.result.looked.now found
-    (seen pass) (seen looked.result.pass) (seen c.draw_behind.result.pass) passing (g.C.Clock.readings looked.new.clock) c.draw_behind.result.done looked.ensures.told
+    (seen pass) (seen looked.result.pass) (seen c.draw_behind.result.pass) passing
+    (g.C.Clock.readings looked.new.clock) c.draw_behind.result.done looked.ensures.told
     c.in-Due.is looked.ensures.looks
     (subst (λ n. StartDone (base (built_with c.args.gate.now)) (Grows (n ∷ [])) n
     (record { before = g.C.Clock.readings looked.new.clock; after = passing.clock.after }) passing.words
-    passing.words_count (seen looked.result.pass) (seen c.draw_behind.result.pass) c.draw_behind.result.done) looked.ensures.number c.draw_behind.ensures.starts) in
-    (turn, holds_mine c.args.gate.now pass c.draw_behind.result.pass (holds_of turn.course) c.requires c.draw_behind.ensures.gate (c.draw_behind.ensures.number ∙ looked.ensures.number) turn.spell)
+    passing.words_count (seen looked.result.pass) (seen c.draw_behind.result.pass) c.draw_behind.result.done)
+    looked.ensures.number c.draw_behind.ensures.starts) in (
+      turn,
+      holds_mine c.args.gate.now pass c.draw_behind.result.pass (holds_of turn.course) c.requires
+          c.draw_behind.ensures.gate (c.draw_behind.ensures.number ∙ looked.ensures.number) turn.spell,
+    )
 
 pub returns-in-Nothing-clause-turn : goal.returns-in-Nothing-clause-turn
 returns-in-Nothing-clause-turn g c =
@@ -62,7 +82,10 @@ returns-in-Nothing-clause-turn g c =
     let looked = c.look_behind-pass in
     let found = looked.result.looked.found in
     let passing : Passing = record {
-      clock = record { before = g.C.Clock.readings c.args.clock.now; after = g.C.Clock.readings c.look_behind-pass.new.clock };
+      clock = record {
+        before = g.C.Clock.readings c.args.clock.now;
+        after = g.C.Clock.readings c.look_behind-pass.new.clock;
+      };
       words = record { before = g.W.Words.drawn c.args.words.now; after = g.W.Words.drawn c.args.words.now };
       words_count = record { before = g.W.Words.faults c.args.words.now; after = g.W.Words.faults c.args.words.now };
       rotator_count = record {
@@ -73,8 +96,11 @@ returns-in-Nothing-clause-turn g c =
     let turn = rests_turn g.R.Rotator.replies (base (built_with c.args.gate.now)) (Grows (number c.args.pass ∷ []))
     (grows-same (number c.args.pass ∷ [])) (number pass) looked.result.looked.now found
     passing (seen pass) (seen c.look_behind-pass.result.pass) c.in-Nothing.is looked.ensures.looks looked.ensures.told
-    (sym (append_known-nil (g.W.Words.drawn c.args.words.now))) in
-    (turn, holds_mine c.args.gate.now pass c.look_behind-pass.result.pass (holds_of turn.course) c.requires looked.ensures.gate looked.ensures.number turn.spell)
+    (sym (append_known-nil (g.W.Words.drawn c.args.words.now))) in (
+      turn,
+      holds_mine c.args.gate.now pass c.look_behind-pass.result.pass (holds_of turn.course) c.requires
+          looked.ensures.gate looked.ensures.number turn.spell,
+    )
 
 pub returns-in-Memory-clause-turn : goal.returns-in-Memory-clause-turn
 returns-in-Memory-clause-turn g c =
@@ -82,7 +108,10 @@ returns-in-Memory-clause-turn g c =
     let looked = c.look_behind-pass in
     let found = looked.result.looked.found in
     let passing : Passing = record {
-      clock = record { before = g.C.Clock.readings c.args.clock.now; after = g.C.Clock.readings c.look_behind-pass.new.clock };
+      clock = record {
+        before = g.C.Clock.readings c.args.clock.now;
+        after = g.C.Clock.readings c.look_behind-pass.new.clock;
+      };
       words = record { before = g.W.Words.drawn c.args.words.now; after = g.W.Words.drawn c.args.words.now };
       words_count = record { before = g.W.Words.faults c.args.words.now; after = g.W.Words.faults c.args.words.now };
       rotator_count = record {
@@ -93,5 +122,8 @@ returns-in-Memory-clause-turn g c =
     let turn = wants_turn g.R.Rotator.replies (base (built_with c.args.gate.now)) (Grows (number c.args.pass ∷ []))
     (grows-same (number c.args.pass ∷ [])) (number pass) looked.result.looked.now found
     passing (seen pass) (seen c.look_behind-pass.result.pass) c.in-Memory.is looked.ensures.looks looked.ensures.told
-    (sym (append_known-nil (g.W.Words.drawn c.args.words.now))) in
-    (turn, holds_mine c.args.gate.now pass c.look_behind-pass.result.pass (holds_of turn.course) c.requires looked.ensures.gate looked.ensures.number turn.spell)
+    (sym (append_known-nil (g.W.Words.drawn c.args.words.now))) in (
+      turn,
+      holds_mine c.args.gate.now pass c.look_behind-pass.result.pass (holds_of turn.course) c.requires
+          looked.ensures.gate looked.ensures.number turn.spell,
+    )

@@ -12,7 +12,8 @@ returns-in-Ok-clause-does g c =
     let verdict = c.in-Ok.verdict in
     let told = c.report_behind-pass.result.told in
     reported_work (base (built_with c.args.gate.now)) (Grows (number pass ∷ [])) (grows-same (number pass ∷ []))
-    (number pass) g.R.Rotator.replies verdict.work c.args.work c.in-Ok.ensures.work verdict.answer told.reported told.now
+    (number pass) g.R.Rotator.replies verdict.work c.args.work c.in-Ok.ensures.work verdict.answer told.reported
+    told.now
     _ _ (seen pass) (seen c.report_behind-pass.result.pass) c.done_reported.result c.report_behind-pass.ensures.reports
     c.in-Ok.ensures.allowed c.report_behind-pass.ensures.told c.in-Ok.ensures.failed c.done_reported.ensures
 

@@ -35,7 +35,8 @@ loop-number-init g c =
       disk_later = omega arith;
       random_later = omega arith;
       rotator_later = omega arith;
-      progress = progress_first g.R.Rotator.replies c.args.people.now (base c.args.account.now) before c.new-reader.result
+      progress = progress_first g.R.Rotator.replies c.args.people.now (base c.args.account.now) before
+          c.new-reader.result
           (history c.args.account.now) c.new-reader.ensures c.requires;
     }
 
@@ -245,7 +246,8 @@ loop-number-preserved g c =
       disk_later = omega (arith, i.disk_later, c.answer_message-sent.ensures.disk_later);
       random_later = omega (arith, i.random_later, c.answer_message-sent.ensures.random_later);
       rotator_later = omega (arith, i.rotator_later, c.answer_message-sent.ensures.rotator_later);
-      progress = progress_more g.R.Rotator.replies c.args.people.now (base c.args.account.now) before c.loop-number.number at i.progress
+      progress = progress_more g.R.Rotator.replies c.args.people.now (base c.args.account.now) before
+          c.loop-number.number at i.progress
           c.next_message.new.reader step refl refl turned later c.in-Ok.ensures.reads c.next_message.ensures.later
           c.answer_message-sent.ensures.sink_later c.answer_message-sent.result t.7 c.saturating_add-count.result
           c.saturating_add-count.ensures

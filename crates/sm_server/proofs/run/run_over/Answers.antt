@@ -86,7 +86,8 @@ returns-in-Err-clause-ran g c =
       refl,
       refl,
       subst (λ s. Runs (course_of replies (no_story task people)) s before after) (sym c.end_unopened.ensures.status)
-          (runs_unopened g.D.Disk replies task people c.args.disk refused before after why refl (ap g.D.Disk.faults (sym same))
+          (runs_unopened g.D.Disk replies task people c.args.disk refused before after why refl
+          (ap g.D.Disk.faults (sym same))
           (record {
             left = refl;
             taken = refl;
@@ -110,4 +111,5 @@ returns-in-Err-clause-followed g c =
 pub returns-in-Err-clause-disk_later : goal.returns-in-Err-clause-disk_later
 returns-in-Err-clause-disk_later g c =
     subst (λ d. g.D.Disk.faults c.args.disk ≤ g.D.Disk.faults d) (sym c.end_unopened.ensures.disk)
-    (later_unopened g.D.Disk g.R.Rotator.replies c.args.task c.args.people.now c.args.disk c.in-Err.refused c.in-Err.ensures.refused)
+    (later_unopened g.D.Disk g.R.Rotator.replies c.args.task c.args.people.now c.args.disk c.in-Err.refused
+    c.in-Err.ensures.refused)
