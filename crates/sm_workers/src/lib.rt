@@ -1,0 +1,7 @@
+//! What runs the workers of a server in threads over one account behind a lock: doors, whose connections are served,
+//! and turners, which take rotation turns.
+#![tactic(auto)]
+
+pub mod worker;
+
+pub use worker::{ConnEnd, Task, Worker, WorkerBy};
