@@ -1,0 +1,4 @@
+pub mod KnownLemmas
+pub mod ChainLemmas
+pub mod DoorLemmas
+pub mod TurnerLemmas

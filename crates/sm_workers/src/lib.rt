@@ -2,6 +2,8 @@
 //! and turners, which take rotation turns.
 #![tactic(auto)]
 
+mod doors;
+mod turners;
 pub mod worker;
 
 pub use worker::{ConnEnd, Task, Worker, WorkerBy};
