@@ -2,3 +2,4 @@ pub mod KnownLemmas
 pub mod ChainLemmas
 pub mod DoorLemmas
 pub mod TurnerLemmas
+pub mod WorkerLemmas

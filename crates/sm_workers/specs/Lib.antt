@@ -5,4 +5,5 @@ pub mod Doors
 pub mod Turners
 pub mod Views
 pub mod Workers
+pub mod Given
 pub mod Closed

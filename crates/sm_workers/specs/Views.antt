@@ -44,7 +44,9 @@ standing_by clocks sources seen clock words = record {
 pub record Views (E K C W R : Type 0) : Type 0 where
   pub edge : E → EdgeState K
   pub sides : K → Sides
-  pub standing : History → C → W → Standing
+  pub readings : C → Option (List ℕ)
+  pub drawn : W → Option (List ℕ)
+  pub random : W → ℕ
   pub replies : Replies
   pub rotator : R → ℕ
 
@@ -54,7 +56,9 @@ module _ {E K C W R : Type 0} where
   views_by edges sources sinks clocks words rotators = record {
     edge = edge_by edges;
     sides = sides_by sources sinks;
-    standing = standing_by clocks words;
+    readings = clocks.readings;
+    drawn = words.drawn;
+    random = words.faults;
     replies = rotators.replies;
     rotator = rotators.faults;
   }

@@ -18,6 +18,23 @@ use Rattle.sm_workers.specs.Turners.{Post, TurnerDid, holds_in}
 use Rattle.sm_workers.specs.Views.{Views}
 use Rattle.sm_workers.specs.Visits.{turns_in}
 
+module _ {E C W R A O M : Type 0} {g : Ghosts A O M} where
+  -- a worker that is to be given a pass
+  pub record IsFresh (worker : WorkerBy E C W R A O M g) : Type 0 where
+    pub pass : worker.pass ≡ None
+    pub failed : worker.failed ≡ false
+
+  -- a worker that is to begin
+  pub record IsReady (gate : Gate A O M) (worker : WorkerBy E C W R A O M g) : Type 0 where
+    pub pass : Pass A O M g
+    pub has : worker.pass ≡ Some pass
+    pub belongs : IsIn gate pass
+    pub failed : worker.failed ≡ false
+
+  -- it has a pass
+  abbrev pub HasPass : WorkerBy E C W R A O M g → Type 0
+  HasPass worker = (pass : Pass A O M g) × (worker.pass ≡ Some pass)
+
 module _ {E K C W R : Type 0} (views : Views E K C W R) where
   -- a standing with the rotator
   abbrev pub post : R → Standing → Post
@@ -49,19 +66,12 @@ module _ {E K C W R : Type 0} (views : Views E K C W R) where
   module _ {A O : Type 0} {g : Ghosts A O Mark} where
     -- the standing of a worker that has seen this history
     abbrev pub standing_of : WorkerBy E C W R A O Mark g → History → Standing
-    standing_of worker seen = views.standing seen worker.clock worker.words
-
-    -- a worker that is to be given a pass
-    pub record IsFresh (worker : WorkerBy E C W R A O Mark g) : Type 0 where
-      pub pass : worker.pass ≡ None
-      pub failed : worker.failed ≡ false
-
-    -- a worker that is to begin
-    pub record IsReady (gate : Gate A O Mark) (worker : WorkerBy E C W R A O Mark g) : Type 0 where
-      pub pass : Pass A O Mark g
-      pub has : worker.pass ≡ Some pass
-      pub belongs : IsIn gate pass
-      pub failed : worker.failed ≡ false
+    standing_of worker seen = record {
+      seen = seen;
+      readings = views.readings worker.clock;
+      drawn = views.drawn worker.words;
+      random = views.random worker.words;
+    }
 
     module _ (people : People) where
       -- what a worker did under its seat, from one history to another, and how it ended
@@ -82,3 +92,12 @@ module _ {E K C W R : Type 0} (views : Views E K C W R) where
         pub number_stays : number after ≡ number before
         pub works : Works (record { base = base; seat = number before }) old new (seen before) (seen after)
         pub own : mine after ≡ mine before ++ marks_of works
+
+      -- it took a pass out and put it back
+      pub record WorksWithItsPass (base : Base) (gate : Gate A O Mark) (old new : WorkerBy E C W R A O Mark g) : Type 0
+        where
+        pub before : Pass A O Mark g
+        pub after : Pass A O Mark g
+        pub had : old.pass ≡ Some before
+        pub has : new.pass ≡ Some after
+        pub worked : HasWorked base gate before after old new

@@ -3,7 +3,10 @@
 #![tactic(auto)]
 
 mod doors;
+mod jobs;
+mod passes;
 mod turners;
 pub mod worker;
+mod working;
 
 pub use worker::{ConnEnd, Task, Worker, WorkerBy};

@@ -1,5 +1,5 @@
 //! Workers.
-ghost use Rattle.std.specs.Prelude.{◌≡◌, false, None};
+ghost use Rattle.std.specs.Prelude.{◌≡◌, false, None, Some};
 ghost use Rattle.sm_workers.specs.declared.worker.Task.TheVariants.{Door, Turner};
 
 use sm_account::Account;
@@ -38,6 +38,8 @@ pub struct WorkerBy<E, C, W, R, A: Storied> {
 pub type Worker<E, D: Disk, C, W, R: Rotator> = WorkerBy<E, C, W, R, Account<D, R>>;
 
 impl<E, C, W, R, A: Storied> WorkerBy<E, C, W, R, A> {
+    ghost use Rattle.sm_workers.specs.Workers.{HasPass};
+
     /// A worker that serves the connections of an edge. It takes no memory.
     pub fn door(edge: E, clock: C, words: W) -> WorkerBy<E, C, W, R, A>
         ensures task { result.task ≡ Door edge }
@@ -66,5 +68,24 @@ impl<E, C, W, R, A: Storied> WorkerBy<E, C, W, R, A> {
             pass: None,
             failed: false,
         }
+    }
+
+    /// Takes the pass out.
+    pub(crate) fn take_out(&mut self) -> Pass<A>
+        requires { HasPass self.old }
+        ensures pass { self.old.pass ≡ Some result }
+        ensures left { self.new ≡ record self.old { pass = None } }
+    {
+        match self.pass.take() {
+            Some(pass) => pass,
+            None => unreachable!(),
+        }
+    }
+
+    /// Puts a pass in.
+    pub(crate) fn put_in(&mut self, pass: Pass<A>)
+        ensures { self.new ≡ record self.old { pass = Some pass } }
+    {
+        self.pass = Some(pass);
     }
 }
