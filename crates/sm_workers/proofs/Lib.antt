@@ -3,3 +3,4 @@ pub mod ChainLemmas
 pub mod DoorLemmas
 pub mod TurnerLemmas
 pub mod WorkerLemmas
+pub mod GivenLemmas
