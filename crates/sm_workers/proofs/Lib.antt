@@ -4,3 +4,5 @@ pub mod DoorLemmas
 pub mod TurnerLemmas
 pub mod WorkerLemmas
 pub mod GivenLemmas
+pub mod SendLemmas
+pub mod RunLemmas

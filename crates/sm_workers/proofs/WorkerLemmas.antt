@@ -148,3 +148,28 @@ module _ {E K C W R : Type 0} (views : Views E K C W R) (people : People) {A O :
           has = refl;
           worked = has_worked old there own;
         })
+
+  -- a worker was given a pass and worked, and the pass was taken from it
+  module _ (base : Base) (gate : Gate A O Mark) where
+    pub worked_between : (old out back new : WorkerBy E C W R A O Mark g) (pass given : Pass A O Mark g)
+        → out ≡ record old { pass = Some pass } → WorksWithItsPass views people base gate out back
+        → back.pass ≡ Some given → new ≡ record back { pass = None }
+        → HasWorked views people base gate pass given old new
+    worked_between old out back new pass given gave works took left =
+        let there : WorksWithItsPass views people base gate (record old { pass = Some pass }) back =
+        subst (λ (w : WorkerBy E C W R A O Mark g). WorksWithItsPass views people base gate w back) gave works in
+        let did = there.worked in
+        let bare : HasWorked views people base gate there.before there.after old (record back { pass = None }) =
+        record {
+          gate_stays = did.gate_stays;
+          number_stays = did.number_stays;
+          works = record { did = did.works.did; ends = did.works.ends };
+          own = did.own;
+        } in
+        subst (λ (w : WorkerBy E C W R A O Mark g). HasWorked views people base gate pass given old w) (sym left)
+        (subst
+        (λ (p : Pass A O Mark g). HasWorked views people base gate p given old (record back { pass = None }))
+        (one_only there.before pass (Some pass) there.had refl)
+        (subst
+        (λ (p : Pass A O Mark g). HasWorked views people base gate there.before p old (record back { pass = None }))
+        (one_only there.after given back.pass there.has took) bare))

@@ -1,5 +1,5 @@
 -- What a worker does between taking its pass out and putting it back.
-use Rattle.std.specs.Prelude.{◌≡◌, ℕ, Bool, false, List, ◌++◌, Option, None, Some}
+use Rattle.std.specs.Prelude.{◌≡◌, ℕ, ◌<◌, Bool, false, List, ◌++◌, length, get_or, None, Some}
 use Rattle.sm_lock.specs.Handles.{number, seen, mine, IsIn}
 use Rattle.sm_lock.specs.declared.gate.Gate.{Gate}
 use Rattle.sm_lock.specs.declared.pass.Pass.{Pass}
@@ -31,9 +31,12 @@ module _ {E C W R A O M : Type 0} {g : Ghosts A O M} where
     pub belongs : IsIn gate pass
     pub failed : worker.failed ≡ false
 
-  -- it has a pass
+  -- it has a pass, or none
   abbrev pub HasPass : WorkerBy E C W R A O M g → Type 0
   HasPass worker = (pass : Pass A O M g) × (worker.pass ≡ Some pass)
+
+  abbrev pub HasNoPass : WorkerBy E C W R A O M g → Type 0
+  HasNoPass worker = worker.pass ≡ None
 
 module _ {E K C W R : Type 0} (views : Views E K C W R) where
   -- a standing with the rotator
@@ -101,3 +104,10 @@ module _ {E K C W R : Type 0} (views : Views E K C W R) where
         pub had : old.pass ≡ Some before
         pub has : new.pass ≡ Some after
         pub worked : HasWorked base gate before after old new
+
+      -- each worker worked with the pass of its place, and this came back
+      abbrev pub AllWorked : Base → Gate A O Mark → List (Pass A O Mark g) → List (Pass A O Mark g)
+          → List (WorkerBy E C W R A O Mark g) → List (WorkerBy E C W R A O Mark g) → Type 0
+      AllWorked base gate before after old new =
+          (k : ℕ) (pass : Pass A O Mark g) (worker : WorkerBy E C W R A O Mark g) → k < length old
+          → HasWorked base gate (get_or before k pass) (get_or after k pass) (get_or old k worker) (get_or new k worker)

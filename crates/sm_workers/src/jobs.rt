@@ -1,6 +1,5 @@
 //! Jobs, each of which is done in a thread.
 ghost use Rattle.std.specs.Prelude.{◌≡◌, ◌<◌, ℕ, All, length, get_or};
-ghost use Rattle.sm_principal.specs.declared.people.People.{People};
 
 use crate::worker::{ConnEnd, WorkerBy};
 use crate::working::work;
@@ -15,19 +14,28 @@ use std::sync::Wait;
 use std::thread;
 use std::thread::Threads;
 
-/// What can be done in a thread of its own, beside others, behind one lock and for one list of people.
+/// What can be done in a thread of its own, beside others, behind one lock and for the same people.
 pub(crate) trait Job {
     /// The lock that all share.
     type Gate;
+
+    /// Who may ask.
+    type People;
 
     /// What it needs before it is run.
     ghost ready: { Self.Gate → Self → Type 0 };
 
     /// What a run makes of it.
-    ghost worked: { Self.Gate → People → Self → Self → Type 0 };
+    ghost worked: { Self.Gate → Self.People → Self → Self → Type 0 };
 
     /// Runs it.
-    fn run<H: Wait>(&mut self, rt: &H, alloc: Global, gate: &Self::Gate, people: &People)
+    fn run<H: Wait>(
+        &mut self,
+        rt: &H,
+        alloc: Global,
+        gate: &Self::Gate,
+        people: &Self::People,
+    )
         requires { ready gate.now self.old }
         ensures { worked gate.now people.now self.old self.new };
 }
@@ -41,6 +49,8 @@ impl<E: Edge<ConnEnd>, C: Clock, W: Words, D: Disk, R: Rotator> Job
     ghost use Rattle.sm_workers.specs.Workers.{IsReady, WorksWithItsPass};
 
     type Gate = Gate<Account<D, R>>;
+
+    type People = People;
 
     ghost ready = { λ gate worker. IsReady gate worker };
 
@@ -64,11 +74,12 @@ pub(crate) fn run_all<J: Job + Send, H: Threads + Wait + Sync>(
     rt: &H,
     alloc: Global,
     gate: &J::Gate,
-    people: &People,
+    people: &J::People,
     jobs: &mut [J],
 )
 where
     J::Gate: Sync,
+    J::People: Sync,
     requires some { 0 < length jobs.old }
     requires ready { All (J.ready gate.now) jobs.old }
     ensures many { length jobs.new ≡ length jobs.old }

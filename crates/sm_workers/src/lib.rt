@@ -5,8 +5,10 @@
 mod doors;
 mod jobs;
 mod passes;
+pub mod running;
 mod turners;
 pub mod worker;
 mod working;
 
+pub use running::{run_at, run_workers};
 pub use worker::{ConnEnd, Task, Worker, WorkerBy};
