@@ -73,6 +73,16 @@ module _ {E K C W R : Type 0} (views : Views E K C W R) (people : People) {A O :
       (get_or new k worker) (get_or passes k pass) (get_or given k pass) (gave k pass worker high)
       (each k worker (omega (arith, high, many))) taken.0 taken.1
 
+module _ {E K C W R : Type 0} (views : Views E K C W R) (people : People) {A O : Type 0} {g : Ghosts A O Mark}
+    (base : Base) (gate : Gate A O Mark) (passes given : List (Pass A O Mark g))
+    (old new : List (WorkerBy E C W R A O Mark g)) where
+  -- each pass that came back is of the gate
+  pub all_in : length given ≡ length old → AllWorked views people base gate passes given old new
+      → All (IsIn gate) given
+  all_in many worked k pass lt =
+      let high : k < length old = omega (arith, lt, many) in
+      (worked k pass (item_at old k high) high).gate_stays
+
 -- the number of the pass at a place
 number_at : {A O M : Type 0} {g : Ghosts A O M} (passes : List (Pass A O M g)) (seats k : ℕ) (pass : Pass A O M g)
     → map number passes ≡ range_with_len 1 seats → k < length passes → k < seats
@@ -131,7 +141,8 @@ module _ {E K C W R : Type 0} (views : Views E K C W R) (people : People) {A O :
     -- each entry is of the seat of one of the passes
     of_seat : (entry : ℕ × Mark) → Contains (map number given) entry.0 → IsOfSeat (length old) entry
     of_seat entry (i, lt, is) =
-        let low : i < length given = omega (arith, lt, length-map number given) in
+        let size : length (map number given) ≡ length given = length-map given number in
+        let low : i < length given = omega (arith, lt, size) in
         let high : i < length old = omega (arith, low, many_given) in
         let here : i < length passes = omega (arith, high, many) in
         let pass = item_at passes i here in
