@@ -1,5 +1,5 @@
 -- Passes on their way to workers and back.
-use Rattle.std.proofs.Common.{◌≡◌, ℕ, ◌+◌, ◌-◌, ◌<◌, ◌≤◌, List, [], ◌∷◌, ◌++◌, length, take, get_or, set, Some, None, refl, sym, ap, ◌∙◌, subst, arith, length-append}
+use Rattle.std.proofs.Common.{◌≡◌, ℕ, ◌+◌, ◌-◌, ◌<◌, ◌≤◌, List, [], ◌∷◌, ◌++◌, length, get_or, set, Some, None, sym, ap, ◌∙◌, subst, arith, length-append}
 use Rattle.std.proofs.lemmas.List.{get_or-set_other, get_or-set_same, get_or_append_left, get_or_default, get_or_push, length-set}
 use mathlib.Core.Logic.{dite}
 use native.Mathlib.Decide.{ℕ_discrete}
@@ -11,21 +11,21 @@ module _ {E C W R A O M : Type 0} {g : Ghosts A O M} where
   -- the workers from a place on have their passes, and those before it are as they were
   pub record GivenFrom (left : ℕ) (passes : List (Pass A O M g)) (old now : List (WorkerBy E C W R A O M g)) : Type 0
     where
-    pub many : length now ≡ length old
-    pub within : left ≤ length old
-    pub stays : (k : ℕ) (worker : WorkerBy E C W R A O M g) → k < left → get_or now k worker ≡ get_or old k worker
-    pub given : (k : ℕ) (pass : Pass A O M g) (worker : WorkerBy E C W R A O M g) → left ≤ k → k < length old
-        → get_or now k worker ≡ record (get_or old k worker) { pass = Some (get_or passes k pass) }
+      pub many : length now ≡ length old
+      pub within : left ≤ length old
+      pub stays : (k : ℕ) (worker : WorkerBy E C W R A O M g) → k < left → get_or now k worker ≡ get_or old k worker
+      pub given : (k : ℕ) (pass : Pass A O M g) (worker : WorkerBy E C W R A O M g) → left ≤ k → k < length old
+          → get_or now k worker ≡ record (get_or old k worker) { pass = Some (get_or passes k pass) }
 
   -- the workers before a place have none, those from it on are as they were, and these passes were taken
   pub record TakenTo (place : ℕ) (passes : List (Pass A O M g)) (old now : List (WorkerBy E C W R A O M g)) : Type 0
     where
-    pub many : length now ≡ length old
-    pub size : length passes ≡ place
-    pub stays : (k : ℕ) (worker : WorkerBy E C W R A O M g) → place ≤ k → get_or now k worker ≡ get_or old k worker
-    pub taken : (k : ℕ) (pass : Pass A O M g) (worker : WorkerBy E C W R A O M g) → k < place
-        → ((get_or old k worker).pass ≡ Some (get_or passes k pass))
-        × (get_or now k worker ≡ record (get_or old k worker) { pass = None })
+      pub many : length now ≡ length old
+      pub size : length passes ≡ place
+      pub stays : (k : ℕ) (worker : WorkerBy E C W R A O M g) → place ≤ k → get_or now k worker ≡ get_or old k worker
+      pub taken : (k : ℕ) (pass : Pass A O M g) (worker : WorkerBy E C W R A O M g) → k < place
+          → ((get_or old k worker).pass ≡ Some (get_or passes k pass))
+          × (get_or now k worker ≡ record (get_or old k worker) { pass = None })
 
   -- a worker is as it was, whatever stands for one past the end
   same_there : (old now : List (WorkerBy E C W R A O M g)) (i : ℕ) (other worker : WorkerBy E C W R A O M g)
@@ -84,10 +84,10 @@ module _ {E C W R A O M : Type 0} {g : Ghosts A O M} where
                   ∙ ap (λ (w : WorkerBy E C W R A O M g). record w { pass = None }) (stood worker),
             ))
             (λ apart.
-              let before : k < place = omega (arith, lt, apart) in
-              let t = so_far.taken k p worker before in (
-                t.0 ∙ ap Some
-                    (sym (get_or_append_left passes (pass ∷ []) p k (omega (arith, so_far.size, before)))),
-                get_or-set_other now place k out worker apart ∙ t.1,
-              ));
+            let before : k < place = omega (arith, lt, apart) in
+            let t = so_far.taken k p worker before in (
+              t.0 ∙ ap Some
+                  (sym (get_or_append_left passes (pass ∷ []) p k (omega (arith, so_far.size, before)))),
+              get_or-set_other now place k out worker apart ∙ t.1,
+            ));
       }

@@ -1,5 +1,5 @@
 -- Lists that are told optionally.
-use Rattle.std.proofs.Common.{◌≡◌, ◌≤◌, ◌<◌, List, [], ◌∷◌, ◌++◌, length, None, Some, refl, sym, ap, ◌∙◌, arith, append_assoc, append-nil, length-append}
+use Rattle.std.proofs.Common.{◌≡◌, List, [], ◌∷◌, ◌++◌, None, Some, refl, sym, ap, arith, append_assoc, append-nil, length-append}
 use Rattle.std.specs.Prelude.{Option}
 use Rattle.sm_io.specs.Edge.{IsFewer, IsNoMore, told_first, told_more}
 use Rattle.sm_workers.specs.Known.{told_ahead, told_behind}

@@ -1,5 +1,5 @@
 -- All workers, with the passes of their places, and what they did in the end.
-use Rattle.std.proofs.Common.{◌≡◌, ℕ, zero, suc, ◌+◌, ◌<◌, ◌≤◌, List, [], ◌∷◌, ◌++◌, All, length, map, take, drop, get_or, Some, refl, sym, ap, ◌∙◌, subst, arith}
+use Rattle.std.proofs.Common.{◌≡◌, ℕ, zero, suc, ◌+◌, ◌<◌, List, [], ◌∷◌, ◌++◌, All, length, map, drop, get_or, refl, sym, ap, ◌∙◌, subst, arith}
 use Rattle.std.proofs.lemmas.List.{drop_all, get_or-map, length-map, take_all}
 use Rattle.std.proofs.lemmas.List.FromFn.{get_or-range_with_len}
 use Rattle.std.specs.List.{Contains, range_with_len}
@@ -16,7 +16,7 @@ use Rattle.sm_workers.specs.declared.worker.WorkerBy.{WorkerBy}
 use Rattle.sm_workers.specs.Closed.{Closed, Filled, IsOfSeat}
 use Rattle.sm_workers.specs.Given.{IsGiven, IsTaken}
 use Rattle.sm_workers.specs.Views.{Views}
-use Rattle.sm_workers.specs.Workers.{AllWorked, HasNoPass, HasPass, HasWorked, IsFresh, IsReady, Works, WorksWithItsPass, marks_of}
+use Rattle.sm_workers.specs.Workers.{AllWorked, HasNoPass, HasPass, IsFresh, IsReady, Works, WorksWithItsPass, marks_of}
 use Rattle.sm_workers.proofs.WorkerLemmas.{worked_between, works_later, works_mine}
 
 -- some item stands at a place within a list

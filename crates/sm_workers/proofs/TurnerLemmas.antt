@@ -1,5 +1,5 @@
 -- The turns of a turner, one after the other.
-use Rattle.std.proofs.Common.{◌≡◌, ℕ, ◌≤◌, List, [], ◌∷◌, ◌++◌, refl, sym, ap, ◌∙◌, subst, arith}
+use Rattle.std.proofs.Common.{◌≡◌, ℕ, List, [], ◌∷◌, ◌++◌, ◌∙◌, subst, arith}
 use Rattle.std.specs.Prelude.{⊤}
 use Rattle.sm_account.specs.States.{Base}
 use Rattle.sm_lock.specs.Story.{Grows}
@@ -8,12 +8,12 @@ use Rattle.sm_pool.specs.Holds.{hold_shape}
 use Rattle.sm_pool.specs.Rounds.{ComesToRest}
 use Rattle.sm_pool.specs.Turns.{TurnDone, holds_of}
 use Rattle.sm_rotation.specs.Vouched.{Replies}
-use Rattle.sm_session.specs.Sessions.{Place, Standing}
+use Rattle.sm_session.specs.Sessions.{Place}
 use Rattle.sm_spells.specs.Spells.{Spell}
 use Rattle.sm_spells.proofs.SpellLaws.{spells_join}
-use Rattle.sm_workers.specs.Chains.{Chain, Waits}
+use Rattle.sm_workers.specs.Chains.{Chain}
 use Rattle.sm_workers.specs.Turners.{ComeToRest, NoneFell, Post, Turn, TurnerDid, WaitsAt, holds_in, passing}
-use Rattle.sm_workers.proofs.ChainLemmas.{chain_more, chain_on, joins, waits_at_both, waits_at_still, waits_still}
+use Rattle.sm_workers.proofs.ChainLemmas.{chain_more, chain_on, joins, waits_at_both, waits_at_still}
 
 module _ (replies : Replies) (place : Place) where
   abbrev Turns : Type 0
@@ -104,28 +104,28 @@ module _ (replies : Replies) (base : Base) (own seat : ℕ) (same : own ≡ seat
     (later : NoneFell mid at) (again : ℕ) (to : Post) (same_again : again ≡ own)
     (seen : Grows (again ∷ []) at.own.seen to.own.seen) (readings : to.own.readings ≡ at.own.readings)
     (drawn : to.own.drawn ≡ at.own.drawn) (random : to.own.random ≡ at.own.random) (rotator : to.rotator ≡ at.rotator)
-    where
-  turn_there : TurnDone replies base (Grows (seat ∷ [])) seat (passing mid at) mid.own.seen at.own.seen done
-  turn_there =
-      subst (λ n. TurnDone replies base (Grows (n ∷ [])) n (passing mid at) mid.own.seen at.own.seen done) same turn
+  where
+    turn_there : TurnDone replies base (Grows (seat ∷ [])) seat (passing mid at) mid.own.seen at.own.seen done
+    turn_there =
+        subst (λ n. TurnDone replies base (Grows (n ∷ [])) n (passing mid at) mid.own.seen at.own.seen done) same turn
 
-  waits_there : WaitsAt seat at to
-  waits_there = record {
-    own = record {
-      seen = subst (λ n. Grows (n ∷ []) at.own.seen to.own.seen) (same_again ∙ same) seen;
-      readings = readings;
-      drawn = drawn;
-      random = random;
-    };
-    rotator = rotator;
-  }
+    waits_there : WaitsAt seat at to
+    waits_there = record {
+      own = record {
+        seen = subst (λ n. Grows (n ∷ []) at.own.seen to.own.seen) (same_again ∙ same) seen;
+        readings = readings;
+        drawn = drawn;
+        random = random;
+      };
+      rotator = rotator;
+    }
 
-  -- a turn, and a rest behind it
-  pub turned_on : SoFar replies (record { base = base; seat = seat }) from to
-  turned_on = so_far_more replies (record { base = base; seat = seat }) from mid so_far at done turn_there later to
-      waits_there
+    -- a turn, and a rest behind it
+    pub turned_on : SoFar replies (record { base = base; seat = seat }) from to
+    turned_on = so_far_more replies (record { base = base; seat = seat }) from mid so_far at done turn_there later to
+        waits_there
 
-  -- the last of them
-  pub turned_last : ComesToRest done → TurnerDid replies (record { base = base; seat = seat }) from to
-  turned_last = turner_did replies (record { base = base; seat = seat }) from mid so_far at done turn_there later to
-      waits_there
+    -- the last of them
+    pub turned_last : ComesToRest done → TurnerDid replies (record { base = base; seat = seat }) from to
+    turned_last = turner_did replies (record { base = base; seat = seat }) from mid so_far at done turn_there later to
+        waits_there

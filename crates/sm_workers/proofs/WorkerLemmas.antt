@@ -1,8 +1,8 @@
 -- What a worker did, and what it left.
-use Rattle.std.proofs.Common.{◌≡◌, ℕ, Bool, List, [], ◌∷◌, ◌++◌, length, take, drop, Some, None, refl, sym, ap, ◌∙◌, subst, arith}
+use Rattle.std.proofs.Common.{◌≡◌, Bool, [], ◌∷◌, ◌++◌, length, take, drop, Some, None, refl, sym, ap, ◌∙◌, subst, arith}
 use Rattle.std.specs.Prelude.{⊤, Option}
 use Rattle.sm_account.specs.States.{Base}
-use Rattle.sm_lock.specs.Handles.{built, mine, number, seen, IsIn}
+use Rattle.sm_lock.specs.Handles.{built, number, seen, IsIn}
 use Rattle.sm_lock.specs.Story.{Grows, entries_of}
 use Rattle.sm_lock.specs.declared.gate.Gate.{Gate}
 use Rattle.sm_lock.specs.declared.pass.Pass.{Pass}

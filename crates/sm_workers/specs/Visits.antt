@@ -1,5 +1,5 @@
 -- A visit: the session of one connection that an edge handed out.
-use Rattle.std.specs.Prelude.{ℕ, ◌≤◌, List, [], ◌∷◌, ◌++◌}
+use Rattle.std.specs.Prelude.{◌≤◌, List, [], ◌∷◌, ◌++◌}
 use Rattle.sm_principal.specs.declared.people.People.{People}
 use Rattle.sm_session.specs.Complete.{Completes}
 use Rattle.sm_session.specs.Endings.{Sides}

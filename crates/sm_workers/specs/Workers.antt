@@ -99,11 +99,11 @@ module _ {E K C W R : Type 0} (views : Views E K C W R) where
       -- it took a pass out and put it back
       pub record WorksWithItsPass (base : Base) (gate : Gate A O Mark) (old new : WorkerBy E C W R A O Mark g) : Type 0
         where
-        pub before : Pass A O Mark g
-        pub after : Pass A O Mark g
-        pub had : old.pass ≡ Some before
-        pub has : new.pass ≡ Some after
-        pub worked : HasWorked base gate before after old new
+          pub before : Pass A O Mark g
+          pub after : Pass A O Mark g
+          pub had : old.pass ≡ Some before
+          pub has : new.pass ≡ Some after
+          pub worked : HasWorked base gate before after old new
 
       -- each worker worked with the pass of its place, and this came back
       abbrev pub AllWorked : Base → Gate A O Mark → List (Pass A O Mark g) → List (Pass A O Mark g)

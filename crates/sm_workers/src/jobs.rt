@@ -29,20 +29,13 @@ pub(crate) trait Job {
     ghost worked: { Self.Gate → Self.People → Self → Self → Type 0 };
 
     /// Runs it.
-    fn run<H: Wait>(
-        &mut self,
-        rt: &H,
-        alloc: Global,
-        gate: &Self::Gate,
-        people: &Self::People,
-    )
+    fn run<H: Wait>(&mut self, rt: &H, alloc: Global, gate: &Self::Gate, people: &Self::People)
         requires { ready gate.now self.old }
         ensures { worked gate.now people.now self.old self.new };
 }
 
 impl<E: Edge<ConnEnd>, C: Clock, W: Words, D: Disk, R: Rotator> Job
-    for WorkerBy<E, C, W, R, Account<D, R>>
-{
+    for WorkerBy<E, C, W, R, Account<D, R>> {
     ghost use Rattle.sm_account.specs.Accounts.{base};
     ghost use Rattle.sm_lock.specs.Handles.{built_with};
     ghost use Rattle.sm_workers.specs.Views.{views_by};
@@ -58,13 +51,7 @@ impl<E: Edge<ConnEnd>, C: Clock, W: Words, D: Disk, R: Rotator> Job
         WorksWithItsPass (views_by E.Edge E.C.Source E.C.Sink C.Clock W.Words R.Rotator) people (base (built_with gate))
         gate old new };
 
-    fn run<H: Wait>(
-        &mut self,
-        rt: &H,
-        alloc: Global,
-        gate: &Gate<Account<D, R>>,
-        people: &People,
-    ) {
+    fn run<H: Wait>(&mut self, rt: &H, alloc: Global, gate: &Gate<Account<D, R>>, people: &People) {
         work(rt, alloc, gate, self, people);
     }
 }

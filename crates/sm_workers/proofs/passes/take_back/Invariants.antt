@@ -1,4 +1,4 @@
-use Rattle.std.proofs.Common.{◌≡◌, ◌≤◌, length, vec_capacity}
+use Rattle.std.proofs.Common.{◌≤◌, length, vec_capacity}
 use Rattle.sm_workers.proofs.GivenLemmas.{TakenTo}
 use Rattle.sm_workers.proofs.passes.take_back.Given as goal
 
