@@ -33,8 +33,8 @@ module _ {E K C W R : Type 0} (views : Views E K C W R) (people : People) (place
       spell_mine turn_shape place.seat (IsRight people place.base) built from.seen to.seen
       (turns_in views.sides people place did.visits) begins did.spell
   did_mine built (Turner old) (Turner new) from to did begins =
-      spell_mine hold_shape place.seat (λ hold. ⊤) built from.seen to.seen (holds_in views.replies place did.turns) begins
-      did.spell
+      spell_mine hold_shape place.seat (λ hold. ⊤) built from.seen to.seen (holds_in views.replies place did.turns)
+      begins did.spell
   did_mine built (Door old) (Turner new) from to did begins = absurd did
   did_mine built (Turner old) (Door new) from to did begins = absurd did
 

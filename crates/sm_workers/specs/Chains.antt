@@ -3,8 +3,8 @@ use Rattle.std.specs.Prelude.{◌≡◌, ℕ, List, [], ◌∷◌}
 use Rattle.sm_lock.specs.Story.{Grows}
 use Rattle.sm_session.specs.Sessions.{Standing}
 
--- Things of which each leads from a point to a point. What may pass between two of them, before the first and behind the
--- last is a waiting.
+-- Things of which each leads from a point to a point. What passes before the first, between two and behind the last is
+-- a waiting.
 module _ {P T : Type 0} (waiting : P → P → Type 0) (start end : T → P) where
   abbrev pub Chain : P → List T → P → Type 0
   Chain from [] to = waiting from to

@@ -25,8 +25,8 @@ EndsDoor true old new = Rose old.faults new.faults
 EndsDoor false old new = NoneLeft new.left
 
 module _ {K : Type 0} (sides : K → Sides) (people : People) (place : Place) where
-  -- The visits of a door, one after the other. They are of the first connections that were left, in their order; each of
-  -- these was handed out and came back. The turns of all visits are one spell of the seat.
+  -- The visits of a door, one after the other. They are of the first connections that were left, in their order; each
+  -- of these was handed out and came back. The turns of all visits are one spell of the seat.
   pub record DoorDid (old new : EdgeState K) (from to : Standing) : Type 0 where
     pub visits : List (Visit sides people place)
     pub left : old.left ≡ told_ahead (map (λ visit. visit.conn) visits) new.left

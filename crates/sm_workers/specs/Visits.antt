@@ -17,8 +17,8 @@ pub record NoneFell (old new : Around) : Type 0 where
   pub random : old.own.random ≤ new.own.random
 
 module _ {K : Type 0} (sides : K → Sides) (people : People) (place : Place) where
-  -- A connection as it was handed out and as it came back, with its note, and what its session did between two standings
-  -- of the seat.
+  -- A connection as it was handed out and as it came back, with its note, and what its session did between two
+  -- standings of the seat.
   pub record Visit : Type 0 where
     pub conn : K
     pub came : K

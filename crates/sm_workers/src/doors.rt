@@ -25,7 +25,8 @@ pub(crate) struct Left<A: Storied> {
     pub failed: bool,
 }
 
-/// Serves the connections of an edge one after the other, until none is left or the edge fails. Then it closes its door.
+/// Serves the connections of an edge one after the other, until none is left or the edge fails. Then it closes its
+/// door.
 pub(crate) fn keep_door<E: Edge<ConnEnd>, C: Clock, W: Words, D: Disk, R: Rotator, H: Wait>(
     rt: &H,
     alloc: Global,

@@ -55,8 +55,8 @@ struct Behind<A: Storied> {
     ends: bool,
 }
 
-/// Rests behind a turn. Where it made an entry, another follows at once; where a verdict came too late, it pauses. Where
-/// there was nothing to do, or one could not go on, it ends if no door is open, and else pauses too.
+/// Rests behind a turn. Where it made an entry, another follows at once; where a verdict came too late, it pauses.
+/// Where there was nothing to do, or one could not go on, it ends if no door is open, and else pauses too.
 fn rest<C: Clock, D: Disk, R: Rotator, H: Wait>(
     rt: &H,
     gate: &Gate<Account<D, R>>,

@@ -8,7 +8,7 @@ take_out-pass-requires g c =
     let place = c.loop-place.place in
     let worker = c.index-workers-place.result in
     subst (λ w. HasPass w) (sym (c.loop-place.invariant.so_far.stays place worker (omega arith)))
-    (c.requires.has place worker (omega (arith, c.loop-place-test.true, c.loop-place.auto.place-end, c.loop-place.invariant.so_far.many)))
+    (c.requires.has place worker (omega (arith, c.loop-place-test.true)))
 
 pub loop-place-preserved : goal.loop-place-preserved
 loop-place-preserved g c =

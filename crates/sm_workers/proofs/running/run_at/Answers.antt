@@ -24,4 +24,5 @@ returns-in-Ok-clause-closed g c =
     subst (λ a. Closed views c.args.people.now (base a) (history a) (history last) old ran.new.workers) built.gate.0
     (closed_over views c.args.people.now (base (built_with gate)) (history (built_with gate)) (history last) gate
     c.in-Ok.passes ran.result old ran.new.workers built.count ran.ensures.many.0 built.numbers
-    (λ k pass lt. (built.seen k pass lt).1 ∙ ap (λ a. history a) (sym built.gate.0)) ran.ensures.worked c.close.ensures.seen c.close.ensures.built c.close.ensures.numbers)
+    (λ k pass lt. (built.seen k pass lt).1 ∙ ap (λ a. history a) (sym built.gate.0)) ran.ensures.worked
+    c.close.ensures.seen c.close.ensures.built c.close.ensures.numbers)
