@@ -16,6 +16,7 @@ pub struct ConnEnd {
 }
 
 /// What a worker has to do.
+#[derive(Drop)]
 pub enum Task<E, R> {
     /// It serves the connections that this edge hands out.
     Door(E),
@@ -24,6 +25,7 @@ pub enum Task<E, R> {
 }
 
 /// One that does its task in a thread, with a clock and a random source of its own.
+#[derive(Drop)]
 pub struct WorkerBy<E, C, W, R, A: Storied> {
     pub task: Task<E, R>,
     pub clock: C,
