@@ -1,5 +1,5 @@
 //! Workers.
-ghost use Rattle.std.specs.Prelude.{◌≡◌, false, None, Some};
+ghost use Rattle.std.specs.Prelude.{◌≡◌, None, Some};
 ghost use Rattle.sm_workers.specs.declared.worker.Task.TheVariants.{Door, Turner};
 
 use sm_account::Account;
@@ -40,13 +40,13 @@ pub struct WorkerBy<E, C, W, R, A: Storied> {
 pub type Worker<E, D: Disk, C, W, R: Rotator> = WorkerBy<E, C, W, R, Account<D, R>>;
 
 impl<E, C, W, R, A: Storied> WorkerBy<E, C, W, R, A> {
-    ghost use Rattle.sm_workers.specs.Workers.{HasPass};
+    ghost use Rattle.sm_workers.specs.Workers.{HasPass, IsFresh};
 
     /// A worker that serves the connections of an edge. It takes no memory.
     pub fn door(edge: E, clock: C, words: W) -> WorkerBy<E, C, W, R, A>
         ensures task { result.task ≡ Door edge }
         ensures outside { (result.clock ≡ clock) × (result.words ≡ words) }
-        ensures fresh { (result.pass ≡ None) × (result.failed ≡ false) }
+        ensures fresh { IsFresh result }
     {
         WorkerBy {
             task: Task::Door(edge),
@@ -61,7 +61,7 @@ impl<E, C, W, R, A: Storied> WorkerBy<E, C, W, R, A> {
     pub fn turner(rotator: R, clock: C, words: W) -> WorkerBy<E, C, W, R, A>
         ensures task { result.task ≡ Turner rotator }
         ensures outside { (result.clock ≡ clock) × (result.words ≡ words) }
-        ensures fresh { (result.pass ≡ None) × (result.failed ≡ false) }
+        ensures fresh { IsFresh result }
     {
         WorkerBy {
             task: Task::Turner(rotator),

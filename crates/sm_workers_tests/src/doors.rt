@@ -1,5 +1,5 @@
 //! Doors and a turner at one account.
-use crate::support::{account, door, outcome, turner};
+use crate::support::{account, add, door, outcome, turner};
 use sm_principal::People;
 use sm_workers::run_at;
 use std::alloc::Global;
@@ -18,9 +18,9 @@ fn run<R: Threads + Wait + Sync>(
         return Ok(None);
     };
     let mut workers = Vec::new(alloc);
-    workers.push(door(alloc, &["db/one", "db/two"], None)?)?;
-    workers.push(door(alloc, &["db/three"], fails_from)?)?;
-    workers.push(turner(alloc))?;
+    add(&mut workers, door(alloc, &["db/one", "db/two"], None)?)?;
+    add(&mut workers, door(alloc, &["db/three"], fails_from)?)?;
+    add(&mut workers, turner(alloc))?;
     let Ok(last) = run_at(rt, alloc, account, workers.as_mut_slice(), &People::Everybody) else {
         return Ok(None);
     };

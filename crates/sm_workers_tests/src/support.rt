@@ -1,4 +1,7 @@
 //! Accounts, connections and workers over memory.
+ghost use Rattle.std.specs.Prelude.{◌≡◌, ◌+◌, All, IfOk, OnOk, vec_len};
+ghost use Rattle.sm_workers.specs.Workers.{IsFresh};
+
 use sm_account::Account;
 use sm_disk::MemoryDisk;
 use sm_io::{CountWords, FixedClock, MemoryConn, MemoryEdge, MemorySink, MemorySource};
@@ -49,7 +52,9 @@ fn connection(alloc: Global, name: &str) -> Result<MemoryConn, Fail> {
 }
 
 /// A worker for an edge that hands out a connection for each of these names, unless an accept fails.
-pub fn door(alloc: Global, names: &[&str], fails_from: Option<u64>) -> Result<Over, Fail> {
+pub fn door(alloc: Global, names: &[&str], fails_from: Option<u64>) -> Result<Over, Fail>
+    ensures { IfOk result IsFresh }
+{
     let mut conns = Vec::new(alloc);
     for name in names {
         conns.push(connection(alloc, name)?)?;
@@ -63,12 +68,25 @@ pub fn door(alloc: Global, names: &[&str], fails_from: Option<u64>) -> Result<Ov
 }
 
 /// A worker that takes rotation turns.
-pub fn turner(alloc: Global) -> Over {
+pub fn turner(alloc: Global) -> Over
+    ensures { IsFresh result }
+{
     Worker::turner(
         NoRotator::new(),
         FixedClock::new(Moment(1_700_000_000)),
         CountWords::new(alloc, 0, fails(alloc, None)),
     )
+}
+
+/// Adds a worker.
+pub fn add(workers: &mut Vec<Over>, worker: Over) -> Result<(), Fail>
+    requires fresh { IsFresh worker }
+    requires all { All IsFresh workers.old.items }
+    ensures all { All IsFresh workers.new.items }
+    ensures long { OnOk result (vec_len workers.new ≡ vec_len workers.old + 1) }
+{
+    workers.push(worker)?;
+    Ok(())
 }
 
 /// How many connections came back to a door, whether each got a secret's reply, and whether the edge failed.
