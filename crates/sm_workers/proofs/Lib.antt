@@ -1,0 +1,8 @@
+pub mod KnownLemmas
+pub mod ChainLemmas
+pub mod DoorLemmas
+pub mod TurnerLemmas
+pub mod WorkerLemmas
+pub mod GivenLemmas
+pub mod SendLemmas
+pub mod RunLemmas

@@ -1,0 +1,14 @@
+//! What runs the workers of a server in threads over one account behind a lock: doors, whose connections are served,
+//! and turners, which take rotation turns.
+#![tactic(auto)]
+
+mod doors;
+mod jobs;
+mod passes;
+pub mod running;
+mod turners;
+pub mod worker;
+mod working;
+
+pub use running::{run_at, run_workers};
+pub use worker::{ConnEnd, Task, Worker, WorkerBy};

@@ -1,0 +1,96 @@
+//! Running workers at one account, each in a thread of its own.
+ghost use Rattle.std.specs.Prelude.{◌≡◌, ◌<◌, ◌≤◌, All, IfOk, IfErr, OnErr, length, None};
+ghost use Rattle.sm_account.specs.Accounts.{base, history, began, taken};
+ghost use Rattle.sm_lock.specs.Handles.{built_with, IsIn};
+ghost use Rattle.sm_lock.specs.declared.gate.BuildRefused.TheVariants.{Memory};
+ghost use Rattle.sm_workers.specs.Closed.{Closed};
+ghost use Rattle.sm_workers.specs.Views.{views_by};
+ghost use Rattle.sm_workers.specs.Workers.{AllWorked, HasNoPass, IsFresh};
+
+use crate::jobs::run_all;
+use crate::passes::{give, take_back};
+use crate::worker::{ConnEnd, WorkerBy};
+use sm_account::Account;
+use sm_disk::Disk;
+use sm_io::{Clock, Edge, Words};
+use sm_lock::{BuildRefused, Gate, Pass};
+use sm_model::List;
+use sm_principal::People;
+use sm_rotator::Rotator;
+use std::alloc::Global;
+use std::sync::Wait;
+use std::thread::Threads;
+
+/// Gives each worker the pass of its place, runs all workers in as many threads, and takes the passes back.
+pub fn run_workers<
+    E: Edge<ConnEnd> + Send,
+    C: Clock + Send,
+    W: Words + Send,
+    D: Disk + Send,
+    R: Rotator + Send,
+    H: Threads + Wait + Sync,
+>(
+    rt: &H,
+    alloc: Global,
+    gate: &Gate<Account<D, R>>,
+    passes: List<Pass<Account<D, R>>>,
+    workers: &mut [WorkerBy<E, C, W, R, Account<D, R>>],
+    people: &People,
+) -> List<Pass<Account<D, R>>>
+where
+    E::C: Send,
+    requires some { 0 < length workers.old }
+    requires many { length passes ≡ length workers.old }
+    requires gate { All (IsIn gate.now) passes }
+    requires fresh { All IsFresh workers.old }
+    ensures many { (length result ≡ length workers.old) × (length workers.new ≡ length workers.old) }
+    ensures worked { AllWorked (views_by E.Edge E.C.Source E.C.Sink C.Clock W.Words R.Rotator) people.now
+        (base (built_with gate.now)) gate.now passes result workers.old workers.new }
+    ensures left { All HasNoPass workers.new }
+{
+    let room = give(passes, workers);
+    run_all(rt, alloc, gate, people, workers);
+    take_back(room, workers)
+}
+
+/// Runs workers at an account behind a lock that is built for them, with a seat for each, and gives the account back.
+/// Without memory for the lock no worker runs.
+pub fn run_at<
+    E: Edge<ConnEnd> + Send,
+    C: Clock + Send,
+    W: Words + Send,
+    D: Disk + Send,
+    R: Rotator + Send,
+    H: Threads + Wait + Sync,
+>(
+    rt: &H,
+    alloc: Global,
+    account: Account<D, R>,
+    workers: &mut [WorkerBy<E, C, W, R, Account<D, R>>],
+    people: &People,
+) -> Result<Account<D, R>, BuildRefused<Account<D, R>>>
+where
+    E::C: Send,
+    requires many { (1 ≤ length workers.old) × (length workers.old ≤ 128) }
+    requires fresh { All IsFresh workers.old }
+
+    // All that stands in the last history behind that of the account before was done by the workers: the k-th, counted
+    // from 1, made the marks of seat k.
+    ensures closed { IfOk result (λ last.
+        Closed (views_by E.Edge E.C.Source E.C.Sink C.Clock W.Words R.Rotator) people.now (base account)
+        (history account) (history last) workers.old workers.new) }
+
+    // The account was opened over the same.
+    ensures origin { IfOk result (λ last. (taken last ≡ taken account) × (began last ≡ began account)
+        × (base last ≡ base account)) }
+    ensures err { IfErr result (λ refused. refused ≡ Memory account) }
+    ensures stays { OnErr result (workers.new ≡ workers.old) }
+{
+    match Gate::build(alloc, account, workers.len() as u32) {
+        Ok((gate, passes)) => {
+            let passes = run_workers(rt, alloc, &gate, passes, workers, people);
+            Ok(gate.close(passes))
+        }
+        Err(refused) => Err(refused),
+    }
+}

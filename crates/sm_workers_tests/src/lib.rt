@@ -1,0 +1,7 @@
+//! Workers over connections in memory, in threads, at one account.
+#![tactic(auto)]
+
+#[cfg(test)]
+mod doors;
+#[cfg(test)]
+mod support;
