@@ -5,3 +5,4 @@ pub mod CompleteLemmas
 pub mod StoredLemmas
 pub mod UnopenedLemmas
 pub mod CheckLemmas
+pub mod ServedLemmas

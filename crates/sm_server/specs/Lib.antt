@@ -6,3 +6,4 @@ pub mod Status
 pub mod Ran
 pub mod Complete
 pub mod Stored
+pub mod Served

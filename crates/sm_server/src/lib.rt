@@ -5,9 +5,11 @@ mod answering;
 mod asked;
 mod checking;
 mod run;
+pub mod serving;
 mod status;
 mod turn;
 
 pub use asked::{Task, task_of_mode};
 pub use run::run_once;
+pub use serving::{Ran, RanBy, run_server};
 pub use status::Status;

@@ -201,7 +201,7 @@ fn run_over<Q: Source, K: Sink, D: Disk, C: Clock, W: Words, R: Rotator>(
 }
 
 /// How a run ends whose account was not opened, and the disk again.
-fn end_unopened<D>(refused: OpenRefused<D>) -> (Status, D)
+pub(crate) fn end_unopened<D>(refused: OpenRefused<D>) -> (Status, D)
     ensures status { result.0 ≡ status_unopened refused }
     ensures disk { result.1 ≡ disk_unopened refused }
 {

@@ -1,0 +1,124 @@
+-- Servers: their words, and what they leave.
+use Rattle.std.proofs.Common.{◌≡◌, ◌⊎◌, ℕ, List, [], Option, None, Some, Result, Ok, Err, refl, sym, ap, ◌∙◌, subst, inl, inr}
+use Rattle.sm_disk.specs.declared.disk.Disk.{Ghosts as DiskGhosts}
+use Rattle.sm_disk.specs.OneFile.{EachHas}
+use Rattle.sm_journal.specs.Openings.{ReadsAs}
+use Rattle.sm_journal.specs.declared.answers.OpenRefused.{OpenRefused}
+use Rattle.sm_journal.specs.declared.answers.OpenRefused.TheVariants as refusals
+use Rattle.sm_lock.specs.declared.storied.Storied.{Ghosts as StoriedGhosts}
+use Rattle.sm_model.specs.declared.entry.Entry.{Entry}
+use Rattle.sm_model.specs.declared.entry.Mark.{Mark}
+use Rattle.sm_model.specs.declared.limits.TheConstants.{JOURNAL_LIMIT}
+use Rattle.sm_principal.specs.declared.people.People.{People as Persons}
+use Rattle.sm_rotator.specs.declared.rotator.Rotator.{Ghosts as RotatorGhosts}
+use Rattle.sm_store.specs.Entries.{HasEntries}
+use Rattle.sm_store.specs.declared.files.TheConstants.{JOURNAL}
+use Rattle.sm_account.specs.declared.account.Account.{Account}
+use Rattle.sm_account.specs.Accounts.{base, began, disk, history, taken}
+use Rattle.sm_account.specs.Books.{FaultsBound}
+use Rattle.sm_account.specs.Openings.{IsOpenedOver, IsRefused}
+use Rattle.sm_account.specs.States.{Base, base_of}
+use Rattle.sm_spells.specs.Spells.{History}
+use Rattle.sm_words.specs.declared.settings.Mode.{Mode}
+use Rattle.sm_words.specs.declared.settings.Mode.TheVariants.{Exec, Serve, Check, Drill}
+use Rattle.sm_words.specs.declared.settings.Settings.{Settings}
+use Rattle.sm_workers.specs.declared.worker.WorkerBy.{WorkerBy}
+use Rattle.sm_workers.specs.Closed.{Closed}
+use Rattle.sm_workers.specs.Views.{Views}
+use Rattle.sm_server.specs.declared.status.Status.{Status}
+use Rattle.sm_server.specs.declared.status.Status.TheVariants as statuses
+use Rattle.sm_server.specs.Asked.{FollowsPeople}
+use Rattle.sm_server.specs.Served.{EndsServed, EndsServer, EndsWorkers, FollowsOrders, LeavesAt, OpenedOver, UnopenedOver, end_of_server, end_of_serving}
+use Rattle.sm_server.specs.Stored.{disk_unopened, status_unopened}
+
+-- words that do not ask for a server
+at_mode : (mode : Mode) (status : Status) → Some status ≡ end_of_serving mode → status ≡ statuses.Words
+at_mode Exec status is = let h : Some status ≡ Some statuses.Words = is in cc
+at_mode Serve status is = absurd (let h : Some status ≡ None = is in cc)
+at_mode Check status is = let h : Some status ≡ Some statuses.Words = is in cc
+at_mode Drill status is = let h : Some status ≡ Some statuses.Words = is in cc
+
+at_words : (asked : Option Settings) (status : Status) → Some status ≡ end_of_server asked → status ≡ statuses.Words
+at_words None status is = let h : Some status ≡ Some statuses.Words = is in cc
+at_words (Some settings) status is = at_mode settings.mode status is
+
+pub ended_orders : (asked : Option Settings) (read : Result Persons ℕ) (status : Status)
+    → EndsServer (Some status) asked → FollowsOrders (Err status) asked read
+ended_orders asked read status (inl is) = inl (let h : Some status ≡ Some statuses.Memory = is in cc)
+ended_orders asked read status (inr is) =
+    let words : status ≡ statuses.Words = at_words asked status is in
+    inr (inl (words, sym is ∙ ap (λ (s : Status). Some s) words))
+
+-- words that do, and the text of the people
+serves : (asked : Option Settings) → EndsServer None asked → end_of_server asked ≡ None
+serves asked (inl is) = absurd (let none : Option Status = None in let h : none ≡ Some statuses.Memory = is in cc)
+serves asked (inr is) = sym is
+
+pub read_orders : (asked : Option Settings) (read : Result Persons ℕ) (result : Result Persons Status)
+    → EndsServer None asked → FollowsPeople result read → FollowsOrders result asked read
+read_orders asked read (Ok people) ends follows = (serves asked ends, follows)
+read_orders asked read (Err status) ends (inl is) = inl is
+read_orders asked read (Err status) ends (inr (line, is, at)) = inr (inr (line, at, serves asked ends, is))
+
+-- an account that was not opened
+pub unopened_over : {D : Type 0} (G : DiskGhosts D) (first : D) (refused : OpenRefused D) (status : Status) (now : D)
+    → IsRefused G first refused → status ≡ status_unopened refused → now ≡ disk_unopened refused
+    → UnopenedOver G status first now
+unopened_over G first refused status now is ends back =
+    subst (λ s. UnopenedOver G s first now) (sym ends)
+    (subst (λ d. UnopenedOver G (status_unopened refused) first d) (sym back) (by refused is))
+  where
+    by : (refused : OpenRefused _) → IsRefused G first refused
+        → UnopenedOver G (status_unopened refused) first (disk_unopened refused)
+    by (refusals.Damaged now damage) is = is
+    by (refusals.Failed now) is = is
+    by (refusals.Memory now) is = is
+
+module _ {E K C W R A O D : Type 0} {g : StoriedGhosts A O Mark} (views : Views E K C W R) (G : DiskGhosts D)
+    {V : RotatorGhosts R} (people : Persons) (old new : List (WorkerBy E C W R A O Mark g)) where
+  -- workers that ran
+  ends_at : (account : Account D R G V) (status : Status) → EndsWorkers status new
+      → Closed views people (base account) [] (history account) old new
+      → EndsServed views G people account status old new
+  ends_at account statuses.Done ends closed = (closed, ends)
+  ends_at account statuses.Words ends closed = absurd ends
+  ends_at account (statuses.Damaged at entry) ends closed = absurd ends
+  ends_at account statuses.OpenFault ends closed = absurd ends
+  ends_at account statuses.Memory ends closed = absurd ends
+  ends_at account (statuses.People line) ends closed = absurd ends
+  ends_at account (statuses.SinkFault counted) ends closed = absurd ends
+  ends_at account statuses.SourceFault ends closed = absurd ends
+  ends_at account statuses.EdgeFault ends closed = (closed, ends)
+  ends_at account (statuses.Cut bytes) ends closed = absurd ends
+  ends_at account (statuses.BadMessage place) ends closed = absurd ends
+  ends_at account statuses.Enough ends closed = absurd ends
+  ends_at account statuses.NotBuilt ends closed = absurd ends
+
+  pub ends_closed : (before after : Account D R G V) (status : Status) → EndsWorkers status new
+      → history before ≡ [] → base after ≡ base before
+      → Closed views people (base before) (history before) (history after) old new
+      → EndsServed views G people after status old new
+  ends_closed before after status ends fresh based closed =
+      ends_at after status ends
+      (subst (λ (b : Base). Closed views people b [] (history after) old new) (sym based)
+      (subst (λ (h : History). Closed views people (base before) h (history after) old new) fresh closed))
+
+  -- an account that was opened over a disk
+  pub opened_over : (first : D) (doors : ℕ) (before after : Account D R G V) (status : Status)
+      → IsOpenedOver first doors JOURNAL_LIMIT before
+      → ReadsAs JOURNAL (λ bytes. HasEntries bytes (taken before)) (G.sight first)
+      → LeavesAt views G people before after status old new
+      → OpenedOver views G people first status after old new
+  opened_over first doors before after status opened list left =
+      let began_is : began after ≡ first = left.began_stays ∙ opened.began_is in
+      record {
+        recovered = subst (λ (t : List Entry). ReadsAs JOURNAL (λ bytes. HasEntries bytes t) (G.sight first))
+            (sym left.taken_stays) list;
+        began_is = began_is;
+        base_is = left.base_stays ∙ opened.base_is
+            ∙ ap (λ (t : List Entry). base_of t JOURNAL_LIMIT) (sym left.taken_stays);
+        images = left.images;
+        legal = left.legal;
+        faults = subst (λ d. FaultsBound (G.faults d) (history after) (G.faults (disk after))) began_is left.faults;
+        ends = left.ends;
+      }

@@ -1,0 +1,125 @@
+-- What a server does over its disk with its workers, and how it ends.
+use Rattle.std.specs.Prelude.{◌≡◌, ◌⊎◌, ℕ, List, [], Option, Some, None, Result, Ok, Err}
+use Rattle.sm_disk.specs.declared.disk.Disk.{Ghosts as DiskGhosts}
+use Rattle.sm_disk.specs.OneFile.{EachHas}
+use Rattle.sm_journal.specs.Openings.{ReadsAs}
+use Rattle.sm_journal.specs.declared.answers.OpenRefused.TheVariants as refusals
+use Rattle.sm_lock.specs.declared.storied.Storied.{Ghosts as StoriedGhosts}
+use Rattle.sm_model.specs.declared.entry.Mark.{Mark}
+use Rattle.sm_model.specs.declared.limits.TheConstants.{JOURNAL_LIMIT}
+use Rattle.sm_principal.specs.declared.people.People.{People as Persons}
+use Rattle.sm_rotator.specs.declared.rotator.Rotator.{Ghosts as RotatorGhosts}
+use Rattle.sm_store.specs.Entries.{HasEntries, HasEither}
+use Rattle.sm_store.specs.declared.files.TheConstants.{JOURNAL}
+use Rattle.sm_account.specs.declared.account.Account.{Account}
+use Rattle.sm_account.specs.Accounts.{all_of, base, began, disk, failed, history, taken}
+use Rattle.sm_account.specs.Books.{IsLegal, FaultsBound}
+use Rattle.sm_account.specs.Openings.{IsRefused}
+use Rattle.sm_account.specs.States.{base_of}
+use Rattle.sm_words.specs.declared.settings.Mode.{Mode}
+use Rattle.sm_words.specs.declared.settings.Mode.TheVariants.{Exec, Serve, Check, Drill}
+use Rattle.sm_words.specs.declared.settings.Settings.{Settings}
+use Rattle.sm_workers.specs.declared.worker.WorkerBy.{WorkerBy}
+use Rattle.sm_workers.specs.Closed.{Closed}
+use Rattle.sm_workers.specs.Views.{Views}
+use Rattle.sm_workers.specs.Workers.{NoneFailed, SomeFailed}
+use Rattle.sm_server.specs.declared.serving.RanBy.{RanBy}
+use Rattle.sm_server.specs.declared.serving.RanBy.TheVariants.{Opened, Unopened}
+use Rattle.sm_server.specs.declared.status.Status.{Status}
+use Rattle.sm_server.specs.declared.status.Status.TheVariants.{Done, Words, Damaged, OpenFault, Memory, People, EdgeFault}
+
+-- how a server ends that is not asked to serve
+abbrev pub end_of_serving : Mode → Option Status
+end_of_serving Exec = Some Words
+end_of_serving Serve = None
+end_of_serving Check = Some Words
+end_of_serving Drill = Some Words
+
+-- words that are refused ask for nothing
+abbrev pub end_of_server : Option Settings → Option Status
+end_of_server None = Some Words
+end_of_server (Some settings) = end_of_serving settings.mode
+
+-- a server that does not follow its words ends as it must, or for want of memory
+abbrev pub EndsServer : Option Status → Option Settings → Type 0
+EndsServer end asked = (end ≡ Some Memory) ⊎ (end ≡ end_of_server asked)
+
+-- how a server ends whose workers ended: by an edge exactly where some edge failed
+abbrev pub EndsWorkers : {E C W R A O M : Type 0} {g : StoriedGhosts A O M} → Status → List (WorkerBy E C W R A O M g)
+    → Type 0
+EndsWorkers Done workers = NoneFailed workers
+EndsWorkers EdgeFault workers = SomeFailed workers
+EndsWorkers other workers = ⊥
+
+-- Who may ask, where the words ask for a server and the text of the people was read. Else what ends the server: its
+-- words, the first bad line of that text, or want of memory.
+abbrev pub FollowsOrders : Result Persons Status → Option Settings → Result Persons ℕ → Type 0
+FollowsOrders (Ok people) asked read = (end_of_server asked ≡ None) × (read ≡ Ok people)
+FollowsOrders (Err status) asked read =
+    (status ≡ Memory)
+    ⊎ (((status ≡ Words) × (end_of_server asked ≡ Some Words))
+    ⊎ ((line : ℕ) × (status ≡ People line) × (end_of_server asked ≡ None) × (read ≡ Err line)))
+
+-- how a server ends whose account was not opened, and the disk that is handed back
+abbrev pub UnopenedOver : {D : Type 0} → DiskGhosts D → Status → D → D → Type 0
+UnopenedOver G (Damaged at entry) old new =
+    IsRefused G old (refusals.Damaged new (record { at = at; entry = entry }))
+UnopenedOver G OpenFault old new = IsRefused G old (refusals.Failed new)
+UnopenedOver G Memory old new = IsRefused G old (refusals.Memory new)
+UnopenedOver G other old new = ⊥
+
+-- How a server ends that opened no account: its orders end it, and the disk is as it was; or they were followed, and the
+-- disk's account was not opened.
+abbrev pub UnopenedBy : {D : Type 0} → DiskGhosts D → Option Settings → Result Persons ℕ → Status → D → D → Type 0
+UnopenedBy G asked read status old new =
+    (FollowsOrders (Err status) asked read × (new ≡ old))
+    ⊎ ((people : Persons) × FollowsOrders (Ok people) asked read × UnopenedOver G status old new)
+
+module _ {E K C W R A O D : Type 0} {g : StoriedGhosts A O Mark} (views : Views E K C W R) (G : DiskGhosts D)
+    {V : RotatorGhosts R} where
+  -- How a server ends that opened this account. At 0 each door ended since its edge has no connection left; where it ends
+  -- by an edge, some edge failed; without memory for the lock nobody worked.
+  abbrev pub EndsServed : Persons → Account D R G V → Status → List (WorkerBy E C W R A O Mark g)
+      → List (WorkerBy E C W R A O Mark g) → Type 0
+  EndsServed people account Done old new =
+      Closed views people (base account) [] (history account) old new × NoneFailed new
+  EndsServed people account EdgeFault old new =
+      Closed views people (base account) [] (history account) old new × SomeFailed new
+  EndsServed people account Memory old new = (history account ≡ []) × (new ≡ old)
+  EndsServed people account other old new = ⊥
+
+  -- What workers leave of an account: what it was opened over. Each image of the disk recovers to all of its entries,
+  -- or, while the last write may have failed, perhaps to these and one more. The entries are a legal list.
+  pub record LeavesAt (people : Persons) (before after : Account D R G V) (status : Status)
+      (old new : List (WorkerBy E C W R A O Mark g)) : Type 0 where
+    pub taken_stays : taken after ≡ taken before
+    pub began_stays : began after ≡ began before
+    pub base_stays : base after ≡ base before
+    pub images : EachHas JOURNAL (HasEither (all_of after) (failed after)) (G.sight (disk after)).images
+    pub legal : ∥ IsLegal (all_of after) ∥₁
+    pub faults : FaultsBound (G.faults (began after)) (history after) (G.faults (disk after))
+    pub ends : EndsServed people after status old new
+
+  -- What a server leaves: the account that it opened over what the disk recovered, whose whole history was made by its
+  -- workers, each at its seat.
+  pub record OpenedOver (people : Persons) (first : D) (status : Status) (account : Account D R G V)
+      (old new : List (WorkerBy E C W R A O Mark g)) : Type 0 where
+    pub recovered : ReadsAs JOURNAL (λ bytes. HasEntries bytes (taken account)) (G.sight first)
+    pub began_is : began account ≡ first
+    pub base_is : base account ≡ base_of (taken account) JOURNAL_LIMIT
+    pub images : EachHas JOURNAL (HasEither (all_of account) (failed account)) (G.sight (disk account)).images
+    pub legal : ∥ IsLegal (all_of account) ∥₁
+    pub faults : FaultsBound (G.faults first) (history account) (G.faults (disk account))
+    pub ends : EndsServed people account status old new
+
+  -- by whether it opened an account
+  abbrev pub LeavesOver : Persons → D → RanBy (Account D R G V) D → List (WorkerBy E C W R A O Mark g)
+      → List (WorkerBy E C W R A O Mark g) → Type 0
+  LeavesOver people first (Opened status account) old new = OpenedOver people first status account old new
+  LeavesOver people first (Unopened status now) old new = UnopenedOver G status first now × (new ≡ old)
+
+  abbrev pub RanAs : Option Settings → Result Persons ℕ → D → RanBy (Account D R G V) D
+      → List (WorkerBy E C W R A O Mark g) → List (WorkerBy E C W R A O Mark g) → Type 0
+  RanAs asked read first (Opened status account) old new =
+      (people : Persons) × FollowsOrders (Ok people) asked read × OpenedOver people first status account old new
+  RanAs asked read first (Unopened status now) old new = UnopenedBy G asked read status first now × (new ≡ old)
