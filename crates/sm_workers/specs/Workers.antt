@@ -1,5 +1,6 @@
 -- What a worker does between taking its pass out and putting it back.
-use Rattle.std.specs.Prelude.{◌≡◌, ℕ, ◌<◌, Bool, false, List, ◌++◌, length, get_or, None, Some}
+use Rattle.std.specs.Prelude.{◌≡◌, ℕ, ◌<◌, Bool, true, false, List, ◌++◌, length, get_or, All, None, Some}
+use Rattle.std.specs.List.{Contains}
 use Rattle.sm_lock.specs.Handles.{number, seen, mine, IsIn}
 use Rattle.sm_lock.specs.declared.gate.Gate.{Gate}
 use Rattle.sm_lock.specs.declared.pass.Pass.{Pass}
@@ -37,6 +38,13 @@ module _ {E C W R A O M : Type 0} {g : Ghosts A O M} where
 
   abbrev pub HasNoPass : WorkerBy E C W R A O M g → Type 0
   HasNoPass worker = worker.pass ≡ None
+
+  -- the edge of some door failed, or that of none
+  abbrev pub SomeFailed : List (WorkerBy E C W R A O M g) → Type 0
+  SomeFailed workers = (worker : WorkerBy E C W R A O M g) × Contains workers worker × (worker.failed ≡ true)
+
+  abbrev pub NoneFailed : List (WorkerBy E C W R A O M g) → Type 0
+  NoneFailed workers = All (λ worker. worker.failed ≡ false) workers
 
 module _ {E K C W R : Type 0} (views : Views E K C W R) where
   -- a standing with the rotator

@@ -10,5 +10,5 @@ mod turners;
 pub mod worker;
 mod working;
 
-pub use running::{run_at, run_workers};
+pub use running::{any_failed, run_at, run_workers};
 pub use worker::{ConnEnd, Task, Worker, WorkerBy};

@@ -1,11 +1,11 @@
 //! Running workers at one account, each in a thread of its own.
-ghost use Rattle.std.specs.Prelude.{◌≡◌, ◌<◌, ◌≤◌, All, IfOk, IfErr, OnErr, length, None};
+ghost use Rattle.std.specs.Prelude.{◌≡◌, ◌<◌, ◌≤◌, All, IfOk, IfErr, OnOk, OnErr, MatchBool, length, None};
 ghost use Rattle.sm_account.specs.Accounts.{base, history, began, taken};
 ghost use Rattle.sm_lock.specs.Handles.{built_with, IsIn};
 ghost use Rattle.sm_lock.specs.declared.gate.BuildRefused.TheVariants.{Memory};
 ghost use Rattle.sm_workers.specs.Closed.{Closed};
 ghost use Rattle.sm_workers.specs.Views.{views_by};
-ghost use Rattle.sm_workers.specs.Workers.{AllWorked, HasNoPass, IsFresh};
+ghost use Rattle.sm_workers.specs.Workers.{AllWorked, HasNoPass, IsFresh, NoneFailed, SomeFailed};
 
 use crate::jobs::run_all;
 use crate::passes::{give, take_back};
@@ -13,7 +13,7 @@ use crate::worker::{ConnEnd, WorkerBy};
 use sm_account::Account;
 use sm_disk::Disk;
 use sm_io::{Clock, Edge, Words};
-use sm_lock::{BuildRefused, Gate, Pass};
+use sm_lock::{BuildRefused, Gate, Pass, Storied};
 use sm_model::List;
 use sm_principal::People;
 use sm_rotator::Rotator;
@@ -83,6 +83,7 @@ where
     // The account was opened over the same.
     ensures origin { IfOk result (λ last. (taken last ≡ taken account) × (began last ≡ began account)
         × (base last ≡ base account)) }
+    ensures left { OnOk result (All HasNoPass workers.new) }
     ensures err { IfErr result (λ refused. refused ≡ Memory account) }
     ensures stays { OnErr result (workers.new ≡ workers.old) }
 {
@@ -93,4 +94,16 @@ where
         }
         Err(refused) => Err(refused),
     }
+}
+
+/// Whether the edge of some door failed. It takes no memory.
+pub fn any_failed<E, C, W, R, A: Storied>(workers: &[WorkerBy<E, C, W, R, A>]) -> bool
+    ensures { MatchBool result (SomeFailed workers.now) (NoneFailed workers.now) }
+{
+    for worker in workers {
+        if worker.failed {
+            return true;
+        }
+    }
+    false
 }

@@ -21,14 +21,16 @@ fn run<R: Threads + Wait + Sync>(
     add(&mut workers, door(alloc, &["db/one", "db/two"], None)?)?;
     add(&mut workers, door(alloc, &["db/three"], fails_from)?)?;
     add(&mut workers, turner(alloc))?;
-    let Ok(last) = run_at(rt, alloc, account, workers.as_mut_slice(), &People::Everybody) else {
+    let Ok(last) = run_at(
+        rt,
+        alloc,
+        account,
+        workers.as_mut_slice(),
+        &People::Everybody,
+    ) else {
         return Ok(None);
     };
-    Ok(Some((
-        outcome(&workers[0]),
-        outcome(&workers[1]),
-        last.entries(),
-    )))
+    Ok(Some((outcome(&workers[0]), outcome(&workers[1]), last.entries())))
 }
 
 #[test]

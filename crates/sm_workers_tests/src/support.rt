@@ -94,9 +94,12 @@ pub fn outcome(worker: &Over) -> (usize, bool, bool) {
     match &worker.task {
         Task::Door(edge) => {
             let back = edge.back();
-            let well = back
-                .iter()
-                .all(|pair| pair.0.sink().taken().as_slice().starts_with(b"HTTP/1.1 200 OK\r\n"));
+            let well = back.iter().all(|pair| pair
+                .0
+                .sink()
+                .taken()
+                .as_slice()
+                .starts_with(b"HTTP/1.1 200 OK\r\n"));
             (back.len(), well, worker.failed)
         }
         Task::Turner(_) => (0, true, worker.failed),

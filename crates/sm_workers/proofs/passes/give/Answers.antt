@@ -13,7 +13,7 @@ loop-left-preserved g c =
     let some = c.loop-left-test.true in
     let one : left - 1 + 1 ≡ left = omega (arith, some) in
     let parts : (p : _)
-        → c.pop.new.self.items ++ pass ∷ [] ≡ take (left - 1) passes ++ get_or passes (left - 1) p ∷ [] =
+    → c.pop.new.self.items ++ pass ∷ [] ≡ take (left - 1) passes ++ get_or passes (left - 1) p ∷ [] =
     λ p. sym (ap (λ o. c.pop.new.self.items ++ option_to_list o) c.in-Some.is) ∙ sym c.pop.ensures.items ∙ i.room
     ∙ ap (λ n. take n passes) (sym one)
     ∙ take_more passes (left - 1) p (omega (arith, some, i.so_far.within, c.requires)) in
