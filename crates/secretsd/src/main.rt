@@ -1,23 +1,36 @@
 //! A server with the behaviour of AWS Secrets Manager on one's own machine.
 //!
-//! For now it answers the HTTP messages of standard input on standard output and ends:
-//! `secretsd --data FOLDER < messages`. `secretsd --mode check --data FOLDER` says what the folder holds.
+//! `secretsd --mode serve --data FOLDER` serves at an address. `secretsd --data FOLDER < messages` answers the HTTP
+//! messages of standard input on standard output and ends. `secretsd --mode check --data FOLDER` says what the folder
+//! holds.
 //! `secretsd --help` says which words it takes.
 #![tactic(auto)]
 
-use sm_disk::{Disk, FileDisk, MemoryDisk};
+mod crew;
+mod orders;
+mod rotators;
+mod serving;
+
+ghost use Rattle.sm_words.specs.Reading.{IsInBounds};
+
+use crate::orders::{Orders, empty_disk};
+use crate::rotators::{Linked, Local, MakeRotator};
+use crate::serving::serve;
+use sm_disk::{Disk, FileDisk};
 use sm_io::{
     Clock, CountWords, FixedClock, StreamSink, StreamSource, SystemClock, SystemWords, Words,
 };
-use sm_model::{Bytes, Copied, Fails, Moment, NoMemory};
+use sm_model::{Fails, Moment, NoMemory};
 use sm_principal::{People, PeopleRefused};
-use sm_rotator::{LinkRotator, LocalRotator, Rotator};
-use sm_server::{Status, run_once, task_of_mode};
-use sm_words::{Settings, WordsRefused, read_words, refusal_of};
+use sm_rotator::Rotator;
+use sm_server::{Status, run_once};
+use sm_words::{Mode, Settings, WordsRefused, read_words, refusal_of};
 use std::alloc::Global;
 use std::env::Env;
 use std::io::ErrorKind;
 use std::process::ExitCode;
+use std::sync::Wait;
+use std::thread::Threads;
 use std::{env, fs, io};
 
 /// What the clock reads where a number is given.
@@ -25,7 +38,7 @@ const FIXED_MOMENT: Moment = Moment(1_700_000_000);
 
 fn main(rt: HostRuntime) -> ExitCode {
     let status = match words(&rt, rt.alloc()) {
-        Ok(words) => follow(&rt, words.as_slice()),
+        Ok(words) => follow(&rt, &rt, words.as_slice()),
         Err(error) if error.kind() == ErrorKind::OutOfMemory => Status::Memory,
         Err(_) => {
             let _ = eprintln!(rt; "secretsd: a word of the command line is not UTF-8");
@@ -48,36 +61,55 @@ fn words(rt: &(impl Env + AllocGlobal), alloc: Global) -> io::Result<Vec<String>
     Ok(words)
 }
 
-/// What a run is asked for: its words, what they say, and the text of the people who may ask.
-#[derive(Drop)]
-struct Orders<'a> {
-    words: &'a [String],
-    settings: &'a Settings,
-    people: &'a [u8],
-}
-
 /// Does what the words ask for. No folder is opened for words that are not followed.
-fn follow(rt: &HostRuntime, words: &[String]) -> Status {
+fn follow<H: Threads + Wait + Sync>(rt: &HostRuntime, threads: &H, words: &[String]) -> Status {
     match read_words(rt.alloc(), words) {
-        Ok(settings) => match task_of_mode(settings.mode) {
-            Ok(_) => match people_text(rt, &settings) {
-                Ok(people) => run(
-                    rt,
-                    &Orders {
-                        words,
-                        settings: &settings,
-                        people: people.as_slice(),
-                    },
-                ),
-                Err(status) => status,
-            },
-            Err(status) => {
-                let _ = eprintln!(rt; "secretsd: only --mode exec and --mode check are built yet");
-                status
-            }
+        Ok(settings) => match unbuilt(rt, settings.mode) {
+            Some(status) => status,
+            None => follow_settings(rt, threads, words, &settings),
         },
         Err(WordsRefused::Refused) => say_refusal(rt, words),
         Err(WordsRefused::Memory) => Status::Memory,
+    }
+}
+
+/// How the program ends that has no such mode yet.
+fn unbuilt(rt: &HostRuntime, mode: Mode) -> Option<Status> {
+    match mode {
+        Mode::Drill => {
+            let _ = eprintln!(rt; "secretsd: --mode drill is not built yet");
+            Some(Status::NotBuilt)
+        }
+        Mode::Exec => None,
+        Mode::Serve => None,
+        Mode::Check => None,
+    }
+}
+
+/// Reads the text of the people, and serves, or runs over the one stream.
+fn follow_settings<H: Threads + Wait + Sync>(
+    rt: &HostRuntime,
+    threads: &H,
+    words: &[String],
+    settings: &Settings,
+) -> Status
+    requires { IsInBounds settings.now }
+{
+    match people_text(rt, settings) {
+        Ok(people) => {
+            let people = people.as_slice();
+            let orders = Orders {
+                words,
+                settings,
+                people,
+            };
+            if settings.mode == Mode::Serve {
+                serve(rt, threads, &orders)
+            } else {
+                run(rt, &orders)
+            }
+        }
+        Err(status) => status,
     }
 }
 
@@ -149,17 +181,6 @@ fn run_over_folder(rt: &HostRuntime, orders: &Orders, folder: &str) -> Status {
     }
 }
 
-/// An empty disk in memory.
-fn empty_disk(alloc: Global) -> Result<MemoryDisk, NoMemory> {
-    MemoryDisk::new(
-        alloc,
-        Bytes::empty(alloc),
-        Bytes::empty(alloc),
-        Bytes::empty(alloc),
-        Fails::never(alloc),
-    )
-}
-
 /// Runs over a disk: with a fixed clock and bytes that count up where a number is given, and else with the system's.
 fn run_over<D: Disk + Drop>(rt: &HostRuntime, orders: &Orders, disk: D) -> Status {
     let alloc = rt.alloc();
@@ -187,13 +208,25 @@ fn run_with<D: Disk + Drop, C: Clock, W: Words>(
     random: &mut W,
 ) -> Status {
     let alloc = rt.alloc();
-    if orders.settings.rotator.as_str() == "local" {
-        let mut rotator = LocalRotator::new(alloc);
-        return run_stream(rt, orders, disk, clock, random, &mut rotator);
+    let address = &orders.settings.rotator;
+    if address.as_str() == "local" {
+        return run_made(rt, orders, disk, clock, random, &Local { alloc });
     }
-    match orders.settings.rotator.copy(alloc) {
-        Ok(address) => {
-            let mut rotator = LinkRotator::new(alloc, rt, address);
+    run_made(rt, orders, disk, clock, random, &Linked { rt, address })
+}
+
+/// Runs with a rotator of this kind.
+fn run_made<D: Disk + Drop, C: Clock, W: Words, M: MakeRotator>(
+    rt: &HostRuntime,
+    orders: &Orders,
+    disk: D,
+    clock: &mut C,
+    random: &mut W,
+    rotators: &M,
+) -> Status {
+    match rotators.make() {
+        Ok(rotator) => {
+            let mut rotator = rotator;
             run_stream(rt, orders, disk, clock, random, &mut rotator)
         }
         Err(NoMemory) => Status::Memory,

@@ -25,10 +25,12 @@ use Rattle.sm_words.specs.declared.settings.Settings.{Settings}
 use Rattle.sm_workers.specs.declared.worker.WorkerBy.{WorkerBy}
 use Rattle.sm_workers.specs.Closed.{Closed}
 use Rattle.sm_workers.specs.Views.{Views}
+use Rattle.sm_server.specs.declared.serving.RanBy.{RanBy}
+use Rattle.sm_server.specs.declared.serving.RanBy.TheVariants.{Opened, Unopened}
 use Rattle.sm_server.specs.declared.status.Status.{Status}
 use Rattle.sm_server.specs.declared.status.Status.TheVariants as statuses
 use Rattle.sm_server.specs.Asked.{FollowsPeople}
-use Rattle.sm_server.specs.Served.{EndsServed, EndsServer, EndsWorkers, FollowsOrders, LeavesAt, OpenedOver, UnopenedOver, end_of_server, end_of_serving}
+use Rattle.sm_server.specs.Served.{EndsServed, EndsServer, EndsWorkers, FollowsOrders, LeavesAt, LeavesOver, OpenedOver, RanAs, UnopenedOver, end_of_server, end_of_serving}
 use Rattle.sm_server.specs.Stored.{disk_unopened, status_unopened}
 
 -- words that do not ask for a server
@@ -122,3 +124,10 @@ module _ {E K C W R A O D : Type 0} {g : StoriedGhosts A O Mark} (views : Views 
         faults = subst (λ d. FaultsBound (G.faults d) (history after) (G.faults (disk after))) began_is left.faults;
         ends = left.ends;
       }
+
+  -- the orders, and what was left over the disk
+  pub ran_as : (asked : Option Settings) (read : Result Persons ℕ) (first : D) (result : RanBy (Account D R G V) D)
+      → FollowsOrders (Ok people) asked read → LeavesOver views G people first result old new
+      → RanAs views G asked read first result old new
+  ran_as asked read first (Opened status account) follows left = (people, follows, left)
+  ran_as asked read first (Unopened status now) follows left = (inr (people, follows, left.0), left.1)

@@ -134,10 +134,14 @@ where
 
 /// How many of the workers are doors.
 fn doors_of<E, D: Disk, C, W, R: Rotator>(workers: &[WorkerBy<E, C, W, R, Account<D, R>>]) -> u32 {
-    workers
-        .iter()
-        .filter(|worker| matches!(worker.task, Task::Door(_)))
-        .count() as u32
+    let mut doors: u32 = 0;
+    for worker in workers {
+        doors = match &worker.task {
+            Task::Door(_) => doors.saturating_add(1),
+            Task::Turner(_) => doors,
+        };
+    }
+    doors
 }
 
 /// Runs the workers at an account that was just opened.

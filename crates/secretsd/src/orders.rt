@@ -1,0 +1,24 @@
+//! What a run is asked for.
+use sm_disk::MemoryDisk;
+use sm_model::{Bytes, Fails, NoMemory};
+use sm_words::Settings;
+use std::alloc::Global;
+
+/// What a run is asked for: its words, what they say, and the text of the people who may ask.
+#[derive(Drop)]
+pub struct Orders<'a> {
+    pub words: &'a [String],
+    pub settings: &'a Settings,
+    pub people: &'a [u8],
+}
+
+/// An empty disk in memory.
+pub fn empty_disk(alloc: Global) -> Result<MemoryDisk, NoMemory> {
+    MemoryDisk::new(
+        alloc,
+        Bytes::empty(alloc),
+        Bytes::empty(alloc),
+        Bytes::empty(alloc),
+        Fails::never(alloc),
+    )
+}

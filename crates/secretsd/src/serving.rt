@@ -1,0 +1,133 @@
+//! Mode serve: workers at an address.
+ghost use Rattle.sm_words.specs.Reading.{IsInBounds};
+
+use crate::crew::{Hand, add_doors, add_turners};
+use crate::orders::{Orders, empty_disk};
+use crate::rotators::{Linked, Local, MakeRotator};
+use sm_disk::{Disk, FileDisk};
+use sm_model::NoMemory;
+use sm_server::{RanBy, Status, run_server};
+use std::net::TcpListener;
+use std::sync::Wait;
+use std::thread::Threads;
+
+/// Listens at the address that the words name, and serves until a signal ends the program.
+pub fn serve<H: Threads + Wait + Sync>(rt: &HostRuntime, threads: &H, orders: &Orders) -> Status
+    requires { IsInBounds orders.now.settings }
+{
+    let address = orders.settings.listen.as_str();
+    match TcpListener::bind(rt, address) {
+        Ok(listener) => serve_disk(rt, threads, orders, &listener),
+        Err(error) => {
+            let _ = eprintln!(rt; "secretsd: can't listen on {address}: {error}");
+            Status::EdgeFault
+        }
+    }
+}
+
+/// Serves over the folder that is named, and else over a disk in memory.
+fn serve_disk<H: Threads + Wait + Sync>(
+    rt: &HostRuntime,
+    threads: &H,
+    orders: &Orders,
+    listener: &TcpListener,
+) -> Status
+    requires { IsInBounds orders.now.settings }
+{
+    match &orders.settings.folder {
+        Some(folder) => serve_folder(rt, threads, orders, listener, folder.as_str()),
+        None => match empty_disk(rt.alloc()) {
+            Ok(disk) => {
+                say_listening(rt, orders, listener, "memory");
+                serve_over(rt, threads, orders, listener, disk)
+            }
+            Err(NoMemory) => Status::Memory,
+        },
+    }
+}
+
+/// Serves over a folder.
+fn serve_folder<H: Threads + Wait + Sync>(
+    rt: &HostRuntime,
+    threads: &H,
+    orders: &Orders,
+    listener: &TcpListener,
+    folder: &str,
+) -> Status
+    requires { IsInBounds orders.now.settings }
+{
+    match FileDisk::open(rt, rt.alloc(), folder) {
+        Ok(disk) => {
+            say_listening(rt, orders, listener, folder);
+            serve_over(rt, threads, orders, listener, disk)
+        }
+        Err(refused) => {
+            let _ = eprintln!(rt; "secretsd: the folder {folder} can't be opened: {refused}");
+            Status::OpenFault
+        }
+    }
+}
+
+/// Says where it listens, where the secrets are, and how many workers there are. With the port 0 the system chose one.
+fn say_listening(rt: &HostRuntime, orders: &Orders, listener: &TcpListener, place: &str) {
+    let connections = orders.settings.connections;
+    let workers = orders.settings.workers;
+    let _ = match listener.local_addr() {
+        Ok(address) => eprintln!(rt;
+            "secretsd: listening on {address}, data in {place}, {connections} connections, {workers} rotation workers"
+        ),
+        Err(error) => eprintln!(rt;
+            "secretsd: listening, but at no address that is known: {error}"
+        ),
+    };
+}
+
+/// Serves over a disk, with the local rotator or those behind an address.
+fn serve_over<D: Disk + Drop + Send, H: Threads + Wait + Sync>(
+    rt: &HostRuntime,
+    threads: &H,
+    orders: &Orders,
+    listener: &TcpListener,
+    disk: D,
+) -> Status
+    requires { IsInBounds orders.now.settings }
+{
+    let alloc = rt.alloc();
+    let address = &orders.settings.rotator;
+    if address.as_str() == "local" {
+        return serve_with(rt, threads, orders, listener, disk, &Local { alloc });
+    }
+    serve_with(rt, threads, orders, listener, disk, &Linked { rt, address })
+}
+
+/// Serves with these rotators.
+fn serve_with<D: Disk + Drop + Send, M: MakeRotator, H: Threads + Wait + Sync>(
+    rt: &HostRuntime,
+    threads: &H,
+    orders: &Orders,
+    listener: &TcpListener,
+    disk: D,
+    rotators: &M,
+) -> Status
+    requires { IsInBounds orders.now.settings }
+{
+    let mut workers: Vec<Hand<D, M::Made>> = Vec::new(rt.alloc());
+    if let Err(status) = add_doors(rt, &mut workers, listener, orders.settings.connections) {
+        return status;
+    }
+    if let Err(NoMemory) = add_turners(rt, &mut workers, rotators, orders.settings.workers) {
+        return Status::Memory;
+    }
+    let ran = run_server(
+        threads,
+        rt.alloc(),
+        orders.words,
+        workers.as_mut_slice(),
+        disk,
+        orders.people,
+    );
+    match ran {
+        RanBy::Opened(status, _) => status,
+        RanBy::Unopened(status, _) => status,
+    }
+}

@@ -1,0 +1,19 @@
+use Rattle.sm_server.proofs.ServedLemmas.{ends_closed}
+use Rattle.sm_server.proofs.serving.serve_at.Goals as goal
+
+pub returns-in-Ok : goal.returns-in-Ok
+returns-in-Ok g c =
+    let origin = c.in-Ok.ensures.origin in
+    record {
+      ran = record {
+        taken_stays = origin.0;
+        began_stays = origin.1;
+        base_stays = origin.2;
+        images = c.standing.ensures.images;
+        legal = c.standing.ensures.legal;
+        faults = c.standing.ensures.faults;
+        ends = ends_closed _ g.D.Disk c.args.people.now c.args.workers.now c.run_at.new.workers c.args.account
+            c.in-Ok.account c.end_of_workers.result c.end_of_workers.ensures c.requires.empty origin.2
+            c.in-Ok.ensures.closed;
+      };
+    }
