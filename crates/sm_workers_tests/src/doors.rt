@@ -46,3 +46,28 @@ fn a_door_whose_edge_fails_says_so(rt: HostRuntime) -> Result<(), Fail> {
     assert_eq!(rt; out, Some(((2, true, false), (0, true, true), 2)));
     Ok(())
 }
+
+/// A turner at an account with no open door, and how many entries that has then.
+fn turn_alone<R: Threads + Wait + Sync>(rt: &R, alloc: Global) -> Result<Option<u64>, Fail> {
+    let Some(account) = account(alloc, 0) else {
+        return Ok(None);
+    };
+    let mut workers = Vec::new(alloc);
+    add(&mut workers, turner(alloc))?;
+    match run_at(
+        rt,
+        alloc,
+        account,
+        workers.as_mut_slice(),
+        &People::Everybody,
+    ) {
+        Ok(last) => Ok(Some(last.entries())),
+        Err(_) => Ok(None),
+    }
+}
+
+#[test]
+fn a_turner_ends_where_no_door_is_open(rt: HostRuntime) -> Result<(), Fail> {
+    assert_eq!(rt; turn_alone(&rt, rt.alloc())?, Some(0));
+    Ok(())
+}
