@@ -43,7 +43,7 @@ pub fn add_doors<'a, D: Disk + Drop, R: Rotator + Drop>(
     count: u32,
 ) -> Result<(), Status>
     requires all { All IsFresh workers.old.items }
-    ensures all { All IsFresh workers.new.items }
+    ensures all { OnOk result (All IsFresh workers.new.items) }
     ensures long { OnOk result (vec_len workers.new ≡ vec_len workers.old + count) }
 {
     for number in 0..count {
@@ -74,7 +74,7 @@ pub fn add_turners<'a, D: Disk + Drop, M: MakeRotator>(
     count: u32,
 ) -> Result<(), NoMemory>
     requires all { All IsFresh workers.old.items }
-    ensures all { All IsFresh workers.new.items }
+    ensures all { OnOk result (All IsFresh workers.new.items) }
     ensures long { OnOk result (vec_len workers.new ≡ vec_len workers.old + count) }
 {
     for number in 0..count {

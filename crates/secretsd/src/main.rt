@@ -212,7 +212,12 @@ fn run_with<D: Disk + Drop, C: Clock, W: Words>(
     if address.as_str() == "local" {
         return run_made(rt, orders, disk, clock, random, &Local { alloc });
     }
-    run_made(rt, orders, disk, clock, random, &Linked { rt, address })
+    let linked = Linked {
+        alloc,
+        system: rt,
+        address,
+    };
+    run_made(rt, orders, disk, clock, random, &linked)
 }
 
 /// Runs with a rotator of this kind.

@@ -2,6 +2,8 @@
 use sm_model::{Copied, NoMemory, Text};
 use sm_rotator::{LinkRotator, LocalRotator, Rotator};
 use std::alloc::Global;
+use std::net::Net;
+use std::time::Clock;
 
 /// What makes rotators of one kind.
 pub trait MakeRotator {
@@ -25,18 +27,19 @@ impl MakeRotator for Local {
     }
 }
 
-/// Makes rotators behind an address.
+/// Makes rotators behind an address, by a system's network and clock.
 #[derive(Drop)]
-pub struct Linked<'a> {
-    pub rt: &'a HostRuntime,
+pub struct Linked<'a, S> {
+    pub alloc: Global,
+    pub system: S,
     pub address: &'a Text,
 }
 
-impl<'a> MakeRotator for Linked<'a> {
-    type Made = LinkRotator<&'a HostRuntime>;
+impl<'a, S: Net + Clock + Copy + Drop + Send> MakeRotator for Linked<'a, S> {
+    type Made = LinkRotator<S>;
 
-    fn make(&self) -> Result<LinkRotator<&'a HostRuntime>, NoMemory> {
-        let alloc = self.rt.alloc();
-        Ok(LinkRotator::new(alloc, self.rt, self.address.copy(alloc)?))
+    fn make(&self) -> Result<LinkRotator<S>, NoMemory> {
+        let address = self.address.copy(self.alloc)?;
+        Ok(LinkRotator::new(self.alloc, self.system, address))
     }
 }

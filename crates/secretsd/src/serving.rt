@@ -13,7 +13,7 @@ use std::thread::Threads;
 
 /// Listens at the address that the words name, and serves until a signal ends the program.
 pub fn serve<H: Threads + Wait + Sync>(rt: &HostRuntime, threads: &H, orders: &Orders) -> Status
-    requires { IsInBounds orders.now.settings }
+    requires { IsInBounds orders.now.settings.now }
 {
     let address = orders.settings.listen.as_str();
     match TcpListener::bind(rt, address) {
@@ -32,7 +32,7 @@ fn serve_disk<H: Threads + Wait + Sync>(
     orders: &Orders,
     listener: &TcpListener,
 ) -> Status
-    requires { IsInBounds orders.now.settings }
+    requires { IsInBounds orders.now.settings.now }
 {
     match &orders.settings.folder {
         Some(folder) => serve_folder(rt, threads, orders, listener, folder.as_str()),
@@ -54,7 +54,7 @@ fn serve_folder<H: Threads + Wait + Sync>(
     listener: &TcpListener,
     folder: &str,
 ) -> Status
-    requires { IsInBounds orders.now.settings }
+    requires { IsInBounds orders.now.settings.now }
 {
     match FileDisk::open(rt, rt.alloc(), folder) {
         Ok(disk) => {
@@ -90,14 +90,19 @@ fn serve_over<D: Disk + Drop + Send, H: Threads + Wait + Sync>(
     listener: &TcpListener,
     disk: D,
 ) -> Status
-    requires { IsInBounds orders.now.settings }
+    requires { IsInBounds orders.now.settings.now }
 {
     let alloc = rt.alloc();
     let address = &orders.settings.rotator;
     if address.as_str() == "local" {
         return serve_with(rt, threads, orders, listener, disk, &Local { alloc });
     }
-    serve_with(rt, threads, orders, listener, disk, &Linked { rt, address })
+    let linked = Linked {
+        alloc,
+        system: rt,
+        address,
+    };
+    serve_with(rt, threads, orders, listener, disk, &linked)
 }
 
 /// Serves with these rotators.
@@ -109,7 +114,7 @@ fn serve_with<D: Disk + Drop + Send, M: MakeRotator, H: Threads + Wait + Sync>(
     disk: D,
     rotators: &M,
 ) -> Status
-    requires { IsInBounds orders.now.settings }
+    requires { IsInBounds orders.now.settings.now }
 {
     let mut workers: Vec<Hand<D, M::Made>> = Vec::new(rt.alloc());
     if let Err(status) = add_doors(rt, &mut workers, listener, orders.settings.connections) {
