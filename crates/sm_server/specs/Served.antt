@@ -68,8 +68,8 @@ UnopenedOver G OpenFault old new = IsRefused G old (refusals.Failed new)
 UnopenedOver G Memory old new = IsRefused G old (refusals.Memory new)
 UnopenedOver G other old new = ⊥
 
--- How a server ends that opened no account: its orders end it, and the disk is as it was; or they were followed, and the
--- disk's account was not opened.
+-- How a server ends that opened no account: its orders end it, and the disk is as it was; or they were followed, and
+-- the disk's account was not opened.
 abbrev pub UnopenedBy : {D : Type 0} → DiskGhosts D → Option Settings → Result Persons ℕ → Status → D → D → Type 0
 UnopenedBy G asked read status old new =
     (FollowsOrders (Err status) asked read × (new ≡ old))
@@ -77,8 +77,8 @@ UnopenedBy G asked read status old new =
 
 module _ {E K C W R A O D : Type 0} {g : StoriedGhosts A O Mark} (views : Views E K C W R) (G : DiskGhosts D)
     {V : RotatorGhosts R} where
-  -- How a server ends that opened this account. At 0 each door ended since its edge has no connection left; where it ends
-  -- by an edge, some edge failed; without memory for the lock nobody worked.
+  -- How a server ends that opened this account. At 0 each door ended since its edge has no connection left; where it
+  -- ends by an edge, some edge failed; without memory for the lock nobody worked.
   abbrev pub EndsServed : Persons → Account D R G V → Status → List (WorkerBy E C W R A O Mark g)
       → List (WorkerBy E C W R A O Mark g) → Type 0
   EndsServed people account Done old new =
