@@ -20,7 +20,7 @@ use sm_disk::{Disk, FileDisk};
 use sm_io::{
     Clock, CountWords, FixedClock, StreamSink, StreamSource, SystemClock, SystemWords, Words,
 };
-use sm_model::{Fails, Moment, NoMemory};
+use sm_model::{Copied, Fails, Moment, NoMemory};
 use sm_principal::{People, PeopleRefused};
 use sm_rotator::Rotator;
 use sm_server::{Status, run_once};
@@ -208,16 +208,20 @@ fn run_with<D: Disk + Drop, C: Clock, W: Words>(
     random: &mut W,
 ) -> Status {
     let alloc = rt.alloc();
-    let address = &orders.settings.rotator;
-    if address.as_str() == "local" {
+    if orders.settings.rotator.as_str() == "local" {
         return run_made(rt, orders, disk, clock, random, &Local { alloc });
     }
-    let linked = Linked {
-        alloc,
-        system: rt,
-        address,
-    };
-    run_made(rt, orders, disk, clock, random, &linked)
+    match orders.settings.rotator.copy(alloc) {
+        Ok(address) => {
+            let linked = Linked {
+                alloc,
+                system: rt,
+                address,
+            };
+            run_made(rt, orders, disk, clock, random, &linked)
+        }
+        Err(NoMemory) => Status::Memory,
+    }
 }
 
 /// Runs with a rotator of this kind.

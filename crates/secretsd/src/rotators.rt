@@ -29,13 +29,13 @@ impl MakeRotator for Local {
 
 /// Makes rotators behind an address, by a system's network and clock.
 #[derive(Drop)]
-pub struct Linked<'a, S> {
+pub struct Linked<S> {
     pub alloc: Global,
     pub system: S,
-    pub address: &'a Text,
+    pub address: Text,
 }
 
-impl<'a, S: Net + Clock + Copy + Drop + Send> MakeRotator for Linked<'a, S> {
+impl<S: Net + Clock + Copy + Drop + Send> MakeRotator for Linked<S> {
     type Made = LinkRotator<S>;
 
     fn make(&self) -> Result<LinkRotator<S>, NoMemory> {

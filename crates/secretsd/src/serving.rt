@@ -5,7 +5,7 @@ use crate::crew::{Hand, add_doors, add_turners};
 use crate::orders::{Orders, empty_disk};
 use crate::rotators::{Linked, Local, MakeRotator};
 use sm_disk::{Disk, FileDisk};
-use sm_model::NoMemory;
+use sm_model::{Copied, NoMemory};
 use sm_server::{RanBy, Status, run_server};
 use std::net::TcpListener;
 use std::sync::Wait;
@@ -93,16 +93,20 @@ fn serve_over<D: Disk + Drop + Send, H: Threads + Wait + Sync>(
     requires { IsInBounds orders.now.settings.now }
 {
     let alloc = rt.alloc();
-    let address = &orders.settings.rotator;
-    if address.as_str() == "local" {
+    if orders.settings.rotator.as_str() == "local" {
         return serve_with(rt, threads, orders, listener, disk, &Local { alloc });
     }
-    let linked = Linked {
-        alloc,
-        system: rt,
-        address,
-    };
-    serve_with(rt, threads, orders, listener, disk, &linked)
+    match orders.settings.rotator.copy(alloc) {
+        Ok(address) => {
+            let linked = Linked {
+                alloc,
+                system: rt,
+                address,
+            };
+            serve_with(rt, threads, orders, listener, disk, &linked)
+        }
+        Err(NoMemory) => Status::Memory,
+    }
 }
 
 /// Serves with these rotators.
