@@ -8,6 +8,7 @@ use sm_io::{CountWords, FixedClock, MemoryConn, MemoryEdge, MemorySink, MemorySo
 use sm_model::limits::JOURNAL_LIMIT;
 use sm_model::{Bytes, Fails, List, Moment};
 use sm_rotator::NoRotator;
+use sm_session::Ended;
 use sm_workers::{ConnEnd, Task, Worker};
 use std::alloc::Global;
 use std::test::Fail;
@@ -89,17 +90,16 @@ pub fn add(workers: &mut Vec<Over>, worker: Over) -> Result<(), Fail>
     Ok(())
 }
 
-/// How many connections came back to a door, whether each got a secret's reply, and whether the edge failed.
+/// How many connections came back to a door, whether each got a secret's reply and ended well, and whether the edge
+/// failed.
 pub fn outcome(worker: &Over) -> (usize, bool, bool) {
     match &worker.task {
         Task::Door(edge) => {
             let back = edge.back();
-            let well = back.iter().all(|pair| pair
-                .0
-                .sink()
-                .taken()
-                .as_slice()
-                .starts_with(b"HTTP/1.1 200 OK\r\n"));
+            let well = back.iter().all(|pair| {
+                let taken = pair.0.sink().taken().as_slice();
+                taken.starts_with(b"HTTP/1.1 200 OK\r\n") && pair.1.ended == Ended::Closed
+            });
             (back.len(), well, worker.failed)
         }
         Task::Turner(_) => (0, true, worker.failed),
