@@ -31,7 +31,7 @@ rises_on low n ns ms next h step =
     let parts = and_parts (leb low n) (rises (n + 1) ns next) h in
     and_from (leb low n) (rises (n + 1) ms next) parts.0 (step parts.1)
 
-swept_rises : (rows : List SecretRow) (moment : Moment) (low next : ℕ) → rises low (row_serials rows) next ≡ true
+pub swept_rises : (rows : List SecretRow) (moment : Moment) (low next : ℕ) → rises low (row_serials rows) next ≡ true
     → rises low (row_serials (swept rows moment)) next ≡ true
 swept_rises [] moment low next h = h
 swept_rises (r ∷ rs) moment low next h =

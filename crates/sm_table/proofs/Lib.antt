@@ -1,4 +1,5 @@
 pub mod RowLemmas
+pub mod SerialLemmas
 pub mod FoundLemmas
 pub mod KeptLaws
 pub mod NameLaws

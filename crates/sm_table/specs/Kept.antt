@@ -16,6 +16,10 @@ abbrev pub row_serials : List SecretRow → List ℕ
 row_serials [] = []
 row_serials (r ∷ rs) = r.serial ∷ row_serials rs
 
+-- serials rise
+abbrev pub IsRising : List SecretRow → Type 0
+IsRising rows = (next : ℕ) × IsTrue (rises 0 (row_serials rows) next)
+
 -- each row is as a secret is between any two changes
 abbrev pub EachKept : List SecretRow → Type 0
 EachKept [] = Unit {0}

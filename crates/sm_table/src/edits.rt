@@ -1,10 +1,11 @@
 //! Changes of a list of rows.
-ghost use Rattle.std.specs.Prelude.{◌≡◌, ◌<◌, ◌≤◌, ◌+◌, not, nat_eq, nat_le, nat_lt, length, vec_len, vec_capacity};
+ghost use Rattle.std.specs.Prelude.{◌≡◌, ◌<◌, ◌≤◌, ◌+◌, not, nat_eq, nat_le, nat_lt, length, IfSome, vec_len, vec_capacity};
 ghost use Rattle.std.specs.Prelude.{[], ◌∷◌, ◌++◌};
 ghost use Rattle.std.specs.List.{position};
 ghost use Rattle.sm_versions.specs.Due.{is_reached};
 ghost use Rattle.sm_table.specs.Sweep.{is_gone, swept};
 ghost use Rattle.sm_table.specs.Changes.{replaced, dropped};
+ghost use Rattle.sm_table.specs.Kept.{IsRising};
 
 use sm_model::{Moment, SecretRow};
 
@@ -48,8 +49,28 @@ fn place_of(rows: &[SecretRow], serial: u64) -> Option<usize>
     rows.iter().position(|row| has_serial(row, serial))
 }
 
-/// Puts the row in the place of the one with its serial.
-pub fn replace(rows: &mut Vec<SecretRow>, row: SecretRow)
+/// Puts the row in the place of the one with its serial, which is looked for only where it is not the row at the place
+/// of its name.
+pub fn replace(rows: &mut Vec<SecretRow>, named: Option<usize>, row: SecretRow)
+    requires within { IfSome named (λ i. i < length rows.old.items) }
+    requires rising { IsRising rows.old.items }
+    ensures rows { rows.new.items ≡ replaced rows.old.items row }
+    ensures room { vec_capacity rows.new ≡ vec_capacity rows.old }
+{
+    match named {
+        Some(i) => {
+            if has_serial(&rows[i], row.serial) {
+                rows[i] = row;
+            } else {
+                replace_first(rows, row);
+            }
+        }
+        None => replace_first(rows, row),
+    }
+}
+
+/// Puts the row in the place of the first one with its serial.
+fn replace_first(rows: &mut Vec<SecretRow>, row: SecretRow)
     ensures rows { rows.new.items ≡ replaced rows.old.items row }
     ensures room { vec_capacity rows.new ≡ vec_capacity rows.old }
 {

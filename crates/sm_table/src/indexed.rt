@@ -7,7 +7,7 @@ ghost use Rattle.sm_versions.specs.Texts.{once};
 ghost use Rattle.sm_table.specs.Sweep.{swept};
 ghost use Rattle.sm_table.specs.Found.{row_named};
 ghost use Rattle.sm_table.specs.Changes.{replaced, dropped};
-ghost use Rattle.sm_table.specs.Kept.{row_names};
+ghost use Rattle.sm_table.specs.Kept.{row_names, IsRising};
 ghost use Rattle.sm_table.specs.Indexed.{IsFull, all_stay, earlier, grown, HasRoom, IsIndexed, IsRoom, IsRoomFor};
 
 use crate::edits::{self, is_reached};
@@ -174,12 +174,16 @@ impl Indexed {
     /// Puts the row in the place of the one with its serial.
     pub fn replace(&mut self, row: SecretRow)
         requires kept { IsIndexed self.old }
+        requires rising { IsRising self.old.rows.items }
         requires names { row_names (replaced self.old.rows.items row) ≡ row_names self.old.rows.items }
         ensures kept { IsIndexed self.new }
         ensures rows { self.new.rows.items ≡ replaced self.old.rows.items row }
     {
+        let place = self
+            .index
+            .place(self.rows.as_slice(), row.name.as_text().as_bytes());
         self.soonest = earlier(self.soonest, row.deletion);
-        edits::replace(&mut self.rows, row);
+        edits::replace(&mut self.rows, place, row);
     }
 
     /// Drops the row with this serial.

@@ -4,6 +4,7 @@ use Rattle.sm_model.specs.declared.rows.Rows.{Rows}
 use Rattle.sm_table.specs.Sweep.{swept}
 use Rattle.sm_table.specs.Changes.{PreparedChange}
 use Rattle.sm_table.specs.Indexed.{adds}
+use Rattle.sm_table.proofs.KeptLaws.{swept_rises}
 use Rattle.sm_table.proofs.NameLaws.{replace_same}
 use Rattle.sm_table.proofs.TableLaws.{commits_from, table_after, room_after}
 use Rattle.sm_table.proofs.table.Table.make.Goals as goal
@@ -44,6 +45,13 @@ replace-requires-clause-names c =
     let still : c.sweep.new.self.rows.items ≡ swept c.self.inside.secrets.rows.items c.args.moment =
     c.sweep.ensures.rows ∙ ap (λ s. swept s c.args.moment) c.bring.ensures.rows in
     rw still (replace_same rows c.args.moment c.in-Replace.row known.can known.stands known.serials)
+
+pub replace-requires-clause-rising : goal.replace-requires-clause-rising
+replace-requires-clause-rising c =
+    let rows : Rows = record { next = c.self.inside.next; secrets = c.self.inside.secrets.rows.items } in
+    let still : c.sweep.new.self.rows.items ≡ swept c.self.inside.secrets.rows.items c.args.moment =
+    c.sweep.ensures.rows ∙ ap (λ s. swept s c.args.moment) c.bring.ensures.rows in
+    rw still (rows.next, swept_rises rows.secrets c.args.moment 0 rows.next c.self.invariant.serials)
 
 pub invariant_of-self-in-Replace : goal.invariant_of-self-in-Replace
 invariant_of-self-in-Replace c =
