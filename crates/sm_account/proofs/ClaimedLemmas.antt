@@ -76,11 +76,11 @@ module _ {D : Type 0} {G : Ghosts D} (old new : Books D G) (seat : ℕ) (work : 
       (∥∥₁_map kept.claims (λ c. claims_more (base_in old) [] (history_in old) seat
       (Claim work.arn work.at moment) c step))
 
+  no_more : faults_in (history_in new) ≡ faults_in (history_in old) + 0
+  no_more = ap faults_in history ∙ faults_more (history_in old) seat (Claim work.arn work.at moment)
+
   faults : FaultsBound (G.faults old.began.value) (history_in new) (G.faults (disk_in old))
-  faults =
-      let same : faults_in (history_in new) ≡ faults_in (history_in old) + 0 = ap faults_in history
-      ∙ faults_more (history_in old) seat (Claim work.arn work.at moment) in
-      omega (arith, same, kept.faults)
+  faults = omega (arith, no_more, kept.faults)
 
   pub claimed_kept : Kept G new
   claimed_kept =
@@ -98,6 +98,7 @@ module _ {D : Type 0} {G : Ghosts D} (old new : Books D G) (seat : ℕ) (work : 
         holds = subst (λ all. stores.Holds old.store all old.failed.value) (sym all_is) kept.holds;
         legal = subst (λ all. ∥ IsLegal all ∥₁) (sym all_is) kept.legal;
         next = subst (λ all. ∥ MayFollowIf all old.failed.value ∥₁) (sym all_is) kept.next;
+        told = omega (arith, no_more, kept.told);
         faults = faults;
         claims = claims;
       } in

@@ -1,5 +1,5 @@
 -- What always holds of the books goes on to hold.
-use Rattle.std.proofs.Common.{◌≡◌, ℕ, ◌+◌, ◌≤◌, min, List, [], ◌∷◌, ◌++◌, length, None, is_some, sym, ap, ◌∙◌, subst, append_assoc, append-nil, arith}
+use Rattle.std.proofs.Common.{◌≡◌, ℕ, ◌+◌, ◌≤◌, min, List, [], ◌∷◌, ◌++◌, length, Option, None, Some, is_some, sym, ap, ◌∙◌, subst, append_assoc, append-nil, arith}
 use Rattle.std.proofs.Math.Logic.{∥∥₁_map}
 use Rattle.sm_base.specs.Faults.{Rose}
 use Rattle.sm_base.specs.declared.moment.Moment.{Moment}
@@ -18,7 +18,7 @@ use Rattle.sm_disk.specs.declared.disk.Disk.{Ghosts}
 use Rattle.sm_store.specs.Stores as stores
 use Rattle.sm_account.specs.declared.books.Books.{Books}
 use Rattle.sm_account.specs.declared.writing.Written.TheVariants as written
-use Rattle.sm_account.specs.Books.{count_limit, IsLegal, MayFollow, MayFollowIf, history_in, disk_in, all_entries, base_in, state_in, Kept, IsDueAt}
+use Rattle.sm_account.specs.Books.{count_limit, IsLegal, MayFollow, MayFollowIf, history_in, disk_in, all_entries, base_in, state_in, faults_of, Kept, IsDueAt}
 use Rattle.sm_account.specs.Claims.{ClaimsReady, ClaimsReadyStep}
 use Rattle.sm_account.specs.History.{entries_in, faults_in}
 use Rattle.sm_account.specs.States.{first_moment, base_of, State, state_at, state_with}
@@ -47,6 +47,11 @@ module _ {D : Type 0} {G : Ghosts D} (books : Books D G) (kept : Kept G books) w
 -- a legal list goes on with an entry that may follow
 pub goes_on : (all : List entries) (entry : entries) → IsLegal all → MayFollow all entry → IsLegal (all ++ entry ∷ [])
 goes_on all entry legal follows = legal_more no_rows first_moment all entry legal follows.later follows.legal
+
+-- a write that failed stands for one fault
+at_most_one : (failed : Option entries) → faults_of failed ≤ 1
+at_most_one None = omega arith
+at_most_one (Some entry) = omega arith
 
 -- what stays when the history grows by one mark of an entry that was tried
 pub record Continues {D : Type 0} {G : Ghosts D} (old new : Books D G) (seat : ℕ) (mark : Mark) : Type 0 where
@@ -123,6 +128,7 @@ module _ {D : Type 0} {G : Ghosts D} (old new : Books D G) (seat : ℕ) (kept : 
               (∥∥₁_map kept.legal (λ legal. goes_on (all_entries old) entry legal
               (may_follow old kept entry due.later due.legal)));
           next = subst (λ f. ∥ MayFollowIf (all_entries new) f ∥₁) (sym none) ∣ tt ∣₁;
+          told = subst (λ f. faults_of f ≤ faults_in (history_in new)) (sym none) (omega arith);
           faults = faults_new;
           claims = claims_go_on (Entry entry) goes tt;
         }
@@ -149,13 +155,14 @@ module _ {D : Type 0} {G : Ghosts D} (old new : Books D G) (seat : ℕ) (kept : 
           ∙ ap (state_at (base_in old)) goes.history in
           state_stays ∙ kept.state ∙ sym (state_faulted (base_in old) (history_in old) seat) ∙ sym there
 
+      one_more : faults_in (history_in new) ≡ faults_in (history_in old) + 1
+      one_more = ap faults_in goes.history ∙ faults_more (history_in old) seat Fault
+
       module _ (rose : Rose (G.faults (disk_in old)) (G.faults (disk_in new))) where
         faults_risen : min (G.faults new.began.value + faults_in (history_in new)) count_limit ≤ G.faults (disk_in new)
         faults_risen =
             let began : G.faults new.began.value ≡ G.faults old.began.value = ap G.faults goes.began in
-            let same : faults_in (history_in new) ≡ faults_in (history_in old) + 1 =
-            ap faults_in goes.history ∙ faults_more (history_in old) seat Fault in
-            omega (arith, began, same, kept.faults, rose)
+            omega (arith, began, one_more, kept.faults, rose)
 
         pub kept_faulted : stores.is_unsure new.store ≡ is_some new.failed.value
             → stores.Holds new.store (all_entries old) new.failed.value
@@ -173,6 +180,7 @@ module _ {D : Type 0} {G : Ghosts D} (old new : Books D G) (seat : ℕ) (kept : 
           holds = subst (λ all. stores.Holds new.store all new.failed.value) (sym all_same) holds;
           legal = subst (λ all. ∥ IsLegal all ∥₁) (sym all_same) kept.legal;
           next = subst (λ all. ∥ MayFollowIf all new.failed.value ∥₁) (sym all_same) next;
+          told = omega (arith, one_more, at_most_one new.failed.value);
           faults = faults_risen;
           claims = claims_go_on Fault goes tt;
         }

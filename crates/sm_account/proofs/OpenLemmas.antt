@@ -22,7 +22,7 @@ use Rattle.sm_account.specs.declared.account.Account.{Account}
 use Rattle.sm_account.specs.declared.books.Books.{Books}
 use Rattle.sm_account.specs.declared.replaying.Standing.{Standing}
 use Rattle.sm_account.specs.Accounts as accounts
-use Rattle.sm_account.specs.Books.{FaultsBound, IsLegal, MayFollowIf, Kept, all_entries, base_in, disk_in, history_in, state_in}
+use Rattle.sm_account.specs.Books.{FaultsBound, faults_of, IsLegal, MayFollowIf, Kept, all_entries, base_in, disk_in, history_in, state_in}
 use Rattle.sm_account.specs.Claims.{ClaimsReady}
 use Rattle.sm_account.specs.History.{entries_in, faults_in}
 use Rattle.sm_account.specs.Openings.{AreBooksOver, IsOpenedOver, IsRefused, IsStopped}
@@ -114,6 +114,7 @@ module _ {D : Type 0} {G : Ghosts D} (store : Store D G) (list : List Entry) (li
       holds = holds_is;
       legal = ∣ subst IsLegal (sym all_is) replayed.legal ∣₁;
       next = subst (λ f. ∥ MayFollowIf (all_entries books) f ∥₁) (sym is.failed) ∣ tt ∣₁;
+      told = subst (λ f. faults_of f ≤ faults_in (history_in books)) (sym is.failed) (omega arith);
       faults = faults_is;
       claims = subst (λ h. ∥ ClaimsReady (base_in books) h ∥₁) (sym is.marks) ∣ tt ∣₁;
     }

@@ -15,11 +15,11 @@ use Rattle.sm_store.specs.Entries.{Spells}
 use Rattle.sm_store.specs.Stores as stores
 use Rattle.sm_account.specs.declared.books.Books.{Books}
 use Rattle.sm_account.specs.declared.due.Due.{Due}
-use Rattle.sm_account.specs.Books.{FaultsBound, IsLegal, MayFollowIf, Kept, all_entries, base_in, disk_in, state_in}
+use Rattle.sm_account.specs.Books.{FaultsBound, faults_of, IsLegal, MayFollowIf, Kept, all_entries, base_in, disk_in, state_in}
 use Rattle.sm_account.specs.Claims.{ClaimsReady}
 use Rattle.sm_account.specs.Growing.{IsGrown, SameButRoom}
 use Rattle.sm_account.specs.Handling.{LimitsAside}
-use Rattle.sm_account.specs.History.{entries_in}
+use Rattle.sm_account.specs.History.{entries_in, faults_in}
 use Rattle.sm_account.specs.States.{state_at}
 
 module _ {D : Type 0} {G : Ghosts D} (old mid : Books D G) (room : SameButRoom old mid) where
@@ -47,6 +47,7 @@ module _ {D : Type 0} {G : Ghosts D} (old mid : Books D G) (room : SameButRoom o
         holds = subst (λ all. stores.Holds old.store all old.failed.value) (sym all_is) kept.holds;
         legal = subst (λ all. ∥ IsLegal all ∥₁) (sym all_is) kept.legal;
         next = subst (λ all. ∥ MayFollowIf all old.failed.value ∥₁) (sym all_is) kept.next;
+        told = subst (λ h. faults_of old.failed.value ≤ faults_in h) (sym room.history) kept.told;
         faults = subst (λ h. FaultsBound (G.faults old.began.value) h (G.faults (disk_in old))) (sym room.history)
             kept.faults;
         claims = subst (λ h. ∥ ClaimsReady (base_in old) h ∥₁) (sym room.history) kept.claims;

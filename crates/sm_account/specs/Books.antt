@@ -65,9 +65,15 @@ module _ {D : Type 0} {G : Ghosts D} where
 abbrev pub FaultsBound : ℕ → List (ℕ × Mark) → ℕ → Type 0
 FaultsBound began history now = min (began + faults_in history) count_limit ≤ now
 
+-- how many faults of the history a write that failed stands for
+abbrev pub faults_of : Option Entry → ℕ
+faults_of None = 0
+faults_of (Some entry) = 1
+
 -- What always holds: the rows are sound; the state is that at the history; each image of the disk recovers to all
--- entries, or while the tail is unsure to these or these and the one whose write failed last; all this is legal; the
--- history has at most as many faults as the disk's count rose by; and each claim is of the step that was ready.
+-- entries, or while the tail is unsure to these or these and the one whose write failed last, whose fault the history
+-- has; all this is legal; the history has at most as many faults as the disk's count rose by; and each claim is of the
+-- step that was ready.
 pub record Kept {D : Type 0} (G : Ghosts D) (books : Books D G) : Type 0 where
   pub sound : Sound books.table
   pub bound : books.last.0 ≤ LAST_READING
@@ -81,6 +87,7 @@ pub record Kept {D : Type 0} (G : Ghosts D) (books : Books D G) : Type 0 where
   pub holds : stores.Holds books.store (all_entries books) books.failed.value
   pub legal : ∥ IsLegal (all_entries books) ∥₁
   pub next : ∥ MayFollowIf (all_entries books) books.failed.value ∥₁
+  pub told : faults_of books.failed.value ≤ faults_in (history_in books)
   pub faults : FaultsBound (G.faults books.began.value) (history_in books) (G.faults (disk_in books))
   pub claims : ∥ ClaimsReady (base_in books) (history_in books) ∥₁
 

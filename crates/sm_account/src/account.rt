@@ -38,11 +38,11 @@ impl<D: Disk, R: Rotator> Account<D, R> {
     ghost use Rattle.sm_store.specs.declared.files.TheConstants.{JOURNAL};
     ghost use Rattle.sm_table.specs.Sound.{Sound};
     ghost use Rattle.sm_account.specs.Accounts.{history, base, state, rows, disk, began, taken, all_of, failed, is_unsure, doors, SameOrigin};
-    ghost use Rattle.sm_account.specs.Books.{IsLegal, MayFollowIf, FaultsBound};
+    ghost use Rattle.sm_account.specs.Books.{IsLegal, MayFollowIf, FaultsBound, faults_of};
     ghost use Rattle.sm_account.specs.Claims.{ClaimsReady, ready_at};
     ghost use Rattle.sm_account.specs.Deeds.{Leaves};
     ghost use Rattle.sm_account.specs.Handled.{HandledAs, marks_of, OnDiskFault};
-    ghost use Rattle.sm_account.specs.History.{by_seat, entries_in};
+    ghost use Rattle.sm_account.specs.History.{by_seat, entries_in, faults_in};
     ghost use Rattle.sm_account.specs.Handling.{StaysAfter, LeavesBy, Acknowledges};
     ghost use Rattle.sm_account.specs.NextWork.{NextAs, next_by};
     ghost use Rattle.sm_account.specs.Outcome.{outcome};
@@ -184,6 +184,9 @@ impl<D: Disk, R: Rotator> Account<D, R> {
         // that a recovered secret remembers is one at which its rotator may have accepted the test, this stays so.
         ensures allowed { ∥ EntriesAllowed R.replies self.now.books ∥₁ }
         ensures vouched { ∥ StayVouched R.replies self.now.books ∥₁ }
+
+        // A write that failed left its fault in the history.
+        ensures told { faults_of (failed self.now) ≤ faults_in (history self.now) }
 
         // There are at most as many faults in the history as the disk's count rose by since the opening.
         ensures faults { FaultsBound (D.faults (began self.now)) (history self.now) (D.faults (disk self.now)) }

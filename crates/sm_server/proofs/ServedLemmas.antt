@@ -1,7 +1,8 @@
 -- Servers: their words, and what they leave.
-use Rattle.std.proofs.Common.{◌≡◌, ◌⊎◌, ℕ, List, [], Option, None, Some, Result, Ok, Err, refl, sym, ap, ◌∙◌, subst, inl, inr}
+use Rattle.std.proofs.Common.{◌≡◌, ◌≤◌, ◌+◌, min, ℕ, List, [], Option, None, Some, IsSome, Result, Ok, Err, sym, ap, ◌∙◌, subst, inl, inr, arith}
+use Rattle.std.proofs.lemmas.Bool.{false≢true}
+use Rattle.sm_base.specs.Faults.{Rose}
 use Rattle.sm_disk.specs.declared.disk.Disk.{Ghosts as DiskGhosts}
-use Rattle.sm_disk.specs.OneFile.{EachHas}
 use Rattle.sm_journal.specs.Openings.{ReadsAs}
 use Rattle.sm_journal.specs.declared.answers.OpenRefused.{OpenRefused}
 use Rattle.sm_journal.specs.declared.answers.OpenRefused.TheVariants as refusals
@@ -14,8 +15,9 @@ use Rattle.sm_rotator.specs.declared.rotator.Rotator.{Ghosts as RotatorGhosts}
 use Rattle.sm_store.specs.Entries.{HasEntries}
 use Rattle.sm_store.specs.declared.files.TheConstants.{JOURNAL}
 use Rattle.sm_account.specs.declared.account.Account.{Account}
-use Rattle.sm_account.specs.Accounts.{base, began, disk, history, taken}
-use Rattle.sm_account.specs.Books.{FaultsBound}
+use Rattle.sm_account.specs.Accounts.{base, began, disk, failed, history, taken}
+use Rattle.sm_account.specs.Books.{FaultsBound, count_limit, faults_of}
+use Rattle.sm_account.specs.History.{faults_in}
 use Rattle.sm_account.specs.Openings.{IsOpenedOver, IsRefused}
 use Rattle.sm_account.specs.States.{Base, base_of}
 use Rattle.sm_spells.specs.Spells.{History}
@@ -61,6 +63,12 @@ pub read_orders : (asked : Option Settings) (read : Result Persons ℕ) (result 
 read_orders asked read (Ok people) ends follows = (serves asked ends, follows)
 read_orders asked read (Err status) ends (inl is) = inl is
 read_orders asked read (Err status) ends (inr (line, is, at)) = inr (inr (line, at, serves asked ends, is))
+
+-- a write that failed, and left its fault in the history, was counted by the disk
+risen_for : (torn : Option Entry) (before told now : ℕ) → IsSome torn → faults_of torn ≤ told
+    → min (before + told) count_limit ≤ now → Rose before now
+risen_for None before told now there least bound = absurd (false≢true there)
+risen_for (Some entry) before told now there least bound = omega (arith, least, bound)
 
 -- an account that was not opened
 pub unopened_over : {D : Type 0} (G : DiskGhosts D) (first : D) (refused : OpenRefused D) (status : Status) (now : D)
@@ -113,6 +121,8 @@ module _ {E K C W R A O D : Type 0} {g : StoriedGhosts A O Mark} (views : Views 
       → OpenedOver views G people first status after old new
   opened_over first doors before after status opened list left =
       let began_is : began after ≡ first = left.began_stays ∙ opened.began_is in
+      let faults : FaultsBound (G.faults first) (history after) (G.faults (disk after)) =
+      subst (λ d. FaultsBound (G.faults d) (history after) (G.faults (disk after))) began_is left.faults in
       record {
         recovered = subst (λ (t : List Entry). ReadsAs JOURNAL (λ bytes. HasEntries bytes t) (G.sight first))
             (sym left.taken_stays) list;
@@ -121,7 +131,10 @@ module _ {E K C W R A O D : Type 0} {g : StoriedGhosts A O Mark} (views : Views 
             ∙ ap (λ (t : List Entry). base_of t JOURNAL_LIMIT) (sym left.taken_stays);
         images = left.images;
         legal = left.legal;
-        faults = subst (λ d. FaultsBound (G.faults d) (history after) (G.faults (disk after))) began_is left.faults;
+        next = left.next;
+        risen = λ there. risen_for (failed after) (G.faults first) (faults_in (history after)) (G.faults (disk after))
+            there left.told faults;
+        faults = faults;
         ends = left.ends;
       }
 

@@ -1,5 +1,7 @@
 -- What a server does over its disk with its workers, and how it ends.
-use Rattle.std.specs.Prelude.{◌≡◌, ◌⊎◌, ℕ, List, [], Option, Some, None, Result, Ok, Err}
+use Rattle.std.specs.Prelude.{◌≡◌, ◌⊎◌, ◌≤◌, ℕ, Bool, true, false, List, [], Option, Some, None, IsSome, Result, Ok, Err}
+use Rattle.std.specs.List.{count_by}
+use Rattle.sm_base.specs.Faults.{Rose}
 use Rattle.sm_disk.specs.declared.disk.Disk.{Ghosts as DiskGhosts}
 use Rattle.sm_disk.specs.OneFile.{EachHas}
 use Rattle.sm_journal.specs.Openings.{ReadsAs}
@@ -13,12 +15,15 @@ use Rattle.sm_store.specs.Entries.{HasEntries, HasEither}
 use Rattle.sm_store.specs.declared.files.TheConstants.{JOURNAL}
 use Rattle.sm_account.specs.declared.account.Account.{Account}
 use Rattle.sm_account.specs.Accounts.{all_of, base, began, disk, failed, history, taken}
-use Rattle.sm_account.specs.Books.{IsLegal, FaultsBound}
+use Rattle.sm_account.specs.Books.{IsLegal, FaultsBound, MayFollowIf, faults_of}
+use Rattle.sm_account.specs.History.{faults_in}
 use Rattle.sm_account.specs.Openings.{IsRefused}
 use Rattle.sm_account.specs.States.{base_of}
 use Rattle.sm_words.specs.declared.settings.Mode.{Mode}
 use Rattle.sm_words.specs.declared.settings.Mode.TheVariants.{Exec, Serve, Check, Drill}
 use Rattle.sm_words.specs.declared.settings.Settings.{Settings}
+use Rattle.sm_workers.specs.declared.worker.Task.{Task}
+use Rattle.sm_workers.specs.declared.worker.Task.TheVariants.{Door, Turner}
 use Rattle.sm_workers.specs.declared.worker.WorkerBy.{WorkerBy}
 use Rattle.sm_workers.specs.Closed.{Closed}
 use Rattle.sm_workers.specs.Views.{Views}
@@ -43,6 +48,14 @@ end_of_server (Some settings) = end_of_serving settings.mode
 -- a server that does not follow its words ends as it must, or for want of memory
 abbrev pub EndsServer : Option Status → Option Settings → Type 0
 EndsServer end asked = (end ≡ Some Memory) ⊎ (end ≡ end_of_server asked)
+
+-- how many of the workers are doors
+abbrev pub is_door : {E R : Type 0} → Task E R → Bool
+is_door (Door edge) = true
+is_door (Turner rotator) = false
+
+abbrev pub doors_in : {E C W R A O M : Type 0} {g : StoriedGhosts A O M} → List (WorkerBy E C W R A O M g) → ℕ
+doors_in workers = count_by (λ worker. is_door worker.task) workers
 
 -- how a server ends whose workers ended: by an edge exactly where some edge failed
 abbrev pub EndsWorkers : {E C W R A O M : Type 0} {g : StoriedGhosts A O M} → Status → List (WorkerBy E C W R A O M g)
@@ -89,7 +102,8 @@ module _ {E K C W R A O D : Type 0} {g : StoriedGhosts A O Mark} (views : Views 
   EndsServed people account other old new = ⊥
 
   -- What workers leave of an account: what it was opened over. Each image of the disk recovers to all of its entries,
-  -- or, while the last write may have failed, perhaps to these and one more. The entries are a legal list.
+  -- or, while the last write may have failed, perhaps to these and one more, whose fault the history has. Both lists
+  -- are legal.
   pub record LeavesAt (people : Persons) (before after : Account D R G V) (status : Status)
       (old new : List (WorkerBy E C W R A O Mark g)) : Type 0 where
     pub taken_stays : taken after ≡ taken before
@@ -97,11 +111,13 @@ module _ {E K C W R A O D : Type 0} {g : StoriedGhosts A O Mark} (views : Views 
     pub base_stays : base after ≡ base before
     pub images : EachHas JOURNAL (HasEither (all_of after) (failed after)) (G.sight (disk after)).images
     pub legal : ∥ IsLegal (all_of after) ∥₁
+    pub next : ∥ MayFollowIf (all_of after) (failed after) ∥₁
+    pub told : faults_of (failed after) ≤ faults_in (history after)
     pub faults : FaultsBound (G.faults (began after)) (history after) (G.faults (disk after))
     pub ends : EndsServed people after status old new
 
   -- What a server leaves: the account that it opened over what the disk recovered, whose whole history was made by its
-  -- workers, each at its seat.
+  -- workers, each at its seat. One entry more may stand on the disk only where the disk's count rose.
   pub record OpenedOver (people : Persons) (first : D) (status : Status) (account : Account D R G V)
       (old new : List (WorkerBy E C W R A O Mark g)) : Type 0 where
     pub recovered : ReadsAs JOURNAL (λ bytes. HasEntries bytes (taken account)) (G.sight first)
@@ -109,6 +125,8 @@ module _ {E K C W R A O D : Type 0} {g : StoriedGhosts A O Mark} (views : Views 
     pub base_is : base account ≡ base_of (taken account) JOURNAL_LIMIT
     pub images : EachHas JOURNAL (HasEither (all_of account) (failed account)) (G.sight (disk account)).images
     pub legal : ∥ IsLegal (all_of account) ∥₁
+    pub next : ∥ MayFollowIf (all_of account) (failed account) ∥₁
+    pub risen : IsSome (failed account) → Rose (G.faults first) (G.faults (disk account))
     pub faults : FaultsBound (G.faults first) (history account) (G.faults (disk account))
     pub ends : EndsServed people account status old new
 

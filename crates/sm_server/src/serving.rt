@@ -1,13 +1,13 @@
 //! The top call of a server: workers in threads over one account.
 ghost use Rattle.std.specs.Prelude.{◌≡◌, ◌≤◌, All, [], None, length, map, string_bytes};
 ghost use Rattle.sm_model.specs.declared.limits.TheConstants.{JOURNAL_LIMIT};
-ghost use Rattle.sm_account.specs.Accounts.{base, began, failed, history, taken};
+ghost use Rattle.sm_account.specs.Accounts.{base, began, doors, failed, history, taken};
 ghost use Rattle.sm_account.specs.States.{base_of};
 ghost use Rattle.sm_principal.specs.Callers.{people_of};
 ghost use Rattle.sm_words.specs.Reading.{settings_of};
 ghost use Rattle.sm_workers.specs.Views.{views_by};
 ghost use Rattle.sm_workers.specs.Workers.{IsFresh};
-ghost use Rattle.sm_server.specs.Served.{EndsServer, EndsWorkers, FollowsOrders, LeavesAt, LeavesOver, RanAs, end_of_serving};
+ghost use Rattle.sm_server.specs.Served.{EndsServer, EndsWorkers, FollowsOrders, LeavesAt, LeavesOver, RanAs, doors_in, end_of_serving, is_door};
 
 use crate::asked::people_of;
 use crate::run::end_unopened;
@@ -133,18 +133,27 @@ where
 }
 
 /// How many of the workers are doors.
-fn doors_of<E, D: Disk, C, W, R: Rotator>(workers: &[WorkerBy<E, C, W, R, Account<D, R>>]) -> u32 {
-    let mut doors: u32 = 0;
-    for worker in workers {
-        doors = match &worker.task {
-            Task::Door(_) => doors.saturating_add(1),
-            Task::Turner(_) => doors,
-        };
-    }
-    doors
+fn doors_of<E, D: Disk, C, W, R: Rotator>(workers: &[WorkerBy<E, C, W, R, Account<D, R>>]) -> u32
+    requires { length workers.now ≤ 128 }
+    ensures { result ≡ doors_in workers.now }
+{
+    workers
+        .iter()
+        .filter(|worker| is_door(&worker.task))
+        .count() as u32
 }
 
-/// Runs the workers at an account that was just opened.
+/// Whether it is the task of a door.
+fn is_door<E, R>(task: &Task<E, R>) -> bool
+    ensures { result ≡ is_door task.now }
+{
+    match task {
+        Task::Door(_) => true,
+        Task::Turner(_) => false,
+    }
+}
+
+/// Runs the workers at an account that was just opened, with as many open doors as there are doors among them.
 fn serve_at<
     E: Edge<ConnEnd> + Send,
     C: Clock + Send,
@@ -164,6 +173,7 @@ where
     requires many { (1 ≤ length workers.old) × (length workers.old ≤ 128) }
     requires fresh { All IsFresh workers.old }
     requires empty { history account ≡ [] }
+    requires open { doors account ≡ doors_in workers.old }
     ensures ran { LeavesAt (views_by E.Edge E.C.Source E.C.Sink C.Clock W.Words R.Rotator) D.Disk people.now account
         result.1 result.0 workers.old workers.new }
 {

@@ -4,7 +4,7 @@ ghost use Rattle.sm_server.specs.Status.{code_of, status_of};
 
 use sm_session::Ended;
 
-/// How a top call ended. EdgeFault is not met yet.
+/// How a top call ended.
 #[derive(Clone, Copy, Debug, PartialEq, Eq)]
 pub enum Status {
     Done,

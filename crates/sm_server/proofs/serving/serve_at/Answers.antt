@@ -11,6 +11,8 @@ returns-in-Ok g c =
         base_stays = origin.2;
         images = c.standing.ensures.images;
         legal = c.standing.ensures.legal;
+        next = c.standing.ensures.next;
+        told = c.standing.ensures.told;
         faults = c.standing.ensures.faults;
         ends = ends_closed _ g.D.Disk c.args.people.now c.args.workers.now c.run_at.new.workers c.args.account
             c.in-Ok.account c.end_of_workers.result c.end_of_workers.ensures c.requires.empty origin.2
