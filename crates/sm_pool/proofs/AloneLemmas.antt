@@ -24,7 +24,7 @@ use Rattle.sm_pool.specs.declared.done.Done.{Done}
 use Rattle.sm_pool.specs.Alone.{IsStale, NoGap, OnDisk}
 use Rattle.sm_pool.specs.Ends.{due_ends, report_ends}
 use Rattle.sm_pool.specs.Holds.{hold_shape}
-use Rattle.sm_pool.specs.Turns.{Asked, Begins, Course, LateApart, Passing, Rests, StartCourse, Starts, TurnDone, Unasked, Undrawn, Wants, WorkCourse, Works, done_of, holds_of, start_ends, work_ends}
+use Rattle.sm_pool.specs.Turns.{Asked, Begins, Course, LateApart, Passing, Rests, Starts, TurnDone, Unasked, Undrawn, Wants, Works, done_of, holds_of}
 
 -- the entry whose write failed last, after a deed
 module _ {D : Type 0} {G : Ghosts D} (old new : Books D G) (seat : ℕ) where

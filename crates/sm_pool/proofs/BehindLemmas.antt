@@ -1,24 +1,19 @@
 -- Holds of an account that stands behind a lock.
 use Rattle.std.proofs.Common.{◌≡◌, ◌⊎◌, ℕ, List, [], ◌∷◌, ◌++◌, drop, length, sym, ap, ◌∙◌, subst, inl, inr, append-nil}
 use Rattle.sm_base.specs.declared.moment.Moment.{Moment}
-use Rattle.sm_disk.specs.declared.disk.Disk.{Ghosts as DiskGhosts}
 use Rattle.sm_model.specs.declared.entry.Answer.{Answer}
-use Rattle.sm_model.specs.declared.entry.Entry.{Entry as entries}
 use Rattle.sm_model.specs.declared.entry.Mark.{Mark}
 use Rattle.sm_model.specs.declared.entry.Mark.TheVariants.{Claim, Entry, Fault}
-use Rattle.sm_rotator.specs.declared.rotator.Rotator.{Ghosts as RotatorGhosts}
 use Rattle.sm_rotator.specs.declared.work.Work.{Work}
-use Rattle.sm_account.specs.Accounts.{SameOrigin, base, began, taken}
+use Rattle.sm_account.specs.Accounts.{base}
 use Rattle.sm_account.specs.Deeds.{Claimed, Deed, Failed, Made, Nothing, marks_by}
 use Rattle.sm_account.specs.History.{by_seat}
 use Rattle.sm_account.specs.Report.{report_at, reported_by}
 use Rattle.sm_account.specs.StartDue.{start_at, started_by}
-use Rattle.sm_account.specs.States.{Base, base_of, state_at}
+use Rattle.sm_account.specs.States.{Base, state_at}
 use Rattle.sm_core.specs.Histories.{later}
-use Rattle.sm_account.specs.declared.account.Account.{Account}
 use Rattle.sm_account.specs.declared.report.Reported.{Reported}
 use Rattle.sm_account.specs.declared.start_due.StartedDue.{StartedDue}
-use Rattle.sm_account.specs.declared.storied.Opened.{Opened}
 use Rattle.sm_lock.specs.Handles.{IsIn, built, mine, number, seen}
 use Rattle.sm_lock.specs.Story.{Grows, entries_of}
 use Rattle.sm_lock.specs.declared.gate.Gate.{Gate}
@@ -30,22 +25,6 @@ use Rattle.sm_pool.specs.declared.holds.Found.{Found}
 use Rattle.sm_pool.specs.Alone.{NoGap}
 use Rattle.sm_pool.specs.Found.{found_by}
 use Rattle.sm_pool.specs.Holds.{HeldAt, Hold, LookHeld, ReportHeld, StartHeld, hold_of, hold_shape}
-
--- what an account was opened over
-module _ {D R : Type 0} {G : DiskGhosts D} {V : RotatorGhosts R} where
-  abbrev pub origin_of : Account D R G V → Opened D
-  origin_of account = record { taken = taken account; limit = (base account).limit; began = began account }
-
-  pub origin_stays : (old new : Account D R G V) → SameOrigin old new → origin_of new ≡ origin_of old
-  origin_stays old new same =
-      let of : List entries → ℕ → D → Opened D = λ taken limit began.
-      record { taken = taken; limit = limit; began = began } in
-      ap (λ t. of t (base new).limit (began new)) same.taken_stays
-      ∙ ap (λ (b : Base). of (taken old) b.limit (began new)) same.base_stays
-      ∙ ap (of (taken old) (base old).limit) same.began_stays
-
-  pub same_base : (a b : Account D R G V) → origin_of a ≡ origin_of b → base a ≡ base b
-  same_base a b same = ap (λ (o : Opened D). base_of o.taken o.limit) same
 
 -- a deed leaves one mark at most
 one_mark : (seat : ℕ) (before after : History) (deed : Deed) → after ≡ before ++ by_seat seat (marks_by deed)

@@ -1,5 +1,5 @@
 -- The courses of a work and of a start.
-use Rattle.std.proofs.Common.{◌≡◌, ℕ, true, List, [], ◌∷◌, length, refl, sym, ◌∙◌, ap, subst}
+use Rattle.std.proofs.Common.{◌≡◌, ℕ, true, List, [], ◌∷◌, length, refl, sym, subst}
 use Rattle.std.specs.Prelude.{Option}
 use Rattle.sm_base.specs.declared.moment.Moment.{Moment}
 use Rattle.sm_model.specs.declared.entry.Answer.{Answer}
@@ -20,7 +20,7 @@ use Rattle.sm_pool.specs.Ends.{due_ends, report_ends}
 use Rattle.sm_pool.specs.Holds.{ReportHeld, StartHeld, hold_of}
 use Rattle.sm_pool.specs.Turns.{Asked, Begins, Count, HasRisen, IsOfDraw, OnWords, StartDone, Telling, Tells, Unasked, Undrawn, WorkDone}
 use Rattle.sm_pool.proofs.HoldLemmas.{spell_one}
-use Rattle.sm_pool.proofs.KnownLemmas.{append_known-nil}
+use Rattle.sm_spells.proofs.KnownLemmas.{append_known-nil}
 
 module _ (base : Base) (gap : History → History → Type 0) (still : (h : History) → gap h h) (seat : ℕ) where
   module _ (replies : Replies) where

@@ -1,5 +1,5 @@
 -- A verdict on a work whose step was just claimed is not late.
-use Rattle.std.proofs.Common.{◌≡◌, ℕ, Bool, true, List, [], ◌∷◌, ◌++◌, Option, Some, None, IsSomeAnd, ap, ◌∙◌, subst}
+use Rattle.std.proofs.Common.{◌≡◌, ℕ, Bool, [], ◌∷◌, ◌++◌, Option, Some, None, IsSomeAnd, ap, ◌∙◌, subst}
 use Rattle.std.specs.Prelude.{if◌then◌else◌}
 use Rattle.sm_base.specs.declared.moment.Moment.{Moment}
 use Rattle.sm_model.specs.declared.entry.Answer.{Answer}
@@ -17,7 +17,7 @@ use Rattle.sm_account.specs.declared.entering.Passed.{Passed}
 use Rattle.sm_account.specs.declared.report.Reported.{Reported}
 use Rattle.sm_account.specs.declared.report.Reported.TheVariants as reports
 use Rattle.sm_account.specs.Claims.{ready_at}
-use Rattle.sm_account.specs.Efforts.{Effort, Undue, Over, Due, effort_within}
+use Rattle.sm_account.specs.Efforts.{Undue, effort_within}
 use Rattle.sm_account.specs.History.{by_seat}
 use Rattle.sm_account.specs.Limits.{passed_at}
 use Rattle.sm_account.specs.Report.{ReportsAs, report_at, reported_entry}

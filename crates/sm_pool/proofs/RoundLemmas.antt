@@ -1,5 +1,5 @@
 -- Rotation turns one after the other.
-use Rattle.std.proofs.Common.{◌≡◌, ℕ, ◌+◌, ◌<◌, ◌≤◌, true, false, List, [], ◌∷◌, ◌++◌, length, Some, None, refl, sym, ap, ◌∙◌, subst, arith, append-nil, append_assoc, length-append}
+use Rattle.std.proofs.Common.{◌≡◌, ℕ, ◌+◌, ◌<◌, true, false, List, [], ◌∷◌, ◌++◌, length, Some, None, refl, sym, ap, ◌∙◌, subst, arith, append-nil, append_assoc, length-append}
 use Rattle.std.specs.Prelude.{Option}
 use Rattle.std.specs.Io.KnownBytes.{append_known}
 use Rattle.sm_base.specs.Faults.{Rose}
@@ -15,7 +15,7 @@ use Rattle.sm_pool.specs.Alone.{IsStale, NoGap, OnDisk}
 use Rattle.sm_pool.specs.Holds.{Hold, hold_shape}
 use Rattle.sm_pool.specs.Rounds.{ComesToRest, Counts, EndsRound, NoneFell, Point, Rotated, Round, Turned, TurnedOn, courses_in, drawn_in, goes_on, holds_in, last_in, marks_of, readings_in}
 use Rattle.sm_pool.specs.Turns.{Course, HasRisen, Passing, RotatorFailed, TurnDone, WordsFailed, done_of, drawn_of, holds_of, readings_of}
-use Rattle.sm_pool.proofs.KnownLemmas.{append_known-nil, told_more}
+use Rattle.sm_spells.proofs.KnownLemmas.{append_known-nil, told_more}
 
 readings_more : (on : List Course) (course : Course)
     → readings_in (on ++ course ∷ []) ≡ readings_in on ++ readings_of (holds_of course)

@@ -1,5 +1,5 @@
 -- The course of a turn.
-use Rattle.std.proofs.Common.{◌≡◌, ℕ, List, [], ◌∷◌, IsSomeAnd, refl, sym, subst}
+use Rattle.std.proofs.Common.{◌≡◌, ℕ, List, [], ◌∷◌, IsSomeAnd, refl, subst}
 use Rattle.std.specs.Prelude.{Option}
 use Rattle.std.specs.Io.KnownBytes.{append_known}
 use Rattle.sm_base.specs.declared.moment.Moment.{Moment}
@@ -18,9 +18,9 @@ use Rattle.sm_pool.specs.declared.holds.Found.{Found}
 use Rattle.sm_pool.specs.declared.holds.Found.TheVariants as finds
 use Rattle.sm_pool.specs.Found.{found_by}
 use Rattle.sm_pool.specs.Holds.{Hold, LookHeld, hold_of}
-use Rattle.sm_pool.specs.Turns.{Asked, Count, IsWorkCourse, LateApart, Passing, Rests, Starts, StartDone, Telling, Tells, TurnDone, Unasked, Wants, WorkCourse, WorkDone, Works, readings_of, start_holds, work_holds}
+use Rattle.sm_pool.specs.Turns.{Asked, IsWorkCourse, LateApart, Passing, Rests, Starts, StartDone, Tells, TurnDone, Unasked, Wants, WorkCourse, WorkDone, Works, readings_of, start_holds, work_holds}
 use Rattle.sm_pool.proofs.HoldLemmas.{spell_one, spell_then}
-use Rattle.sm_pool.proofs.KnownLemmas.{append_known-nil, told_more}
+use Rattle.sm_spells.proofs.KnownLemmas.{told_more}
 use Rattle.sm_pool.proofs.LateLemmas.{late_apart}
 
 module _ (replies : Replies) (base : Base) (gap : History → History → Type 0) (still : (h : History) → gap h h)

@@ -17,7 +17,7 @@ use Rattle.sm_principal.specs.declared.people.PeopleRefused.{PeopleRefused}
 use Rattle.sm_principal.specs.declared.people.PeopleRefused.TheVariants as refusals
 use Rattle.sm_principal.specs.Callers.{told}
 use Rattle.sm_session.specs.Told.{nothing_told}
-use Rattle.sm_session.proofs.KnownLemmas.{append_known-nil, prepend_known-nil}
+use Rattle.sm_spells.proofs.KnownLemmas.{append_known-nil, prepend_known-nil}
 use Rattle.sm_server.specs.declared.asked.Task.{Task}
 use Rattle.sm_server.specs.declared.asked.Task.TheVariants.{Answer, Summarize}
 use Rattle.sm_server.specs.Asked.{end_of_people, task_of_mode, task_of_words, FollowsPeople, FollowsWords, WordsDecide, PeopleDecide}

@@ -1,6 +1,11 @@
 -- What the outside of a run tells, and what passes between a run and the outside.
 use Rattle.std.specs.Prelude.{◌≡◌, ℕ, List, Option}
 use Rattle.std.specs.Io.KnownBytes.{append_known}
+use Rattle.sm_io.specs.declared.clock.Clock.{Ghosts as ClockGhosts}
+use Rattle.sm_io.specs.declared.sink.Sink.{Ghosts as SinkGhosts}
+use Rattle.sm_io.specs.declared.source.Source.{Ghosts as SourceGhosts}
+use Rattle.sm_io.specs.declared.words.Words.{Ghosts as WordsGhosts}
+use Rattle.sm_rotator.specs.declared.rotator.Rotator.{Ghosts as RotatorGhosts}
 use Rattle.sm_session.specs.Endings.{Sides}
 use Rattle.sm_session.specs.Told.{Told, Growth}
 
@@ -19,6 +24,23 @@ pub record Outside : Type 0 where
   pub readings : Option (List ℕ)
   pub drawn : Option (List ℕ)
   pub counts : Counts
+
+-- how the outside shows itself, with a disk that has failed so often
+abbrev pub outside_by : {Q K C W R : Type 0} → SourceGhosts Q → SinkGhosts K → ClockGhosts C → WordsGhosts W
+    → RotatorGhosts R → Q → K → ℕ → C → W → R → Outside
+outside_by sources sinks clocks words rotators source sink disk clock random rotator = record {
+  left = sources.left source;
+  taken = sinks.taken sink;
+  readings = clocks.readings clock;
+  drawn = words.drawn random;
+  counts = record {
+    source = sources.source_faults source;
+    sink = sinks.sink_faults sink;
+    disk = disk;
+    random = words.faults random;
+    rotator = rotators.faults rotator;
+  };
+}
 
 -- the two sides of the stream
 abbrev pub sides_of : Outside → Sides

@@ -1,6 +1,6 @@
 -- What the messages of a run bring, one after the other: their replies, what the clock and the random source told for
 -- them and for the rotation turns behind each, and the marks that these leave in the history.
-use Rattle.std.specs.Prelude.{◌≡◌, ℕ, ◌≤◌, List, [], ◌∷◌, ◌++◌, Result}
+use Rattle.std.specs.Prelude.{◌≡◌, ℕ, List, [], ◌∷◌, ◌++◌, Result}
 use Rattle.sm_base.specs.Faults.{Rose}
 use Rattle.sm_model.specs.declared.entry.Mark.{Mark}
 use Rattle.sm_model.specs.declared.why.Why.{Why}

@@ -12,6 +12,7 @@ ghost use Rattle.sm_session.specs.Answer.{heard};
 ghost use Rattle.sm_session.specs.Replies.{framed_answer};
 ghost use Rattle.sm_session.specs.Told.{Told};
 ghost use Rattle.sm_server.specs.declared.asked.Task.TheVariants.{Answer};
+ghost use Rattle.sm_server.specs.Outside.{outside_by};
 ghost use Rattle.sm_server.specs.Ran.{Runs};
 ghost use Rattle.sm_server.specs.Status.{status_of};
 ghost use Rattle.sm_server.specs.Turns.{TurnOf, seat};
@@ -48,32 +49,10 @@ pub fn answer_source<Q: Source, K: Sink, D: Disk, C: Clock, W: Words, R: Rotator
       entries = entries;
       history = history account.new;
     }) (status_of result)
-        (record {
-          left = Q.left source.old;
-          taken = K.taken sink.old;
-          readings = C.readings clock.old;
-          drawn = W.drawn random.old;
-          counts = record {
-            source = Q.source_faults source.old;
-            sink = K.sink_faults sink.old;
-            disk = D.faults (disk account.old);
-            random = W.faults random.old;
-            rotator = R.faults rotator.old;
-          };
-        })
-        (record {
-          left = Q.left source.new;
-          taken = K.taken sink.new;
-          readings = C.readings clock.new;
-          drawn = W.drawn random.new;
-          counts = record {
-            source = Q.source_faults source.new;
-            sink = K.sink_faults sink.new;
-            disk = D.faults (disk account.new);
-            random = W.faults random.new;
-            rotator = R.faults rotator.new;
-          };
-        }) }
+        (outside_by Q.Source K.Sink C.Clock W.Words R.Rotator source.old sink.old
+        (D.faults (disk account.old)) clock.old random.old rotator.old)
+        (outside_by Q.Source K.Sink C.Clock W.Words R.Rotator source.new sink.new
+        (D.faults (disk account.new)) clock.new random.new rotator.new) }
     ensures origin { SameOrigin account.old account.new }
     ensures unsure { IsSome (failed account.new) → IsSome (failed account.old)
         ⊎ Rose (D.faults (disk account.old)) (D.faults (disk account.new)) }

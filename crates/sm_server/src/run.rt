@@ -12,6 +12,7 @@ ghost use Rattle.sm_principal.specs.Callers.{people_of};
 ghost use Rattle.sm_server.specs.Asked.{PeopleDecide};
 ghost use Rattle.sm_server.specs.Checks.{Shows};
 ghost use Rattle.sm_server.specs.Complete.{Ran};
+ghost use Rattle.sm_server.specs.Outside.{outside_by};
 ghost use Rattle.sm_server.specs.Ran.{Runs, Story, course_of};
 ghost use Rattle.sm_server.specs.Status.{WasFollowed, WasOpened, WasUnderstood};
 ghost use Rattle.sm_server.specs.Stored.{Leaves, Stands, status_unopened, disk_unopened};
@@ -46,32 +47,10 @@ pub fn run_once<Q: Source, K: Sink, D: Disk, C: Clock, W: Words, R: Rotator>(
     // How the run went, and what stands on the disk.
     ensures ran { (story : Story)
         × Ran R.replies (record { words = map string_bytes words.now; people = people.now }) result.0
-        (record {
-          left = Q.left source.old;
-          taken = K.taken sink.old;
-          readings = C.readings clock.old;
-          drawn = W.drawn random.old;
-          counts = record {
-            source = Q.source_faults source.old;
-            sink = K.sink_faults sink.old;
-            disk = D.faults disk;
-            random = W.faults random.old;
-            rotator = R.faults rotator.old;
-          };
-        })
-        (record {
-          left = Q.left source.new;
-          taken = K.taken sink.new;
-          readings = C.readings clock.new;
-          drawn = W.drawn random.new;
-          counts = record {
-            source = Q.source_faults source.new;
-            sink = K.sink_faults sink.new;
-            disk = D.faults result.1;
-            random = W.faults random.new;
-            rotator = R.faults rotator.new;
-          };
-        }) story
+        (outside_by Q.Source K.Sink C.Clock W.Words R.Rotator source.old sink.old
+        (D.faults disk) clock.old random.old rotator.old)
+        (outside_by Q.Source K.Sink C.Clock W.Words R.Rotator source.new sink.new
+        (D.faults result.1) clock.new random.new rotator.new) story
         × Leaves D.Disk result.0 story disk result.1 }
     ensures source_later { Q.source_faults source.old ≤ Q.source_faults source.new }
     ensures sink_later { K.sink_faults sink.old ≤ K.sink_faults sink.new }
@@ -102,32 +81,10 @@ fn run_task<Q: Source, K: Sink, D: Disk, C: Clock, W: Words, R: Rotator>(
     ensures ran { (story : Story) × (story.task ≡ task)
         × PeopleDecide result.0 (people_of people.now) story.people
         × Runs (course_of R.replies story) result.0
-        (record {
-          left = Q.left source.old;
-          taken = K.taken sink.old;
-          readings = C.readings clock.old;
-          drawn = W.drawn random.old;
-          counts = record {
-            source = Q.source_faults source.old;
-            sink = K.sink_faults sink.old;
-            disk = D.faults disk;
-            random = W.faults random.old;
-            rotator = R.faults rotator.old;
-          };
-        })
-        (record {
-          left = Q.left source.new;
-          taken = K.taken sink.new;
-          readings = C.readings clock.new;
-          drawn = W.drawn random.new;
-          counts = record {
-            source = Q.source_faults source.new;
-            sink = K.sink_faults sink.new;
-            disk = D.faults result.1;
-            random = W.faults random.new;
-            rotator = R.faults rotator.new;
-          };
-        })
+        (outside_by Q.Source K.Sink C.Clock W.Words R.Rotator source.old sink.old
+        (D.faults disk) clock.old random.old rotator.old)
+        (outside_by Q.Source K.Sink C.Clock W.Words R.Rotator source.new sink.new
+        (D.faults result.1) clock.new random.new rotator.new)
         × Leaves D.Disk result.0 story disk result.1 }
     ensures understood { WasUnderstood result.0 }
     ensures source_later { Q.source_faults source.old ≤ Q.source_faults source.new }
@@ -158,32 +115,10 @@ fn run_over<Q: Source, K: Sink, D: Disk, C: Clock, W: Words, R: Rotator>(
 ) -> (Status, D)
     ensures ran { (story : Story) × (story.task ≡ task) × (story.people ≡ people.now)
         × Runs (course_of R.replies story) result.0
-        (record {
-          left = Q.left source.old;
-          taken = K.taken sink.old;
-          readings = C.readings clock.old;
-          drawn = W.drawn random.old;
-          counts = record {
-            source = Q.source_faults source.old;
-            sink = K.sink_faults sink.old;
-            disk = D.faults disk;
-            random = W.faults random.old;
-            rotator = R.faults rotator.old;
-          };
-        })
-        (record {
-          left = Q.left source.new;
-          taken = K.taken sink.new;
-          readings = C.readings clock.new;
-          drawn = W.drawn random.new;
-          counts = record {
-            source = Q.source_faults source.new;
-            sink = K.sink_faults sink.new;
-            disk = D.faults result.1;
-            random = W.faults random.new;
-            rotator = R.faults rotator.new;
-          };
-        })
+        (outside_by Q.Source K.Sink C.Clock W.Words R.Rotator source.old sink.old
+        (D.faults disk) clock.old random.old rotator.old)
+        (outside_by Q.Source K.Sink C.Clock W.Words R.Rotator source.new sink.new
+        (D.faults result.1) clock.new random.new rotator.new)
         × Leaves D.Disk result.0 story disk result.1 }
     ensures followed { WasFollowed result.0 }
     ensures source_later { Q.source_faults source.old ≤ Q.source_faults source.new }
@@ -230,32 +165,10 @@ fn run_opened<Q: Source, K: Sink, D: Disk, C: Clock, W: Words, R: Rotator>(
     requires later { D.faults (began account) ≤ D.faults (disk account) }
     ensures ran { (story : Story) × (story.task ≡ task) × (story.people ≡ people.now) × (story.taken ≡ taken account)
         × Runs (course_of R.replies story) result.0
-        (record {
-          left = Q.left source.old;
-          taken = K.taken sink.old;
-          readings = C.readings clock.old;
-          drawn = W.drawn random.old;
-          counts = record {
-            source = Q.source_faults source.old;
-            sink = K.sink_faults sink.old;
-            disk = D.faults (began account);
-            random = W.faults random.old;
-            rotator = R.faults rotator.old;
-          };
-        })
-        (record {
-          left = Q.left source.new;
-          taken = K.taken sink.new;
-          readings = C.readings clock.new;
-          drawn = W.drawn random.new;
-          counts = record {
-            source = Q.source_faults source.new;
-            sink = K.sink_faults sink.new;
-            disk = D.faults result.1;
-            random = W.faults random.new;
-            rotator = R.faults rotator.new;
-          };
-        })
+        (outside_by Q.Source K.Sink C.Clock W.Words R.Rotator source.old sink.old
+        (D.faults (began account)) clock.old random.old rotator.old)
+        (outside_by Q.Source K.Sink C.Clock W.Words R.Rotator source.new sink.new
+        (D.faults result.1) clock.new random.new rotator.new)
         × Stands D.Disk story (began account) result.1 }
     ensures opened { WasOpened result.0 }
     ensures source_later { Q.source_faults source.old ≤ Q.source_faults source.new }
@@ -287,32 +200,10 @@ fn answer_opened<Q: Source, K: Sink, D: Disk, C: Clock, W: Words, R: Rotator>(
     requires later { D.faults (began account) ≤ D.faults (disk account) }
     ensures ran { (story : Story) × (story.task ≡ Answer) × (story.people ≡ people.now) × (story.taken ≡ taken account)
         × Runs (course_of R.replies story) result.0
-        (record {
-          left = Q.left source.old;
-          taken = K.taken sink.old;
-          readings = C.readings clock.old;
-          drawn = W.drawn random.old;
-          counts = record {
-            source = Q.source_faults source.old;
-            sink = K.sink_faults sink.old;
-            disk = D.faults (began account);
-            random = W.faults random.old;
-            rotator = R.faults rotator.old;
-          };
-        })
-        (record {
-          left = Q.left source.new;
-          taken = K.taken sink.new;
-          readings = C.readings clock.new;
-          drawn = W.drawn random.new;
-          counts = record {
-            source = Q.source_faults source.new;
-            sink = K.sink_faults sink.new;
-            disk = D.faults result.1;
-            random = W.faults random.new;
-            rotator = R.faults rotator.new;
-          };
-        })
+        (outside_by Q.Source K.Sink C.Clock W.Words R.Rotator source.old sink.old
+        (D.faults (began account)) clock.old random.old rotator.old)
+        (outside_by Q.Source K.Sink C.Clock W.Words R.Rotator source.new sink.new
+        (D.faults result.1) clock.new random.new rotator.new)
         × Stands D.Disk story (began account) result.1 }
     ensures opened { WasOpened result.0 }
     ensures source_later { Q.source_faults source.old ≤ Q.source_faults source.new }

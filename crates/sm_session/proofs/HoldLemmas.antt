@@ -1,22 +1,16 @@
 -- One hold of the lock, and the turn that it is a part of.
-use Rattle.std.proofs.Common.{◌≡◌, ◌⊎◌, ◌≤◌, ℕ, List, [], ◌∷◌, ◌++◌, length, drop, Option, Some, None, Result, Ok, refl, sym, ap, ◌∙◌, subst, inl, inr, append-nil}
+use Rattle.std.proofs.Common.{◌≡◌, ◌⊎◌, ◌≤◌, ℕ, List, [], ◌∷◌, ◌++◌, length, drop, Some, None, Result, refl, sym, ap, ◌∙◌, inl, inr, append-nil}
 use Rattle.sm_base.specs.Faults.{Rose}
 use Rattle.sm_base.specs.declared.moment.Moment.{Moment}
-use Rattle.sm_disk.specs.declared.disk.Disk.{Ghosts as DiskGhosts}
-use Rattle.sm_model.specs.declared.entry.Entry.{Entry as entries}
 use Rattle.sm_model.specs.declared.entry.Mark.{Mark}
 use Rattle.sm_model.specs.declared.entry.Mark.TheVariants.{Entry, Fault}
 use Rattle.sm_model.specs.declared.why.Why.{Why}
-use Rattle.sm_rotator.specs.declared.rotator.Rotator.{Ghosts as RotatorGhosts}
-use Rattle.sm_account.specs.Accounts.{SameOrigin, base, began, taken}
+use Rattle.sm_account.specs.Accounts.{base}
 use Rattle.sm_account.specs.Handled.{marks_of, OnDiskFault}
 use Rattle.sm_account.specs.History.{by_seat}
 use Rattle.sm_account.specs.Outcome.{Outcome, Refuses, Replies}
-use Rattle.sm_account.specs.States.{Base, base_of}
-use Rattle.sm_account.specs.declared.account.Account.{Account}
 use Rattle.sm_account.specs.declared.handled.Handled.{Handled}
 use Rattle.sm_account.specs.declared.handled.Handled.TheVariants as handled
-use Rattle.sm_account.specs.declared.storied.Opened.{Opened}
 use Rattle.sm_lock.specs.Handles.{number, seen, built, mine, IsIn}
 use Rattle.sm_lock.specs.Story.{Grows, entries_of}
 use Rattle.sm_lock.specs.declared.gate.Gate.{Gate}
@@ -30,26 +24,9 @@ use Rattle.sm_session.specs.declared.trace.TraceItem.{TraceItem}
 use Rattle.sm_session.specs.Answer.{Asked}
 use Rattle.sm_session.specs.Sessions.{Place, Standing, MessageTurn, turn_shape, item_at, TakesTurn}
 use Rattle.sm_session.specs.Told.{nothing_told, told_once}
-use Rattle.sm_session.specs.Turns.{Turn, Untouched, IsTurn}
-use Rattle.sm_session.proofs.KnownLemmas.{append_known-nil}
+use Rattle.sm_session.specs.Turns.{Untouched, IsTurn}
+use Rattle.sm_spells.proofs.KnownLemmas.{append_known-nil}
 use Rattle.sm_session.proofs.TurnLemmas.{untouched}
-
--- what an account was opened over
-module _ {D R : Type 0} {G : DiskGhosts D} {V : RotatorGhosts R} where
-  abbrev pub origin_of : Account D R G V → Opened D
-  origin_of account =
-      record { taken = taken account; limit = (base account).limit; began = began account }
-
-  pub origin_stays : (old new : Account D R G V) → SameOrigin old new → origin_of new ≡ origin_of old
-  origin_stays old new same =
-      let of : List entries → ℕ → D → Opened D = λ taken limit began.
-      record { taken = taken; limit = limit; began = began } in
-      ap (λ t. of t (base new).limit (began new)) same.taken_stays
-      ∙ ap (λ (b : Base). of (taken old) b.limit (began new)) same.base_stays
-      ∙ ap (of (taken old) (base old).limit) same.began_stays
-
-  pub same_base : (a b : Account D R G V) → origin_of a ≡ origin_of b → base a ≡ base b
-  same_base a b same = ap (λ (o : Opened D). base_of o.taken o.limit) same
 
 -- an answer leaves one mark at most
 one_more : (seat : ℕ) (before after : History) (mark : Mark) → after ≡ before ++ by_seat seat (mark ∷ [])

@@ -1,4 +1,3 @@
-pub mod KnownLemmas
 pub mod HearLemmas
 pub mod ReplyLemmas
 pub mod TurnLemmas

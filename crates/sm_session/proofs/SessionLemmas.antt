@@ -29,7 +29,7 @@ use Rattle.sm_session.specs.Sessions.{Place, Standing, Around, MessageTurn, brou
 use Rattle.sm_session.specs.Streams.{message_limit}
 use Rattle.sm_session.specs.Told.{Told, nothing_told, told_both}
 use Rattle.sm_session.specs.Turns.{Untouched}
-use Rattle.sm_session.proofs.KnownLemmas.{append_known-nil, told_more}
+use Rattle.sm_spells.proofs.KnownLemmas.{append_known-nil, told_more}
 use Rattle.sm_session.proofs.WireLemmas.{Wire, wire_first, wire_enough, wire_memory, wire_more, wire_cut, wire_stops}
 
 -- what others add to a history may be nothing, and two times in a row are one

@@ -1,6 +1,5 @@
 -- When a journal's tail is unsure.
-use Rattle.std.proofs.Common.{◌≡◌, ◌⊎◌, ◌≤◌, ℕ, false, Some, None, IsSome, is_some, sym, ap, ◌∙◌, inl, inr, arith}
-use Rattle.sm_base.specs.Faults.{Rose}
+use Rattle.std.proofs.Common.{◌≡◌, ◌⊎◌, false, Some, None, IsSome, is_some, sym, ap, ◌∙◌, inl, inr, arith}
 use Rattle.sm_disk.specs.declared.disk.Disk.{Ghosts}
 use Rattle.sm_store.specs.Stores.{is_unsure}
 use Rattle.sm_account.specs.Handled.{HandledAs, OnDiskFault}
@@ -32,12 +31,3 @@ module _ {D : Type 0} {G : Ghosts D} (old new : Books D G) (P : Type 0)
   unsure_after (Refused why) wanted is kept leaves acknowledged rose some = stays kept.1 some
   unsure_after DiskFault wanted is kept leaves acknowledged rose some = inr rose
   unsure_after Memory wanted is kept leaves acknowledged rose some = stays kept.1 some
-
--- unsure since an earlier moment, by way of a later one
-pub unsure_since : (A B C : Type 0) (first now later : ℕ) → (B → A ⊎ Rose first now) → (C → B ⊎ Rose now later)
-    → first ≤ now → now ≤ later → C → A ⊎ Rose first later
-unsure_since A B C first now later earlier then lower upper c =
-    elim (then c) [
-      | inl b ↦ elim (earlier b) [ inl a ↦ inl a | inr rose ↦ inr (omega (arith, rose, upper)) ]
-      | inr rose ↦ inr (omega (arith, rose, lower))
-    ]

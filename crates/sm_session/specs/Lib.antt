@@ -6,4 +6,5 @@ pub mod Turns
 pub mod Streams
 pub mod Endings
 pub mod Sessions
+pub mod Views
 pub mod Complete

@@ -10,6 +10,7 @@ ghost use Rattle.sm_session.specs.Complete.{Completes};
 ghost use Rattle.sm_session.specs.Endings.{next_of, StopsBy, Finishes};
 ghost use Rattle.sm_session.specs.Replies.{reply_of, framed_answer};
 ghost use Rattle.sm_session.specs.Sessions.{Serves, turn_shape};
+ghost use Rattle.sm_session.specs.Views.{around_by};
 
 use crate::ended::Ended;
 use crate::said::Said;
@@ -47,34 +48,9 @@ pub fn serve<K: Conn, C: Clock, W: Words, D: Disk, R: Rotator, H: Wait>(
     // What the session did; the seat's own marks are those of its turns; where nothing failed, no message went without
     // the model's reply.
     ensures served { (session : Serves people.now (record { base = base (built_with gate.now); seat = number pass })
-        (record {
-          sides = record {
-            left = K.left conn.old;
-            taken = K.taken conn.old;
-            source = K.source_faults conn.old;
-            sink = K.sink_faults conn.old;
-          };
-          own = record {
-            seen = seen pass;
-            readings = C.readings clock.old;
-            drawn = W.drawn words.old;
-            random = W.faults words.old;
-          };
-        })
-        (record {
-          sides = record {
-            left = K.left conn.new;
-            taken = K.taken conn.new;
-            source = K.source_faults conn.new;
-            sink = K.sink_faults conn.new;
-          };
-          own = record {
-            seen = seen result.pass;
-            readings = C.readings clock.new;
-            drawn = W.drawn words.new;
-            random = W.faults words.new;
-          };
-        }) result.ended result.trace.items)
+        (around_by K.Source K.Sink C.Clock W.Words (seen pass) conn.old clock.old words.old)
+        (around_by K.Source K.Sink C.Clock W.Words (seen result.pass) conn.new clock.new words.new)
+        result.ended result.trace.items)
         × (mine result.pass ≡ mine pass ++ marks_in turn_shape session.turns)
         × Completes session }
     ensures source_later { K.source_faults conn.old ≤ K.source_faults conn.new }
@@ -117,34 +93,9 @@ fn answer_stream<K: Conn, C: Clock, W: Words, D: Disk, R: Rotator, H: Wait>(
     ensures gate { IsIn gate.now result.pass }
     ensures number { number result.pass ≡ number pass }
     ensures served { Serves people.now (record { base = base (built_with gate.now); seat = number pass })
-        (record {
-          sides = record {
-            left = K.left conn.old;
-            taken = K.taken conn.old;
-            source = K.source_faults conn.old;
-            sink = K.sink_faults conn.old;
-          };
-          own = record {
-            seen = seen pass;
-            readings = C.readings clock.old;
-            drawn = W.drawn words.old;
-            random = W.faults words.old;
-          };
-        })
-        (record {
-          sides = record {
-            left = K.left conn.new;
-            taken = K.taken conn.new;
-            source = K.source_faults conn.new;
-            sink = K.sink_faults conn.new;
-          };
-          own = record {
-            seen = seen result.pass;
-            readings = C.readings clock.new;
-            drawn = W.drawn words.new;
-            random = W.faults words.new;
-          };
-        }) result.ended items.new.items }
+        (around_by K.Source K.Sink C.Clock W.Words (seen pass) conn.old clock.old words.old)
+        (around_by K.Source K.Sink C.Clock W.Words (seen result.pass) conn.new clock.new words.new)
+        result.ended items.new.items }
     ensures source_later { K.source_faults conn.old ≤ K.source_faults conn.new }
     ensures sink_later { K.sink_faults conn.old ≤ K.sink_faults conn.new }
     ensures random_later { W.faults words.old ≤ W.faults words.new }

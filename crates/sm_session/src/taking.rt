@@ -6,6 +6,7 @@ ghost use Rattle.sm_lock.specs.Handles.{built_with, number, seen, IsIn};
 ghost use Rattle.sm_session.specs.Answer.{heard};
 ghost use Rattle.sm_session.specs.Replies.{reply_of};
 ghost use Rattle.sm_session.specs.Sessions.{TakesTurn};
+ghost use Rattle.sm_session.specs.Views.{standing_by};
 
 use crate::drawing::draw;
 use crate::heard::Heard;
@@ -49,18 +50,8 @@ pub(crate) fn take_turn<D: Disk, R: Rotator, C: Clock, W: Words, H: Wait>(
     ensures number { number result.pass ≡ number pass }
     ensures turn { TakesTurn (record { base = base (built_with gate.now); seat = number pass })
         (heard people.now (content message.now))
-        (record {
-          seen = seen pass;
-          readings = C.readings clock.old;
-          drawn = W.drawn words.old;
-          random = W.faults words.old;
-        })
-        (record {
-          seen = seen result.pass;
-          readings = C.readings clock.new;
-          drawn = W.drawn words.new;
-          random = W.faults words.new;
-        }) (reply_of result.said) result.item }
+        (standing_by C.Clock W.Words (seen pass) clock.old words.old)
+        (standing_by C.Clock W.Words (seen result.pass) clock.new words.new) (reply_of result.said) result.item }
     ensures later { W.faults words.old ≤ W.faults words.new }
 {
     match read(alloc, people, message) {
@@ -90,18 +81,8 @@ fn ask<D: Disk, R: Rotator, C: Clock, W: Words, H: Wait>(
     ensures number { number result.pass ≡ number pass }
     ensures turn { TakesTurn (record { base = base (built_with gate.now); seat = number pass })
         (Ok (record { person = person.now; request = request.now }))
-        (record {
-          seen = seen pass;
-          readings = C.readings clock.old;
-          drawn = W.drawn words.old;
-          random = W.faults words.old;
-        })
-        (record {
-          seen = seen result.pass;
-          readings = C.readings clock.new;
-          drawn = W.drawn words.new;
-          random = W.faults words.new;
-        }) (reply_of result.said) result.item }
+        (standing_by C.Clock W.Words (seen pass) clock.old words.old)
+        (standing_by C.Clock W.Words (seen result.pass) clock.new words.new) (reply_of result.said) result.item }
     ensures later { W.faults words.old ≤ W.faults words.new }
 {
     match draw(alloc, words, need(request)) {

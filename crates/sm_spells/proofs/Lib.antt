@@ -1,1 +1,3 @@
 pub mod SpellLaws
+pub mod KnownLemmas
+pub mod OriginLemmas

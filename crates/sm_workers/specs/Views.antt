@@ -8,19 +8,9 @@ use Rattle.sm_io.specs.declared.words.Words.{Ghosts as WordsGhosts}
 use Rattle.sm_rotation.specs.Vouched.{Replies}
 use Rattle.sm_rotator.specs.declared.rotator.Rotator.{Ghosts as RotatorGhosts}
 use Rattle.sm_session.specs.Endings.{Sides}
-use Rattle.sm_session.specs.Sessions.{Standing}
-use Rattle.sm_spells.specs.Spells.{History}
+use Rattle.sm_session.specs.Views.{sides_by}
 use Rattle.sm_workers.specs.declared.worker.ConnEnd.{ConnEnd}
 use Rattle.sm_workers.specs.Doors.{EdgeState}
-
--- the two sides of a connection
-abbrev pub sides_by : {K : Type 0} → SourceGhosts K → SinkGhosts K → K → Sides
-sides_by source sink conn = record {
-  left = source.left conn;
-  taken = sink.taken conn;
-  source = source.source_faults conn;
-  sink = sink.sink_faults conn;
-}
 
 -- what an edge tells, and how often it has failed
 abbrev pub edge_by : {E K : Type 0} → EdgeGhosts E ConnEnd K → E → EdgeState K
@@ -29,15 +19,6 @@ edge_by ghosts edge = record {
   handed = ghosts.handed edge;
   back = ghosts.back edge;
   faults = ghosts.edge_faults edge;
-}
-
--- the standing of a seat that has seen this history, with its clock and its random source
-abbrev pub standing_by : {C W : Type 0} → ClockGhosts C → WordsGhosts W → History → C → W → Standing
-standing_by clocks sources seen clock words = record {
-  seen = seen;
-  readings = clocks.readings clock;
-  drawn = sources.drawn words;
-  random = sources.faults words;
 }
 
 -- All that is outside of a worker: an edge and its connections, a clock, a random source and a rotator.

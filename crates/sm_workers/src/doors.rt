@@ -5,7 +5,8 @@ ghost use Rattle.sm_io.specs.Edge.{IsFewer, told_more};
 ghost use Rattle.sm_lock.specs.Handles.{built_with, number, seen, IsIn};
 ghost use Rattle.sm_lock.specs.Story.{Grows};
 ghost use Rattle.sm_workers.specs.Doors.{DoorDid, EndsDoor};
-ghost use Rattle.sm_workers.specs.Views.{edge_by, sides_by, standing_by};
+ghost use Rattle.sm_session.specs.Views.{sides_by, standing_by};
+ghost use Rattle.sm_workers.specs.Views.{edge_by};
 ghost use Rattle.sm_workers.specs.Visits.{Visit};
 
 use crate::worker::ConnEnd;

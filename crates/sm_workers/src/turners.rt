@@ -5,7 +5,7 @@ ghost use Rattle.sm_lock.specs.Handles.{built_with, number, seen, IsIn};
 ghost use Rattle.sm_lock.specs.Story.{Grows};
 ghost use Rattle.sm_pool.specs.Rounds.{ComesToRest};
 ghost use Rattle.sm_workers.specs.Turners.{TurnerDid};
-ghost use Rattle.sm_workers.specs.Views.{standing_by};
+ghost use Rattle.sm_session.specs.Views.{standing_by};
 
 use sm_account::Account;
 use sm_disk::Disk;

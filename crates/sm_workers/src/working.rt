@@ -2,7 +2,8 @@
 ghost use Rattle.std.specs.Prelude.{◌≡◌, Some};
 ghost use Rattle.sm_account.specs.Accounts.{base};
 ghost use Rattle.sm_lock.specs.Handles.{built_with, number, seen, IsIn};
-ghost use Rattle.sm_workers.specs.Views.{standing_by, views_by};
+ghost use Rattle.sm_session.specs.Views.{standing_by};
+ghost use Rattle.sm_workers.specs.Views.{views_by};
 ghost use Rattle.sm_workers.specs.Workers.{Did, EndsAs, IsReady, WorksWithItsPass};
 
 use crate::doors::{Left, keep_door};

@@ -4,7 +4,7 @@ use Rattle.sm_account.specs.States.{Base}
 use Rattle.sm_pool.specs.Alone.{NoGap}
 use Rattle.sm_pool.specs.Turns.{Passing, StartDone, WorkDone}
 use Rattle.sm_pool.proofs.AloneLemmas.{never_stale}
-use Rattle.sm_pool.proofs.KnownLemmas.{append_known-nil}
+use Rattle.sm_spells.proofs.KnownLemmas.{append_known-nil}
 use Rattle.sm_pool.proofs.TurnLemmas.{rests_turn, starts_turn, wants_turn, works_turn}
 use Rattle.sm_pool.proofs.alone.one_turn.Goals as goal
 

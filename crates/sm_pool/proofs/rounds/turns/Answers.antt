@@ -6,7 +6,7 @@ use Rattle.sm_pool.specs.declared.done.Done.{Done}
 use Rattle.sm_pool.specs.Alone.{IsStale, NoGap}
 use Rattle.sm_pool.specs.Rounds.{Point, Turned, goes_on}
 use Rattle.sm_pool.specs.Turns.{Passing, TurnDone}
-use Rattle.sm_pool.proofs.OriginLemmas.{same_origin, same_origin_still, unsure_since}
+use Rattle.sm_spells.proofs.OriginLemmas.{same_origin, same_origin_still, unsure_since}
 use Rattle.sm_pool.proofs.RoundLemmas.{Heard, progress_first, progress_more, round_full, round_rests, turned_by}
 use Rattle.sm_pool.proofs.rounds.turns.Goals as goal
 

@@ -5,7 +5,7 @@ use Rattle.sm_lock.specs.Story.{Grows}
 use Rattle.sm_lock.proofs.Stories.{grows-same}
 use Rattle.sm_pool.specs.Turns.{Passing, StartDone, WorkDone, holds_of}
 use Rattle.sm_pool.proofs.BehindLemmas.{holds_mine}
-use Rattle.sm_pool.proofs.KnownLemmas.{append_known-nil}
+use Rattle.sm_spells.proofs.KnownLemmas.{append_known-nil}
 use Rattle.sm_pool.proofs.TurnLemmas.{rests_turn, starts_turn, wants_turn, works_turn}
 use Rattle.sm_pool.proofs.shared.rotation_turn.Goals as goal
 

@@ -1,17 +1,17 @@
-use Rattle.std.proofs.Common.{◌≡◌, ◌++◌, refl, subst, ◌∙◌, arith}
+use Rattle.std.proofs.Common.{◌++◌, refl, subst, arith}
 use Rattle.sm_account.specs.Accounts.{history, base, disk}
 use Rattle.sm_account.specs.History.{by_seat}
 use Rattle.sm_account.specs.States.{Base}
 use Rattle.sm_http.specs.Reading.{content}
-use Rattle.sm_pool.specs.Rounds.{Counts, Point, Rotated, courses_in, drawn_in, marks_of, readings_in}
-use Rattle.sm_pool.proofs.OriginLemmas.{same_origin}
+use Rattle.sm_pool.specs.Rounds.{Counts, Rotated, courses_in, drawn_in, marks_of, readings_in}
+use Rattle.sm_spells.proofs.OriginLemmas.{same_origin}
 use Rattle.sm_spells.specs.Spells.{History}
 use Rattle.sm_session.specs.Answer.{heard}
 use Rattle.sm_session.specs.Replies.{reply_of}
 use Rattle.sm_session.specs.Told.{told_both}
 use Rattle.sm_session.specs.Turns as sessions
-use Rattle.sm_session.proofs.KnownLemmas.{told_more}
-use Rattle.sm_session.proofs.UnsureLemmas.{unsure_since}
+use Rattle.sm_spells.proofs.KnownLemmas.{told_more}
+use Rattle.sm_spells.proofs.OriginLemmas.{unsure_since}
 use Rattle.sm_server.specs.Turns.{seat, told_for}
 use Rattle.sm_server.proofs.TurnsLemmas.{joined_marks, turn_joined}
 use Rattle.sm_server.proofs.answering.answer_message.Goals as goal

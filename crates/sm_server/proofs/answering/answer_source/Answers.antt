@@ -6,27 +6,17 @@ use Rattle.sm_account.specs.Accounts.{history, base, disk}
 use Rattle.sm_account.specs.History.{entries_in}
 use Rattle.sm_account.specs.States.{Base}
 use Rattle.sm_session.specs.Endings.{Sides}
-use Rattle.sm_session.proofs.UnsureLemmas.{unsure_since}
-use Rattle.sm_server.specs.Outside.{Outside}
-use Rattle.sm_pool.proofs.OriginLemmas.{same_origin, same_origin_still}
+use Rattle.sm_spells.proofs.OriginLemmas.{unsure_since}
+use Rattle.sm_server.specs.Outside.{Outside, outside_by}
+use Rattle.sm_spells.proofs.OriginLemmas.{same_origin, same_origin_still}
 use Rattle.sm_server.proofs.RunLemmas.{Point, Step, Turned, Later, progress_first, progress_more, run_cut, run_enough, run_stops}
 use Rattle.sm_server.proofs.answering.answer_source.Goals as goal
 
 pub loop-number-init : goal.loop-number-init
 loop-number-init g c =
-    let before : Outside = record {
-      left = g.Q.Source.left c.args.source.now;
-      taken = g.K.Sink.taken c.args.sink.now;
-      readings = g.C.Clock.readings c.args.clock.now;
-      drawn = g.W.Words.drawn c.args.random.now;
-      counts = record {
-        source = g.Q.Source.source_faults c.args.source.now;
-        sink = g.K.Sink.sink_faults c.args.sink.now;
-        disk = g.D.Disk.faults (disk c.args.account.now);
-        random = g.W.Words.faults c.args.random.now;
-        rotator = g.R.Rotator.faults c.args.rotator.now;
-      };
-    } in
+    let before : Outside = outside_by g.Q.Source g.K.Sink g.C.Clock g.W.Words g.R.Rotator c.args.source.now
+    c.args.sink.now (g.D.Disk.faults (disk c.args.account.now)) c.args.clock.now c.args.random.now
+    c.args.rotator.now in
     record {
       origin = same_origin_still c.args.account.now;
       unsure = λ some. inl some;
@@ -43,33 +33,12 @@ loop-number-init g c =
 pub returns-in-Err-clause-runs : goal.returns-in-Err-clause-runs
 returns-in-Err-clause-runs g c =
     let i = c.loop-number.invariant in
-    let before : Outside = record {
-      left = g.Q.Source.left c.args.source.now;
-      taken = g.K.Sink.taken c.args.sink.now;
-      readings = g.C.Clock.readings c.args.clock.now;
-      drawn = g.W.Words.drawn c.args.random.now;
-      counts = record {
-        source = g.Q.Source.source_faults c.args.source.now;
-        sink = g.K.Sink.sink_faults c.args.sink.now;
-        disk = g.D.Disk.faults (disk c.args.account.now);
-        random = g.W.Words.faults c.args.random.now;
-        rotator = g.R.Rotator.faults c.args.rotator.now;
-      };
-    } in
+    let before : Outside = outside_by g.Q.Source g.K.Sink g.C.Clock g.W.Words g.R.Rotator c.args.source.now
+    c.args.sink.now (g.D.Disk.faults (disk c.args.account.now)) c.args.clock.now c.args.random.now
+    c.args.rotator.now in
     let at : Point = record {
-      now = record {
-        left = g.Q.Source.left c.loop-number.source;
-        taken = g.K.Sink.taken c.loop-number.sink;
-        readings = g.C.Clock.readings c.loop-number.clock;
-        drawn = g.W.Words.drawn c.loop-number.random;
-        counts = record {
-          source = g.Q.Source.source_faults c.loop-number.source;
-          sink = g.K.Sink.sink_faults c.loop-number.sink;
-          disk = g.D.Disk.faults (disk c.loop-number.account);
-          random = g.W.Words.faults c.loop-number.random;
-          rotator = g.R.Rotator.faults c.loop-number.rotator;
-        };
-      };
+      now = outside_by g.Q.Source g.K.Sink g.C.Clock g.W.Words g.R.Rotator c.loop-number.source c.loop-number.sink
+          (g.D.Disk.faults (disk c.loop-number.account)) c.loop-number.clock c.loop-number.random c.loop-number.rotator;
       reader = c.loop-number.reader;
       history = history c.loop-number.account;
       count = c.loop-number.count;
@@ -87,33 +56,12 @@ returns-in-Err-clause-runs g c =
 pub returns-then-not-sent-clause-runs : goal.returns-then-not-sent-clause-runs
 returns-then-not-sent-clause-runs g c =
     let i = c.loop-number.invariant in
-    let before : Outside = record {
-      left = g.Q.Source.left c.args.source.now;
-      taken = g.K.Sink.taken c.args.sink.now;
-      readings = g.C.Clock.readings c.args.clock.now;
-      drawn = g.W.Words.drawn c.args.random.now;
-      counts = record {
-        source = g.Q.Source.source_faults c.args.source.now;
-        sink = g.K.Sink.sink_faults c.args.sink.now;
-        disk = g.D.Disk.faults (disk c.args.account.now);
-        random = g.W.Words.faults c.args.random.now;
-        rotator = g.R.Rotator.faults c.args.rotator.now;
-      };
-    } in
+    let before : Outside = outside_by g.Q.Source g.K.Sink g.C.Clock g.W.Words g.R.Rotator c.args.source.now
+    c.args.sink.now (g.D.Disk.faults (disk c.args.account.now)) c.args.clock.now c.args.random.now
+    c.args.rotator.now in
     let at : Point = record {
-      now = record {
-        left = g.Q.Source.left c.loop-number.source;
-        taken = g.K.Sink.taken c.loop-number.sink;
-        readings = g.C.Clock.readings c.loop-number.clock;
-        drawn = g.W.Words.drawn c.loop-number.random;
-        counts = record {
-          source = g.Q.Source.source_faults c.loop-number.source;
-          sink = g.K.Sink.sink_faults c.loop-number.sink;
-          disk = g.D.Disk.faults (disk c.loop-number.account);
-          random = g.W.Words.faults c.loop-number.random;
-          rotator = g.R.Rotator.faults c.loop-number.rotator;
-        };
-      };
+      now = outside_by g.Q.Source g.K.Sink g.C.Clock g.W.Words g.R.Rotator c.loop-number.source c.loop-number.sink
+          (g.D.Disk.faults (disk c.loop-number.account)) c.loop-number.clock c.loop-number.random c.loop-number.rotator;
       reader = c.loop-number.reader;
       history = history c.loop-number.account;
       count = c.loop-number.count;
@@ -122,19 +70,9 @@ returns-then-not-sent-clause-runs g c =
       now = at.now;
       history = at.history;
       message = c.in-Ok.message;
-      after = record {
-        left = g.Q.Source.left c.next_message.new.source;
-        taken = g.K.Sink.taken c.answer_message-sent.new.sink;
-        readings = g.C.Clock.readings c.answer_message-sent.new.clock;
-        drawn = g.W.Words.drawn c.answer_message-sent.new.random;
-        counts = record {
-          source = g.Q.Source.source_faults c.next_message.new.source;
-          sink = g.K.Sink.sink_faults c.answer_message-sent.new.sink;
-          disk = g.D.Disk.faults (disk c.answer_message-sent.new.account);
-          random = g.W.Words.faults c.answer_message-sent.new.random;
-          rotator = g.R.Rotator.faults c.answer_message-sent.new.rotator;
-        };
-      };
+      after = outside_by g.Q.Source g.K.Sink g.C.Clock g.W.Words g.R.Rotator c.next_message.new.source
+          c.answer_message-sent.new.sink (g.D.Disk.faults (disk c.answer_message-sent.new.account))
+          c.answer_message-sent.new.clock c.answer_message-sent.new.random c.answer_message-sent.new.rotator;
       history' = history c.answer_message-sent.new.account;
       reply = c.answer_message-sent.ensures.turn.2;
     } in
@@ -171,33 +109,12 @@ returns-then-not-sent-clause-unsure g c =
 pub loop-number-preserved : goal.loop-number-preserved
 loop-number-preserved g c =
     let i = c.loop-number.invariant in
-    let before : Outside = record {
-      left = g.Q.Source.left c.args.source.now;
-      taken = g.K.Sink.taken c.args.sink.now;
-      readings = g.C.Clock.readings c.args.clock.now;
-      drawn = g.W.Words.drawn c.args.random.now;
-      counts = record {
-        source = g.Q.Source.source_faults c.args.source.now;
-        sink = g.K.Sink.sink_faults c.args.sink.now;
-        disk = g.D.Disk.faults (disk c.args.account.now);
-        random = g.W.Words.faults c.args.random.now;
-        rotator = g.R.Rotator.faults c.args.rotator.now;
-      };
-    } in
+    let before : Outside = outside_by g.Q.Source g.K.Sink g.C.Clock g.W.Words g.R.Rotator c.args.source.now
+    c.args.sink.now (g.D.Disk.faults (disk c.args.account.now)) c.args.clock.now c.args.random.now
+    c.args.rotator.now in
     let at : Point = record {
-      now = record {
-        left = g.Q.Source.left c.loop-number.source;
-        taken = g.K.Sink.taken c.loop-number.sink;
-        readings = g.C.Clock.readings c.loop-number.clock;
-        drawn = g.W.Words.drawn c.loop-number.random;
-        counts = record {
-          source = g.Q.Source.source_faults c.loop-number.source;
-          sink = g.K.Sink.sink_faults c.loop-number.sink;
-          disk = g.D.Disk.faults (disk c.loop-number.account);
-          random = g.W.Words.faults c.loop-number.random;
-          rotator = g.R.Rotator.faults c.loop-number.rotator;
-        };
-      };
+      now = outside_by g.Q.Source g.K.Sink g.C.Clock g.W.Words g.R.Rotator c.loop-number.source c.loop-number.sink
+          (g.D.Disk.faults (disk c.loop-number.account)) c.loop-number.clock c.loop-number.random c.loop-number.rotator;
       reader = c.loop-number.reader;
       history = history c.loop-number.account;
       count = c.loop-number.count;
@@ -206,19 +123,9 @@ loop-number-preserved g c =
       now = at.now;
       history = at.history;
       message = c.in-Ok.message;
-      after = record {
-        left = g.Q.Source.left c.next_message.new.source;
-        taken = g.K.Sink.taken c.answer_message-sent.new.sink;
-        readings = g.C.Clock.readings c.answer_message-sent.new.clock;
-        drawn = g.W.Words.drawn c.answer_message-sent.new.random;
-        counts = record {
-          source = g.Q.Source.source_faults c.next_message.new.source;
-          sink = g.K.Sink.sink_faults c.answer_message-sent.new.sink;
-          disk = g.D.Disk.faults (disk c.answer_message-sent.new.account);
-          random = g.W.Words.faults c.answer_message-sent.new.random;
-          rotator = g.R.Rotator.faults c.answer_message-sent.new.rotator;
-        };
-      };
+      after = outside_by g.Q.Source g.K.Sink g.C.Clock g.W.Words g.R.Rotator c.next_message.new.source
+          c.answer_message-sent.new.sink (g.D.Disk.faults (disk c.answer_message-sent.new.account))
+          c.answer_message-sent.new.clock c.answer_message-sent.new.random c.answer_message-sent.new.rotator;
       history' = history c.answer_message-sent.new.account;
       reply = c.answer_message-sent.ensures.turn.2;
     } in
@@ -256,33 +163,12 @@ loop-number-preserved g c =
 
 pub returns-clause-runs : goal.returns-clause-runs
 returns-clause-runs g c =
-    let before : Outside = record {
-      left = g.Q.Source.left c.args.source.now;
-      taken = g.K.Sink.taken c.args.sink.now;
-      readings = g.C.Clock.readings c.args.clock.now;
-      drawn = g.W.Words.drawn c.args.random.now;
-      counts = record {
-        source = g.Q.Source.source_faults c.args.source.now;
-        sink = g.K.Sink.sink_faults c.args.sink.now;
-        disk = g.D.Disk.faults (disk c.args.account.now);
-        random = g.W.Words.faults c.args.random.now;
-        rotator = g.R.Rotator.faults c.args.rotator.now;
-      };
-    } in
+    let before : Outside = outside_by g.Q.Source g.K.Sink g.C.Clock g.W.Words g.R.Rotator c.args.source.now
+    c.args.sink.now (g.D.Disk.faults (disk c.args.account.now)) c.args.clock.now c.args.random.now
+    c.args.rotator.now in
     let at : Point = record {
-      now = record {
-        left = g.Q.Source.left c.loop-number.source;
-        taken = g.K.Sink.taken c.loop-number.sink;
-        readings = g.C.Clock.readings c.loop-number.clock;
-        drawn = g.W.Words.drawn c.loop-number.random;
-        counts = record {
-          source = g.Q.Source.source_faults c.loop-number.source;
-          sink = g.K.Sink.sink_faults c.loop-number.sink;
-          disk = g.D.Disk.faults (disk c.loop-number.account);
-          random = g.W.Words.faults c.loop-number.random;
-          rotator = g.R.Rotator.faults c.loop-number.rotator;
-        };
-      };
+      now = outside_by g.Q.Source g.K.Sink g.C.Clock g.W.Words g.R.Rotator c.loop-number.source c.loop-number.sink
+          (g.D.Disk.faults (disk c.loop-number.account)) c.loop-number.clock c.loop-number.random c.loop-number.rotator;
       reader = c.loop-number.reader;
       history = history c.loop-number.account;
       count = c.loop-number.count;

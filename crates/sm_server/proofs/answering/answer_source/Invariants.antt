@@ -1,6 +1,7 @@
 use Rattle.std.proofs.Common.{◌⊎◌, ◌≤◌, IsSome}
 use Rattle.sm_base.specs.Faults.{Rose}
 use Rattle.sm_account.specs.Accounts.{history, base, disk, failed, SameOrigin}
+use Rattle.sm_server.specs.Outside.{outside_by}
 use Rattle.sm_server.proofs.RunLemmas.{Progress}
 use Rattle.sm_server.proofs.answering.answer_source.Given as goal
 
@@ -16,34 +17,12 @@ invariant-loop-number g l = record {
   random_later : g.W.Words.faults l.initial.random ≤ g.W.Words.faults l.random;
   rotator_later : g.R.Rotator.faults l.initial.rotator ≤ g.R.Rotator.faults l.rotator;
   progress : Progress g.R.Rotator.replies l.people (base l.initial.account)
-      (record {
-        left = g.Q.Source.left l.initial.source;
-        taken = g.K.Sink.taken l.initial.sink;
-        readings = g.C.Clock.readings l.initial.clock;
-        drawn = g.W.Words.drawn l.initial.random;
-        counts = record {
-          source = g.Q.Source.source_faults l.initial.source;
-          sink = g.K.Sink.sink_faults l.initial.sink;
-          disk = g.D.Disk.faults (disk l.initial.account);
-          random = g.W.Words.faults l.initial.random;
-          rotator = g.R.Rotator.faults l.initial.rotator;
-        };
-      })
+      (outside_by g.Q.Source g.K.Sink g.C.Clock g.W.Words g.R.Rotator l.initial.source l.initial.sink
+      (g.D.Disk.faults (disk l.initial.account)) l.initial.clock l.initial.random l.initial.rotator)
       l.number
       (record {
-        now = record {
-          left = g.Q.Source.left l.source;
-          taken = g.K.Sink.taken l.sink;
-          readings = g.C.Clock.readings l.clock;
-          drawn = g.W.Words.drawn l.random;
-          counts = record {
-            source = g.Q.Source.source_faults l.source;
-            sink = g.K.Sink.sink_faults l.sink;
-            disk = g.D.Disk.faults (disk l.account);
-            random = g.W.Words.faults l.random;
-            rotator = g.R.Rotator.faults l.rotator;
-          };
-        };
+        now = outside_by g.Q.Source g.K.Sink g.C.Clock g.W.Words g.R.Rotator l.source l.sink
+            (g.D.Disk.faults (disk l.account)) l.clock l.random l.rotator;
         reader = l.reader;
         history = history l.account;
         count = l.count;

@@ -4,7 +4,7 @@ use Rattle.sm_account.specs.Accounts.{history, base, began, taken, disk, failed}
 use Rattle.sm_account.specs.Books.{FaultsBound}
 use Rattle.sm_account.specs.States.{Base, base_of}
 use Rattle.sm_server.specs.declared.asked.Task.TheVariants.{Answer}
-use Rattle.sm_server.specs.Outside.{Outside}
+use Rattle.sm_server.specs.Outside.{Outside, outside_by}
 use Rattle.sm_server.specs.Ran.{Course, Story, Runs, course_of}
 use Rattle.sm_server.specs.Status.{status_of, WasOpened}
 use Rattle.sm_server.specs.Stored.{Stands}
@@ -27,32 +27,11 @@ returns-clause-ran g c =
       history = history new;
       failed = failed new;
     } in
-    let before : ℕ → Outside = λ (faults : ℕ). record {
-      left = g.Q.Source.left c.args.source.now;
-      taken = g.K.Sink.taken c.args.sink.now;
-      readings = g.C.Clock.readings c.args.clock.now;
-      drawn = g.W.Words.drawn c.args.random.now;
-      counts = record {
-        source = g.Q.Source.source_faults c.args.source.now;
-        sink = g.K.Sink.sink_faults c.args.sink.now;
-        disk = faults;
-        random = g.W.Words.faults c.args.random.now;
-        rotator = g.R.Rotator.faults c.args.rotator.now;
-      };
-    } in
-    let after : ℕ → Outside = λ (faults : ℕ). record {
-      left = g.Q.Source.left c.answer_source-ended.new.source;
-      taken = g.K.Sink.taken c.answer_source-ended.new.sink;
-      readings = g.C.Clock.readings c.answer_source-ended.new.clock;
-      drawn = g.W.Words.drawn c.answer_source-ended.new.random;
-      counts = record {
-        source = g.Q.Source.source_faults c.answer_source-ended.new.source;
-        sink = g.K.Sink.sink_faults c.answer_source-ended.new.sink;
-        disk = faults;
-        random = g.W.Words.faults c.answer_source-ended.new.random;
-        rotator = g.R.Rotator.faults c.answer_source-ended.new.rotator;
-      };
-    } in
+    let before : ℕ → Outside = λ (faults : ℕ). outside_by g.Q.Source g.K.Sink g.C.Clock g.W.Words g.R.Rotator
+    c.args.source.now c.args.sink.now faults c.args.clock.now c.args.random.now c.args.rotator.now in
+    let after : ℕ → Outside = λ (faults : ℕ). outside_by g.Q.Source g.K.Sink g.C.Clock g.W.Words g.R.Rotator
+    c.answer_source-ended.new.source c.answer_source-ended.new.sink faults c.answer_source-ended.new.clock
+    c.answer_source-ended.new.random c.answer_source-ended.new.rotator in
     let based : base old ≡ base_of (taken new) JOURNAL_LIMIT =
     c.requires.base ∙ ap (λ t. base_of t JOURNAL_LIMIT) (sym answered.ensures.origin.taken_stays) in
     let first = g.D.Disk.faults (began old) in

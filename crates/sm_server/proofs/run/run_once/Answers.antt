@@ -8,7 +8,7 @@ use Rattle.sm_server.specs.declared.asked.Task.{Task}
 use Rattle.sm_server.specs.declared.asked.Task.TheVariants.{Answer}
 use Rattle.sm_server.specs.declared.status.Status.{Status}
 use Rattle.sm_server.specs.Complete.{Orders}
-use Rattle.sm_server.specs.Outside.{Outside}
+use Rattle.sm_server.specs.Outside.{Outside, outside_by}
 use Rattle.sm_server.proofs.CompleteLemmas.{ran_by}
 use Rattle.sm_server.proofs.EndLemmas.{words_decided}
 use Rattle.sm_server.proofs.UnopenedLemmas.{followed, leaves_words, no_story, people_undecided, runs_words, words_decide}
@@ -22,32 +22,10 @@ returns-in-Ok-clause-ran g c =
     let status : Status = run.result.0 in
     let orders : Orders = record { words = map string_bytes c.args.words.now; people = c.args.people.now } in
     let asked : Option Settings = settings_of orders.words in
-    let before : Outside = record {
-      left = g.Q.Source.left c.args.source.now;
-      taken = g.K.Sink.taken c.args.sink.now;
-      readings = g.C.Clock.readings c.args.clock.now;
-      drawn = g.W.Words.drawn c.args.random.now;
-      counts = record {
-        source = g.Q.Source.source_faults c.args.source.now;
-        sink = g.K.Sink.sink_faults c.args.sink.now;
-        disk = g.D.Disk.faults c.args.disk;
-        random = g.W.Words.faults c.args.random.now;
-        rotator = g.R.Rotator.faults c.args.rotator.now;
-      };
-    } in
-    let after : Outside = record {
-      left = g.Q.Source.left run.new.source;
-      taken = g.K.Sink.taken run.new.sink;
-      readings = g.C.Clock.readings run.new.clock;
-      drawn = g.W.Words.drawn run.new.random;
-      counts = record {
-        source = g.Q.Source.source_faults run.new.source;
-        sink = g.K.Sink.sink_faults run.new.sink;
-        disk = g.D.Disk.faults run.result.1;
-        random = g.W.Words.faults run.new.random;
-        rotator = g.R.Rotator.faults run.new.rotator;
-      };
-    } in (
+    let before : Outside = outside_by g.Q.Source g.K.Sink g.C.Clock g.W.Words g.R.Rotator c.args.source.now
+    c.args.sink.now (g.D.Disk.faults c.args.disk) c.args.clock.now c.args.random.now c.args.rotator.now in
+    let after : Outside = outside_by g.Q.Source g.K.Sink g.C.Clock g.W.Words g.R.Rotator run.new.source run.new.sink
+    (g.D.Disk.faults run.result.1) run.new.clock run.new.random run.new.rotator in (
       story,
       ran_by g.R.Rotator.replies orders status before after story
           (words_decided status asked story.task run.ensures.understood
@@ -61,19 +39,8 @@ returns-in-Err-clause-ran g c =
     let asked : Option Settings = settings_of orders.words in
     let status = c.in-Err.status in
     let replies = g.R.Rotator.replies in
-    let outside : Outside = record {
-      left = g.Q.Source.left c.args.source.now;
-      taken = g.K.Sink.taken c.args.sink.now;
-      readings = g.C.Clock.readings c.args.clock.now;
-      drawn = g.W.Words.drawn c.args.random.now;
-      counts = record {
-        source = g.Q.Source.source_faults c.args.source.now;
-        sink = g.K.Sink.sink_faults c.args.sink.now;
-        disk = g.D.Disk.faults c.args.disk;
-        random = g.W.Words.faults c.args.random.now;
-        rotator = g.R.Rotator.faults c.args.rotator.now;
-      };
-    } in (
+    let outside : Outside = outside_by g.Q.Source g.K.Sink g.C.Clock g.W.Words g.R.Rotator c.args.source.now
+    c.args.sink.now (g.D.Disk.faults c.args.disk) c.args.clock.now c.args.random.now c.args.rotator.now in (
       no_story Answer Everybody,
       ran_by replies orders status outside outside (no_story Answer Everybody)
           (words_decide replies Answer Everybody status asked c.in-Err.ensures)

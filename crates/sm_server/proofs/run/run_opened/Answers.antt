@@ -1,11 +1,10 @@
-use Rattle.std.proofs.Common.{◌≡◌, ◌≤◌, ℕ, [], length, refl, sym, ap, subst, ◌∙◌, arith}
-use Rattle.sm_model.specs.declared.limits.TheConstants.{JOURNAL_LIMIT}
+use Rattle.std.proofs.Common.{◌≤◌, ℕ, length, refl, sym, subst, ◌∙◌, arith}
 use Rattle.sm_account.specs.Accounts.{base, began, disk, failed, history, taken}
-use Rattle.sm_account.specs.States.{Base, base_of}
+use Rattle.sm_account.specs.States.{Base}
 use Rattle.sm_spells.specs.Spells.{History}
 use Rattle.sm_server.specs.declared.asked.Task.TheVariants.{Summarize}
-use Rattle.sm_server.specs.Outside.{Outside}
-use Rattle.sm_server.specs.Ran.{Course, Story, Runs, course_of}
+use Rattle.sm_server.specs.Outside.{Outside, outside_by}
+use Rattle.sm_server.specs.Ran.{Course, Story, Runs}
 use Rattle.sm_server.specs.Stored.{Stands}
 use Rattle.sm_server.proofs.CheckLemmas.{runs_checked, shows_opened}
 use Rattle.sm_server.proofs.EndLemmas.{runs_since}
@@ -32,32 +31,10 @@ returns-in-Summarize-clause-ran g c =
       history = history account;
       failed = failed account;
     } in
-    let before : ℕ → Outside = λ (faults : ℕ). record {
-      left = g.Q.Source.left c.args.source.now;
-      taken = g.K.Sink.taken c.args.sink.now;
-      readings = g.C.Clock.readings c.args.clock.now;
-      drawn = g.W.Words.drawn c.args.random.now;
-      counts = record {
-        source = g.Q.Source.source_faults c.args.source.now;
-        sink = g.K.Sink.sink_faults c.args.sink.now;
-        disk = faults;
-        random = g.W.Words.faults c.args.random.now;
-        rotator = g.R.Rotator.faults c.args.rotator.now;
-      };
-    } in
-    let after : Outside = record {
-      left = g.Q.Source.left c.args.source.now;
-      taken = g.K.Sink.taken checked.new.sink;
-      readings = g.C.Clock.readings checked.new.clock;
-      drawn = g.W.Words.drawn c.args.random.now;
-      counts = record {
-        source = g.Q.Source.source_faults c.args.source.now;
-        sink = g.K.Sink.sink_faults checked.new.sink;
-        disk = g.D.Disk.faults checked.result.1;
-        random = g.W.Words.faults c.args.random.now;
-        rotator = g.R.Rotator.faults c.args.rotator.now;
-      };
-    } in
+    let before : ℕ → Outside = λ (faults : ℕ). outside_by g.Q.Source g.K.Sink g.C.Clock g.W.Words g.R.Rotator
+    c.args.source.now c.args.sink.now faults c.args.clock.now c.args.random.now c.args.rotator.now in
+    let after : Outside = outside_by g.Q.Source g.K.Sink g.C.Clock g.W.Words g.R.Rotator c.args.source.now
+    checked.new.sink (g.D.Disk.faults checked.result.1) checked.new.clock c.args.random.now c.args.rotator.now in
     let course : Base → History → Course = λ (b : Base) (h : History). record {
       task = Summarize;
       replies = replies;

@@ -1,9 +1,9 @@
-use Rattle.std.proofs.Common.{◌≡◌, ◌≤◌, ℕ, List, sym, refl, ap, subst, ◌∙◌}
+use Rattle.std.proofs.Common.{◌≡◌, ◌≤◌, ℕ, List, sym, refl, ap, subst}
 use Rattle.sm_model.specs.declared.entry.Entry.{Entry}
 use Rattle.sm_journal.specs.Openings.{ReadsAs}
 use Rattle.sm_store.specs.Entries.{HasEntries}
 use Rattle.sm_store.specs.declared.files.TheConstants.{JOURNAL}
-use Rattle.sm_server.specs.Outside.{Outside}
+use Rattle.sm_server.specs.Outside.{Outside, outside_by}
 use Rattle.sm_server.specs.Ran.{Runs, course_of}
 use Rattle.sm_server.specs.Status.{WasFollowed}
 use Rattle.sm_server.specs.Stored.{Leaves, Stands, status_unopened, disk_unopened}
@@ -18,32 +18,11 @@ returns-in-Ok-clause-ran g c =
     let replies = g.R.Rotator.replies in
     let opened = c.in-Ok.ensures.opened in
     let story = run.ensures.ran.0 in
-    let before : ℕ → Outside = λ (faults : ℕ). record {
-      left = g.Q.Source.left c.args.source.now;
-      taken = g.K.Sink.taken c.args.sink.now;
-      readings = g.C.Clock.readings c.args.clock.now;
-      drawn = g.W.Words.drawn c.args.random.now;
-      counts = record {
-        source = g.Q.Source.source_faults c.args.source.now;
-        sink = g.K.Sink.sink_faults c.args.sink.now;
-        disk = faults;
-        random = g.W.Words.faults c.args.random.now;
-        rotator = g.R.Rotator.faults c.args.rotator.now;
-      };
-    } in
-    let after : Outside = record {
-      left = g.Q.Source.left c.run_opened.new.source;
-      taken = g.K.Sink.taken c.run_opened.new.sink;
-      readings = g.C.Clock.readings c.run_opened.new.clock;
-      drawn = g.W.Words.drawn c.run_opened.new.random;
-      counts = record {
-        source = g.Q.Source.source_faults c.run_opened.new.source;
-        sink = g.K.Sink.sink_faults c.run_opened.new.sink;
-        disk = g.D.Disk.faults run.result.1;
-        random = g.W.Words.faults c.run_opened.new.random;
-        rotator = g.R.Rotator.faults c.run_opened.new.rotator;
-      };
-    } in (
+    let before : ℕ → Outside = λ (faults : ℕ). outside_by g.Q.Source g.K.Sink g.C.Clock g.W.Words g.R.Rotator
+    c.args.source.now c.args.sink.now faults c.args.clock.now c.args.random.now c.args.rotator.now in
+    let after : Outside = outside_by g.Q.Source g.K.Sink g.C.Clock g.W.Words g.R.Rotator c.run_opened.new.source
+    c.run_opened.new.sink (g.D.Disk.faults run.result.1) c.run_opened.new.clock c.run_opened.new.random
+    c.run_opened.new.rotator in (
       story,
       run.ensures.ran.1,
       run.ensures.ran.2,
@@ -67,19 +46,8 @@ returns-in-Err-clause-ran g c =
     let people = c.args.people.now in
     let task = c.args.task in
     let replies = g.R.Rotator.replies in
-    let before : Outside = record {
-      left = g.Q.Source.left c.args.source.now;
-      taken = g.K.Sink.taken c.args.sink.now;
-      readings = g.C.Clock.readings c.args.clock.now;
-      drawn = g.W.Words.drawn c.args.random.now;
-      counts = record {
-        source = g.Q.Source.source_faults c.args.source.now;
-        sink = g.K.Sink.sink_faults c.args.sink.now;
-        disk = g.D.Disk.faults c.args.disk;
-        random = g.W.Words.faults c.args.random.now;
-        rotator = g.R.Rotator.faults c.args.rotator.now;
-      };
-    } in
+    let before : Outside = outside_by g.Q.Source g.K.Sink g.C.Clock g.W.Words g.R.Rotator c.args.source.now
+    c.args.sink.now (g.D.Disk.faults c.args.disk) c.args.clock.now c.args.random.now c.args.rotator.now in
     let after : Outside = record before { counts = record before.counts { disk = g.D.Disk.faults now } } in
     let same : disk_unopened refused ≡ now = sym c.end_unopened.ensures.disk in (
       no_story task people,

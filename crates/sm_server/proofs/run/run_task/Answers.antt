@@ -2,7 +2,7 @@ use Rattle.std.proofs.Common.{◌≡◌, Ok, refl, sym, subst}
 use Rattle.sm_principal.specs.declared.people.People.{People as Persons}
 use Rattle.sm_principal.specs.declared.people.People.TheVariants.{Everybody}
 use Rattle.sm_principal.specs.Callers.{people_of}
-use Rattle.sm_server.specs.Outside.{Outside}
+use Rattle.sm_server.specs.Outside.{Outside, outside_by}
 use Rattle.sm_server.proofs.EndLemmas.{followed_understood, people_decided}
 use Rattle.sm_server.proofs.UnopenedLemmas.{leaves_refused, no_story, people_refused, runs_refused, understood_refused}
 use Rattle.sm_server.proofs.run.run_task.Goals as goal
@@ -29,19 +29,8 @@ returns-in-Err-clause-ran g c =
     let replies = g.R.Rotator.replies in
     let task = c.args.task in
     let read = people_of c.args.people.now in
-    let outside : Outside = record {
-      left = g.Q.Source.left c.args.source.now;
-      taken = g.K.Sink.taken c.args.sink.now;
-      readings = g.C.Clock.readings c.args.clock.now;
-      drawn = g.W.Words.drawn c.args.random.now;
-      counts = record {
-        source = g.Q.Source.source_faults c.args.source.now;
-        sink = g.K.Sink.sink_faults c.args.sink.now;
-        disk = g.D.Disk.faults c.args.disk;
-        random = g.W.Words.faults c.args.random.now;
-        rotator = g.R.Rotator.faults c.args.rotator.now;
-      };
-    } in (
+    let outside : Outside = outside_by g.Q.Source g.K.Sink g.C.Clock g.W.Words g.R.Rotator c.args.source.now
+    c.args.sink.now (g.D.Disk.faults c.args.disk) c.args.clock.now c.args.random.now c.args.rotator.now in (
       no_story task Everybody,
       refl,
       people_refused replies task Everybody read status c.in-Err.ensures,

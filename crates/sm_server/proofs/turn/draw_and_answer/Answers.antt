@@ -4,7 +4,7 @@ use Rattle.sm_account.specs.Accounts.{base, history, disk}
 use Rattle.sm_session.specs.Answer.{Asked}
 use Rattle.sm_session.specs.Replies.{reply_of}
 use Rattle.sm_session.specs.Told.{nothing_told, told_once}
-use Rattle.sm_session.proofs.KnownLemmas.{append_known-nil}
+use Rattle.sm_spells.proofs.KnownLemmas.{append_known-nil}
 use Rattle.sm_session.proofs.TurnLemmas.{failed_turn, forgotten_turn, reached_turn}
 use Rattle.sm_server.proofs.turn.draw_and_answer.Goals as goal
 

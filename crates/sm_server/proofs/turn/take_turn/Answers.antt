@@ -6,7 +6,7 @@ use Rattle.sm_http.specs.Reading.{content}
 use Rattle.sm_session.specs.Answer.{Asked, heard}
 use Rattle.sm_session.specs.Replies.{reply_of}
 use Rattle.sm_session.specs.Told.{nothing_told}
-use Rattle.sm_session.proofs.KnownLemmas.{append_known-nil}
+use Rattle.sm_spells.proofs.KnownLemmas.{append_known-nil}
 use Rattle.sm_session.proofs.TurnLemmas.{refused_turn, forgotten_turn}
 use Rattle.sm_session.specs.Turns.{Turn, IsTurn}
 use Rattle.sm_server.proofs.turn.take_turn.Goals as goal

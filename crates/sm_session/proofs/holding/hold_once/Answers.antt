@@ -1,14 +1,13 @@
-use Rattle.std.proofs.Common.{◌≡◌, ◌∙◌, [], ◌∷◌, ◌++◌, sym, ap, subst, length}
+use Rattle.std.proofs.Common.{◌≡◌, ◌∙◌, ◌++◌, sym, ap, subst, length}
 use Rattle.sm_account.specs.Accounts.{history, base, state}
 use Rattle.sm_account.specs.Handled.{HandledAs, marks_of}
 use Rattle.sm_account.specs.History.{by_seat}
 use Rattle.sm_account.specs.Outcome.{Outcome, Question, outcome}
 use Rattle.sm_account.specs.States.{Base, state_at}
-use Rattle.sm_lock.specs.Handles.{built_with, entered, holder, number, seen}
-use Rattle.sm_lock.specs.Story.{Grows}
+use Rattle.sm_lock.specs.Handles.{built_with, entered, holder, seen}
 use Rattle.sm_spells.specs.Spells.{History}
-use Rattle.sm_session.specs.Sessions.{Holds}
-use Rattle.sm_session.proofs.HoldLemmas.{origin_of, origin_stays, same_base, at_most_one}
+use Rattle.sm_session.proofs.HoldLemmas.{at_most_one}
+use Rattle.sm_spells.proofs.OriginLemmas.{origin_of, origin_stays, same_base}
 use Rattle.sm_session.proofs.holding.hold_once.Goals as goal
 
 pub leave-requires-clause-origin : goal.leave-requires-clause-origin

@@ -12,6 +12,7 @@ use Rattle.sm_session.specs.declared.trace.TraceItem.{TraceItem}
 use Rattle.sm_session.specs.Endings.{Sides, Finishes, StopsBy}
 use Rattle.sm_session.specs.Replies.{reply_of, framed_answer}
 use Rattle.sm_session.specs.Sessions.{Place, Standing, Around, Serves, TakesTurn}
+use Rattle.sm_session.specs.Views.{around_by, sides_by, standing_by}
 use Rattle.sm_session.proofs.CompleteLemmas.{listed}
 use Rattle.sm_session.proofs.SessionLemmas.{so_far_first, so_far_listed, so_far_more, session_cut, session_enough, session_memory, session_stops}
 use Rattle.sm_session.proofs.serving.answer_stream.Goals as goal
@@ -19,20 +20,8 @@ use Rattle.sm_session.proofs.serving.answer_stream.Goals as goal
 pub loop-number-init : goal.loop-number-init
 loop-number-init g c =
     let place : Place = record { base = base (built_with c.args.gate.now); seat = number c.args.pass } in
-    let old : Around = record {
-      sides = record {
-        left = g.K.Source.left c.args.conn.now;
-        taken = g.K.Sink.taken c.args.conn.now;
-        source = g.K.Source.source_faults c.args.conn.now;
-        sink = g.K.Sink.sink_faults c.args.conn.now;
-      };
-      own = record {
-        seen = seen c.args.pass;
-        readings = g.C.Clock.readings c.args.clock.now;
-        drawn = g.W.Words.drawn c.args.words.now;
-        random = g.W.Words.faults c.args.words.now;
-      };
-    } in
+    let old : Around = around_by g.K.Source g.K.Sink g.C.Clock g.W.Words (seen c.args.pass) c.args.conn.now
+    c.args.clock.now c.args.words.now in
     record {
       gate = c.requires.gate;
       numbered = refl;
@@ -47,34 +36,10 @@ pub returns-in_default-clause-served : goal.returns-in_default-clause-served
 returns-in_default-clause-served g c =
     let i = c.loop-number.invariant in
     let place : Place = record { base = base (built_with c.args.gate.now); seat = number c.args.pass } in
-    let old : Around = record {
-      sides = record {
-        left = g.K.Source.left c.args.conn.now;
-        taken = g.K.Sink.taken c.args.conn.now;
-        source = g.K.Source.source_faults c.args.conn.now;
-        sink = g.K.Sink.sink_faults c.args.conn.now;
-      };
-      own = record {
-        seen = seen c.args.pass;
-        readings = g.C.Clock.readings c.args.clock.now;
-        drawn = g.W.Words.drawn c.args.words.now;
-        random = g.W.Words.faults c.args.words.now;
-      };
-    } in
-    let now : Around = record {
-      sides = record {
-        left = g.K.Source.left c.loop-number.conn;
-        taken = g.K.Sink.taken c.loop-number.conn;
-        source = g.K.Source.source_faults c.loop-number.conn;
-        sink = g.K.Sink.sink_faults c.loop-number.conn;
-      };
-      own = record {
-        seen = seen c.loop-number.pass;
-        readings = g.C.Clock.readings c.loop-number.clock;
-        drawn = g.W.Words.drawn c.loop-number.words;
-        random = g.W.Words.faults c.loop-number.words;
-      };
-    } in
+    let old : Around = around_by g.K.Source g.K.Sink g.C.Clock g.W.Words (seen c.args.pass) c.args.conn.now
+    c.args.clock.now c.args.words.now in
+    let now : Around = around_by g.K.Source g.K.Sink g.C.Clock g.W.Words (seen c.loop-number.pass) c.loop-number.conn
+    c.loop-number.clock c.loop-number.words in
     subst (λ (items : List TraceItem). Serves c.args.people.now place old now ended.Memory items)
     (sym c.reserve.ensures.items)
     (session_memory c.args.people.now place old c.loop-number.number now c.loop-number.reader c.loop-number.count
@@ -84,40 +49,11 @@ pub returns-in-Err-clause-served : goal.returns-in-Err-clause-served
 returns-in-Err-clause-served g c =
     let i = c.loop-number.invariant in
     let place : Place = record { base = base (built_with c.args.gate.now); seat = number c.args.pass } in
-    let old : Around = record {
-      sides = record {
-        left = g.K.Source.left c.args.conn.now;
-        taken = g.K.Sink.taken c.args.conn.now;
-        source = g.K.Source.source_faults c.args.conn.now;
-        sink = g.K.Sink.sink_faults c.args.conn.now;
-      };
-      own = record {
-        seen = seen c.args.pass;
-        readings = g.C.Clock.readings c.args.clock.now;
-        drawn = g.W.Words.drawn c.args.words.now;
-        random = g.W.Words.faults c.args.words.now;
-      };
-    } in
-    let now : Around = record {
-      sides = record {
-        left = g.K.Source.left c.loop-number.conn;
-        taken = g.K.Sink.taken c.loop-number.conn;
-        source = g.K.Source.source_faults c.loop-number.conn;
-        sink = g.K.Sink.sink_faults c.loop-number.conn;
-      };
-      own = record {
-        seen = seen c.loop-number.pass;
-        readings = g.C.Clock.readings c.loop-number.clock;
-        drawn = g.W.Words.drawn c.loop-number.words;
-        random = g.W.Words.faults c.loop-number.words;
-      };
-    } in
-    let sides : Sides = record {
-      left = g.K.Source.left c.conclude-ended.new.conn;
-      taken = g.K.Sink.taken c.conclude-ended.new.conn;
-      source = g.K.Source.source_faults c.conclude-ended.new.conn;
-      sink = g.K.Sink.sink_faults c.conclude-ended.new.conn;
-    } in
+    let old : Around = around_by g.K.Source g.K.Sink g.C.Clock g.W.Words (seen c.args.pass) c.args.conn.now
+    c.args.clock.now c.args.words.now in
+    let now : Around = around_by g.K.Source g.K.Sink g.C.Clock g.W.Words (seen c.loop-number.pass) c.loop-number.conn
+    c.loop-number.clock c.loop-number.words in
+    let sides : Sides = sides_by g.K.Source g.K.Sink c.conclude-ended.new.conn in
     let why = c.in-Err.stop in
     let e = c.conclude-ended.result in
     let reads : Reads c.loop-number.reader (stopped why) c.receive.new.reader now.sides.left sides.left =
@@ -143,47 +79,13 @@ pub returns-then-not-sent-clause-served : goal.returns-then-not-sent-clause-serv
 returns-then-not-sent-clause-served g c =
     let i = c.loop-number.invariant in
     let place : Place = record { base = base (built_with c.args.gate.now); seat = number c.args.pass } in
-    let old : Around = record {
-      sides = record {
-        left = g.K.Source.left c.args.conn.now;
-        taken = g.K.Sink.taken c.args.conn.now;
-        source = g.K.Source.source_faults c.args.conn.now;
-        sink = g.K.Sink.sink_faults c.args.conn.now;
-      };
-      own = record {
-        seen = seen c.args.pass;
-        readings = g.C.Clock.readings c.args.clock.now;
-        drawn = g.W.Words.drawn c.args.words.now;
-        random = g.W.Words.faults c.args.words.now;
-      };
-    } in
-    let now : Around = record {
-      sides = record {
-        left = g.K.Source.left c.loop-number.conn;
-        taken = g.K.Sink.taken c.loop-number.conn;
-        source = g.K.Source.source_faults c.loop-number.conn;
-        sink = g.K.Sink.sink_faults c.loop-number.conn;
-      };
-      own = record {
-        seen = seen c.loop-number.pass;
-        readings = g.C.Clock.readings c.loop-number.clock;
-        drawn = g.W.Words.drawn c.loop-number.words;
-        random = g.W.Words.faults c.loop-number.words;
-      };
-    } in
+    let old : Around = around_by g.K.Source g.K.Sink g.C.Clock g.W.Words (seen c.args.pass) c.args.conn.now
+    c.args.clock.now c.args.words.now in
+    let now : Around = around_by g.K.Source g.K.Sink g.C.Clock g.W.Words (seen c.loop-number.pass) c.loop-number.conn
+    c.loop-number.clock c.loop-number.words in
     let taken = c.take_turn-after in
-    let sides : Sides = record {
-      left = g.K.Source.left c.reply-sent.new.conn;
-      taken = g.K.Sink.taken c.reply-sent.new.conn;
-      source = g.K.Source.source_faults c.reply-sent.new.conn;
-      sink = g.K.Sink.sink_faults c.reply-sent.new.conn;
-    } in
-    let own : Standing = record {
-      seen = seen taken.result.pass;
-      readings = g.C.Clock.readings taken.new.clock;
-      drawn = g.W.Words.drawn taken.new.words;
-      random = g.W.Words.faults taken.new.words;
-    } in
+    let sides : Sides = sides_by g.K.Source g.K.Sink c.reply-sent.new.conn in
+    let own : Standing = standing_by g.C.Clock g.W.Words (seen taken.result.pass) taken.new.clock taken.new.words in
     let turn : TakesTurn place (heard c.args.people.now (content c.in-Ok-receive.message)) now.own own
     (reply_of taken.result.said) taken.result.item =
     subst (λ n. TakesTurn (record { base = place.base; seat = n })
@@ -215,47 +117,13 @@ pub loop-number-preserved : goal.loop-number-preserved
 loop-number-preserved g c =
     let i = c.loop-number.invariant in
     let place : Place = record { base = base (built_with c.args.gate.now); seat = number c.args.pass } in
-    let old : Around = record {
-      sides = record {
-        left = g.K.Source.left c.args.conn.now;
-        taken = g.K.Sink.taken c.args.conn.now;
-        source = g.K.Source.source_faults c.args.conn.now;
-        sink = g.K.Sink.sink_faults c.args.conn.now;
-      };
-      own = record {
-        seen = seen c.args.pass;
-        readings = g.C.Clock.readings c.args.clock.now;
-        drawn = g.W.Words.drawn c.args.words.now;
-        random = g.W.Words.faults c.args.words.now;
-      };
-    } in
-    let now : Around = record {
-      sides = record {
-        left = g.K.Source.left c.loop-number.conn;
-        taken = g.K.Sink.taken c.loop-number.conn;
-        source = g.K.Source.source_faults c.loop-number.conn;
-        sink = g.K.Sink.sink_faults c.loop-number.conn;
-      };
-      own = record {
-        seen = seen c.loop-number.pass;
-        readings = g.C.Clock.readings c.loop-number.clock;
-        drawn = g.W.Words.drawn c.loop-number.words;
-        random = g.W.Words.faults c.loop-number.words;
-      };
-    } in
+    let old : Around = around_by g.K.Source g.K.Sink g.C.Clock g.W.Words (seen c.args.pass) c.args.conn.now
+    c.args.clock.now c.args.words.now in
+    let now : Around = around_by g.K.Source g.K.Sink g.C.Clock g.W.Words (seen c.loop-number.pass) c.loop-number.conn
+    c.loop-number.clock c.loop-number.words in
     let taken = c.take_turn-after in
-    let sides : Sides = record {
-      left = g.K.Source.left c.reply-sent.new.conn;
-      taken = g.K.Sink.taken c.reply-sent.new.conn;
-      source = g.K.Source.source_faults c.reply-sent.new.conn;
-      sink = g.K.Sink.sink_faults c.reply-sent.new.conn;
-    } in
-    let own : Standing = record {
-      seen = seen taken.result.pass;
-      readings = g.C.Clock.readings taken.new.clock;
-      drawn = g.W.Words.drawn taken.new.words;
-      random = g.W.Words.faults taken.new.words;
-    } in
+    let sides : Sides = sides_by g.K.Source g.K.Sink c.reply-sent.new.conn in
+    let own : Standing = standing_by g.C.Clock g.W.Words (seen taken.result.pass) taken.new.clock taken.new.words in
     let turn : TakesTurn place (heard c.args.people.now (content c.in-Ok-receive.message)) now.own own
     (reply_of taken.result.said) taken.result.item =
     subst (λ n. TakesTurn (record { base = place.base; seat = n })
@@ -293,34 +161,10 @@ loop-number-preserved g c =
 pub returns-clause-served : goal.returns-clause-served
 returns-clause-served g c =
     let place : Place = record { base = base (built_with c.args.gate.now); seat = number c.args.pass } in
-    let old : Around = record {
-      sides = record {
-        left = g.K.Source.left c.args.conn.now;
-        taken = g.K.Sink.taken c.args.conn.now;
-        source = g.K.Source.source_faults c.args.conn.now;
-        sink = g.K.Sink.sink_faults c.args.conn.now;
-      };
-      own = record {
-        seen = seen c.args.pass;
-        readings = g.C.Clock.readings c.args.clock.now;
-        drawn = g.W.Words.drawn c.args.words.now;
-        random = g.W.Words.faults c.args.words.now;
-      };
-    } in
-    let now : Around = record {
-      sides = record {
-        left = g.K.Source.left c.loop-number.conn;
-        taken = g.K.Sink.taken c.loop-number.conn;
-        source = g.K.Source.source_faults c.loop-number.conn;
-        sink = g.K.Sink.sink_faults c.loop-number.conn;
-      };
-      own = record {
-        seen = seen c.loop-number.pass;
-        readings = g.C.Clock.readings c.loop-number.clock;
-        drawn = g.W.Words.drawn c.loop-number.words;
-        random = g.W.Words.faults c.loop-number.words;
-      };
-    } in
+    let old : Around = around_by g.K.Source g.K.Sink g.C.Clock g.W.Words (seen c.args.pass) c.args.conn.now
+    c.args.clock.now c.args.words.now in
+    let now : Around = around_by g.K.Source g.K.Sink g.C.Clock g.W.Words (seen c.loop-number.pass) c.loop-number.conn
+    c.loop-number.clock c.loop-number.words in
     session_enough c.args.people.now place old c.loop-number.number now c.loop-number.reader c.loop-number.count
     c.loop-number.items.items c.loop-number.invariant.so_far
     (omega (arith, c.loop-number.auto.number-end, c.loop-number-test.false))

@@ -1,6 +1,7 @@
 use Rattle.std.proofs.Common.{◌≡◌, ◌≤◌}
 use Rattle.sm_account.specs.Accounts.{base}
 use Rattle.sm_lock.specs.Handles.{built_with, number, seen, IsIn}
+use Rattle.sm_session.specs.Views.{around_by}
 use Rattle.sm_session.proofs.SessionLemmas.{SoFar}
 use Rattle.sm_session.proofs.serving.answer_stream.Given as goal
 
@@ -13,34 +14,9 @@ invariant-loop-number g l = record {
   sink_later : g.K.Sink.sink_faults l.initial.conn ≤ g.K.Sink.sink_faults l.conn;
   random_later : g.W.Words.faults l.initial.words ≤ g.W.Words.faults l.words;
   so_far : SoFar l.people (record { base = base (built_with l.gate); seat = number l.initial.pass })
-      (record {
-        sides = record {
-          left = g.K.Source.left l.initial.conn;
-          taken = g.K.Sink.taken l.initial.conn;
-          source = g.K.Source.source_faults l.initial.conn;
-          sink = g.K.Sink.sink_faults l.initial.conn;
-        };
-        own = record {
-          seen = seen l.initial.pass;
-          readings = g.C.Clock.readings l.initial.clock;
-          drawn = g.W.Words.drawn l.initial.words;
-          random = g.W.Words.faults l.initial.words;
-        };
-      })
+      (around_by g.K.Source g.K.Sink g.C.Clock g.W.Words (seen l.initial.pass) l.initial.conn l.initial.clock
+      l.initial.words)
       l.number
-      (record {
-        sides = record {
-          left = g.K.Source.left l.conn;
-          taken = g.K.Sink.taken l.conn;
-          source = g.K.Source.source_faults l.conn;
-          sink = g.K.Sink.sink_faults l.conn;
-        };
-        own = record {
-          seen = seen l.pass;
-          readings = g.C.Clock.readings l.clock;
-          drawn = g.W.Words.drawn l.words;
-          random = g.W.Words.faults l.words;
-        };
-      })
+      (around_by g.K.Source g.K.Sink g.C.Clock g.W.Words (seen l.pass) l.conn l.clock l.words)
       l.reader l.count l.items.items;
 }

@@ -11,6 +11,7 @@ use Rattle.sm_session.specs.Replies.{reply_of}
 use Rattle.sm_session.specs.Sessions.{Place, Standing}
 use Rattle.sm_session.specs.Told.{told_once}
 use Rattle.sm_session.specs.Turns.{IsTurn}
+use Rattle.sm_session.specs.Views.{standing_by}
 use Rattle.sm_session.proofs.HoldLemmas.{fault_stands, is_touched, passed_by, traced_by}
 use Rattle.sm_session.proofs.TurnLemmas.{answered_by, failed_turn, forgotten_turn, reached_turn, untouched}
 use Rattle.sm_session.proofs.taking.ask.Goals as goal
@@ -57,18 +58,9 @@ returns-in-Failed-clause-turn g c =
     let place : Place = record { base = built; seat = number c.args.pass } in
     let asked : Asked = record { person = c.args.person.now; request = c.args.request.now } in
     let random = Rose (g.W.Words.faults c.args.words.now) (g.W.Words.faults c.draw.new.random) in
-    let old : Standing = record {
-      seen = seen c.args.pass;
-      readings = g.C.Clock.readings c.args.clock.now;
-      drawn = g.W.Words.drawn c.args.words.now;
-      random = g.W.Words.faults c.args.words.now;
-    } in
-    let new : Standing = record {
-      seen = seen c.pass_by.result.pass;
-      readings = g.C.Clock.readings c.args.clock.now;
-      drawn = g.W.Words.drawn c.draw.new.random;
-      random = g.W.Words.faults c.draw.new.random;
-    } in
+    let old : Standing = standing_by g.C.Clock g.W.Words (seen c.args.pass) c.args.clock.now c.args.words.now in
+    let new : Standing = standing_by g.C.Clock g.W.Words (seen c.pass_by.result.pass) c.args.clock.now
+    c.draw.new.random in
     passed_by place (Ok asked) old new (reply_of c.pass_by.result.said) c.pass_by.result.item
     (ap seen c.pass_by.ensures.pass) refl c.in-Failed.ensures.bytes c.draw.ensures.later
     (subst (λ (s : Said). IsTurn (Unit {0}) random built (seen c.args.pass) (Ok asked) (untouched (reply_of s)))
@@ -84,18 +76,8 @@ returns-in-Memory-clause-turn g c =
     let asked : Asked = record { person = c.args.person.now; request = c.args.request.now } in
     let random = Rose (g.W.Words.faults c.args.words.now) (g.W.Words.faults c.draw.new.random) in
     let passed = c.pass_by-in-Memory in
-    let old : Standing = record {
-      seen = seen c.args.pass;
-      readings = g.C.Clock.readings c.args.clock.now;
-      drawn = g.W.Words.drawn c.args.words.now;
-      random = g.W.Words.faults c.args.words.now;
-    } in
-    let new : Standing = record {
-      seen = seen passed.result.pass;
-      readings = g.C.Clock.readings c.args.clock.now;
-      drawn = g.W.Words.drawn c.draw.new.random;
-      random = g.W.Words.faults c.draw.new.random;
-    } in
+    let old : Standing = standing_by g.C.Clock g.W.Words (seen c.args.pass) c.args.clock.now c.args.words.now in
+    let new : Standing = standing_by g.C.Clock g.W.Words (seen passed.result.pass) c.args.clock.now c.draw.new.random in
     passed_by place (Ok asked) old new (reply_of passed.result.said) passed.result.item (ap seen passed.ensures.pass)
     refl c.in-Memory.ensures.bytes c.draw.ensures.later
     (subst (λ (s : Said). IsTurn (Unit {0}) random built (seen c.args.pass) (Ok asked) (untouched (reply_of s)))

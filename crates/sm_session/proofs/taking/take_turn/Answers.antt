@@ -10,6 +10,7 @@ use Rattle.sm_session.specs.Answer.{Asked, heard}
 use Rattle.sm_session.specs.Replies.{reply_of}
 use Rattle.sm_session.specs.Sessions.{Place, Standing, TakesTurn}
 use Rattle.sm_session.specs.Turns.{IsTurn}
+use Rattle.sm_session.specs.Views.{standing_by}
 use Rattle.sm_session.proofs.HoldLemmas.{passed_by}
 use Rattle.sm_session.proofs.TurnLemmas.{forgotten_turn, refused_turn, untouched}
 use Rattle.sm_session.proofs.taking.take_turn.Goals as goal
@@ -17,18 +18,8 @@ use Rattle.sm_session.proofs.taking.take_turn.Goals as goal
 pub returns-in-Ask-clause-turn : goal.returns-in-Ask-clause-turn
 returns-in-Ask-clause-turn g c =
     let place : Place = record { base = base (built_with c.args.gate.now); seat = number c.args.pass } in
-    let old : Standing = record {
-      seen = seen c.args.pass;
-      readings = g.C.Clock.readings c.args.clock.now;
-      drawn = g.W.Words.drawn c.args.words.now;
-      random = g.W.Words.faults c.args.words.now;
-    } in
-    let new : Standing = record {
-      seen = seen c.ask.result.pass;
-      readings = g.C.Clock.readings c.ask.new.clock;
-      drawn = g.W.Words.drawn c.ask.new.words;
-      random = g.W.Words.faults c.ask.new.words;
-    } in
+    let old : Standing = standing_by g.C.Clock g.W.Words (seen c.args.pass) c.args.clock.now c.args.words.now in
+    let new : Standing = standing_by g.C.Clock g.W.Words (seen c.ask.result.pass) c.ask.new.clock c.ask.new.words in
     subst (λ (w : Result Asked Why). TakesTurn place w old new (reply_of c.ask.result.said) c.ask.result.item)
     (sym c.in-Ask.ensures.hears) c.ask.ensures.turn
 

@@ -1,7 +1,8 @@
 use Rattle.std.proofs.Common.{◌≡◌}
 use Rattle.sm_account.specs.Accounts.{base}
 use Rattle.sm_lock.specs.Handles.{built_with, number, seen, IsIn}
-use Rattle.sm_workers.specs.Views.{edge_by, sides_by, standing_by}
+use Rattle.sm_session.specs.Views.{sides_by, standing_by}
+use Rattle.sm_workers.specs.Views.{edge_by}
 use Rattle.sm_workers.proofs.DoorLemmas.{SoFar}
 use Rattle.sm_workers.proofs.doors.keep_door.Given as goal
 

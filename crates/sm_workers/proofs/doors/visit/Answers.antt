@@ -1,6 +1,6 @@
 use Rattle.std.proofs.Common.{refl}
 use Rattle.sm_lock.specs.Handles.{seen}
-use Rattle.sm_workers.specs.Views.{standing_by}
+use Rattle.sm_session.specs.Views.{standing_by}
 use Rattle.sm_workers.proofs.doors.visit.Goals as goal
 
 pub returns-clause-visits : goal.returns-clause-visits

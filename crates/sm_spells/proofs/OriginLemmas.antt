@@ -1,10 +1,13 @@
--- What an account began with, and when its journal's tail is unsure.
-use Rattle.std.proofs.Common.{◌≤◌, ◌⊎◌, ℕ, refl, ◌∙◌, inl, inr, arith}
+-- What an account began with, and since when its journal's tail is unsure.
+use Rattle.std.proofs.Common.{◌≡◌, ◌≤◌, ◌⊎◌, ℕ, List, refl, ap, ◌∙◌, inl, inr, arith}
 use Rattle.sm_base.specs.Faults.{Rose}
 use Rattle.sm_disk.specs.declared.disk.Disk.{Ghosts as DiskGhosts}
+use Rattle.sm_model.specs.declared.entry.Entry.{Entry}
 use Rattle.sm_rotator.specs.declared.rotator.Rotator.{Ghosts as RotatorGhosts}
-use Rattle.sm_account.specs.Accounts.{SameOrigin}
+use Rattle.sm_account.specs.Accounts.{SameOrigin, base, began, taken}
+use Rattle.sm_account.specs.States.{Base, base_of}
 use Rattle.sm_account.specs.declared.account.Account.{Account}
+use Rattle.sm_account.specs.declared.storied.Opened.{Opened}
 
 module _ {D R : Type 0} {G : DiskGhosts D} {V : RotatorGhosts R} where
   pub same_origin_still : (account : Account D R G V) → SameOrigin account account
@@ -18,6 +21,21 @@ module _ {D R : Type 0} {G : DiskGhosts D} {V : RotatorGhosts R} where
     base_stays = then.base_stays ∙ first.base_stays;
     doors_stay = then.doors_stay ∙ first.doors_stay;
   }
+
+  -- what an account was opened over
+  abbrev pub origin_of : Account D R G V → Opened D
+  origin_of account = record { taken = taken account; limit = (base account).limit; began = began account }
+
+  pub origin_stays : (old new : Account D R G V) → SameOrigin old new → origin_of new ≡ origin_of old
+  origin_stays old new same =
+      let of : List Entry → ℕ → D → Opened D = λ taken limit began.
+      record { taken = taken; limit = limit; began = began } in
+      ap (λ t. of t (base new).limit (began new)) same.taken_stays
+      ∙ ap (λ (b : Base). of (taken old) b.limit (began new)) same.base_stays
+      ∙ ap (of (taken old) (base old).limit) same.began_stays
+
+  pub same_base : (a b : Account D R G V) → origin_of a ≡ origin_of b → base a ≡ base b
+  same_base a b same = ap (λ (o : Opened D). base_of o.taken o.limit) same
 
 -- unsure since an earlier moment, by way of a later one
 pub unsure_since : (A B C : Type 0) (first now later : ℕ) → (B → A ⊎ Rose first now) → (C → B ⊎ Rose now later)
