@@ -1,7 +1,9 @@
 //! Doors and a turner at one account.
-use crate::support::{account, add, door, outcome, turner};
-use sm_principal::People;
-use sm_workers::run_at;
+use crate::support::{By, add, connection, door, edge, outcome, ran_server, turner};
+use sm_io::MemoryEdge;
+use sm_rotator::NoRotator;
+use sm_server::Status;
+use sm_workers::{ConnEnd, Task};
 use std::alloc::Global;
 use std::sync::Wait;
 use std::test::Fail;
@@ -18,38 +20,59 @@ const SECOND: [&str; 20] = [
     "b14", "b15", "b16", "b17", "b18", "b19", "b20",
 ];
 
+type Over = By<MemoryEdge<ConnEnd>, NoRotator>;
+
+/// An edge that hands out a connection for each of these names, unless an accept fails. Each makes a secret of its
+/// name, with a token of its own.
+fn makers(alloc: Global, names: &[&str], from: Option<u64>) -> Result<MemoryEdge<ConnEnd>, Fail> {
+    let mut conns = Vec::new(alloc);
+    for name in names {
+        let token = format!(in alloc; "{name}-11111111-1111-4111-8111-1111")?;
+        let body = format!(in alloc;
+            "{{\"Name\":\"{name}\",\"SecretString\":\"s3cret\",\"ClientRequestToken\":\"{token}\"}}"
+        )?;
+        conns.push(connection(alloc, &[("CreateSecret", &body)])?)?;
+    }
+    Ok(edge(alloc, conns, from))
+}
+
+/// How many connections came back to a door, whether each got a secret's reply and ended well, and whether the edge
+/// failed.
+fn at_door(worker: &Over) -> (usize, bool, bool) {
+    match &worker.task {
+        Task::Door(edge) => {
+            let (count, well) = outcome(edge);
+            (count, well, worker.failed)
+        }
+        Task::Turner(_) => (0, true, worker.failed),
+    }
+}
+
 /// What came of two doors, whose connections make secrets of these names, and of which the second may fail at an
-/// accept, and of a turner, which ends once both doors are closed; and how many entries the account has then.
+/// accept, and of a turner, which ends once both doors are closed; how the server ends, and how many entries the
+/// account has then.
 fn run<R: Threads + Wait + Sync>(
     rt: &R,
     alloc: Global,
     first: &[&str],
     second: &[&str],
-    fails_from: Option<u64>,
-) -> Result<Option<((usize, bool, bool), (usize, bool, bool), u64)>, Fail> {
-    let Some(account) = account(alloc, 2) else {
-        return Ok(None);
-    };
-    let mut workers = Vec::new(alloc);
-    add(&mut workers, door(alloc, first, None)?)?;
-    add(&mut workers, door(alloc, second, fails_from)?)?;
-    add(&mut workers, turner(alloc))?;
-    let Ok(last) = run_at(
-        rt,
-        alloc,
-        account,
-        workers.as_mut_slice(),
-        &People::Everybody,
-    ) else {
-        return Ok(None);
-    };
-    Ok(Some((outcome(&workers[0]), outcome(&workers[1]), last.entries())))
+    from: Option<u64>,
+) -> Result<((usize, bool, bool), (usize, bool, bool), (Status, u64)), Fail> {
+    let mut workers: Vec<Over> = Vec::new(alloc);
+    add(&mut workers, door(alloc, makers(alloc, first, None)?))?;
+    add(&mut workers, door(alloc, makers(alloc, second, from)?))?;
+    add(&mut workers, turner(alloc, NoRotator::new()))?;
+    let ended = ran_server(rt, alloc, workers.as_mut_slice())?;
+    Ok((at_door(&workers[0]), at_door(&workers[1]), ended))
 }
 
 #[test]
 fn each_connection_is_served(rt: HostRuntime) -> Result<(), Fail> {
     let out = run(&rt, rt.alloc(), &FIRST, &SECOND, None)?;
-    assert_eq!(rt; out, Some(((20, true, false), (20, true, false), 40)));
+    assert_eq!(rt;
+        out,
+        ((20, true, false), (20, true, false), (Status::Done, 40))
+    );
     Ok(())
 }
 
@@ -62,31 +85,22 @@ fn a_door_whose_edge_fails_says_so(rt: HostRuntime) -> Result<(), Fail> {
         &["db/three"],
         Some(1),
     )?;
-    assert_eq!(rt; out, Some(((2, true, false), (0, true, true), 2)));
+    assert_eq!(rt;
+        out,
+        ((2, true, false), (0, true, true), (Status::EdgeFault, 2))
+    );
     Ok(())
 }
 
-/// A turner at an account with no open door, and how many entries that has then.
-fn turn_alone<R: Threads + Wait + Sync>(rt: &R, alloc: Global) -> Result<Option<u64>, Fail> {
-    let Some(account) = account(alloc, 0) else {
-        return Ok(None);
-    };
-    let mut workers = Vec::new(alloc);
-    add(&mut workers, turner(alloc))?;
-    match run_at(
-        rt,
-        alloc,
-        account,
-        workers.as_mut_slice(),
-        &People::Everybody,
-    ) {
-        Ok(last) => Ok(Some(last.entries())),
-        Err(_) => Ok(None),
-    }
+/// How a server ends that has no door, and one turner, and how many entries its account has then.
+fn turn_alone<R: Threads + Wait + Sync>(rt: &R, alloc: Global) -> Result<(Status, u64), Fail> {
+    let mut workers: Vec<Over> = Vec::new(alloc);
+    add(&mut workers, turner(alloc, NoRotator::new()))?;
+    ran_server(rt, alloc, workers.as_mut_slice())
 }
 
 #[test]
 fn a_turner_ends_where_no_door_is_open(rt: HostRuntime) -> Result<(), Fail> {
-    assert_eq!(rt; turn_alone(&rt, rt.alloc())?, Some(0));
+    assert_eq!(rt; turn_alone(&rt, rt.alloc())?, (Status::Done, 0));
     Ok(())
 }

@@ -4,4 +4,8 @@
 #[cfg(test)]
 mod doors;
 #[cfg(test)]
+mod meeting;
+#[cfg(test)]
+mod rotations;
+#[cfg(test)]
 mod support;

@@ -1,86 +1,79 @@
-//! Accounts, connections and workers over memory.
-ghost use Rattle.std.specs.Prelude.{◌≡◌, ◌+◌, All, IfOk, OnOk, vec_len};
+//! Connections and workers over memory, and a server that runs them.
+ghost use Rattle.std.specs.Prelude.{◌≡◌, ◌≤◌, ◌+◌, All, IfOk, OnOk, length, vec_len};
 ghost use Rattle.sm_workers.specs.Workers.{IsFresh};
 
-use sm_account::Account;
 use sm_disk::MemoryDisk;
-use sm_io::{CountWords, FixedClock, MemoryConn, MemoryEdge, MemorySink, MemorySource};
-use sm_model::limits::JOURNAL_LIMIT;
+use sm_io::{CountWords, Edge, FixedClock, MemoryConn, MemoryEdge, MemorySink, MemorySource};
 use sm_model::{Bytes, Fails, List, Moment};
-use sm_rotator::NoRotator;
+use sm_rotator::Rotator;
+use sm_server::{RanBy, Status, run_server};
 use sm_session::Ended;
-use sm_workers::{ConnEnd, Task, Worker};
+use sm_workers::{ConnEnd, Worker};
 use std::alloc::Global;
+use std::sync::Wait;
 use std::test::Fail;
+use std::thread::Threads;
 
-pub type Kept = Account<MemoryDisk, NoRotator>;
+/// A worker over memory, with an edge and a rotator of these kinds.
+pub type By<E, R: Rotator> = Worker<E, MemoryDisk, FixedClock, CountWords, R>;
 
-pub type Over = Worker<MemoryEdge<ConnEnd>, MemoryDisk, FixedClock, CountWords, NoRotator>;
-
-fn fails(alloc: Global, from: Option<u64>) -> Fails {
+/// Calls that fail from one on.
+pub fn fails(alloc: Global, from: Option<u64>) -> Fails {
     Fails {
         calls: List::empty(alloc),
         from,
     }
 }
 
-/// An account over an empty disk, with so many open doors.
-pub fn account(alloc: Global, doors: u32) -> Option<Kept> {
-    let disk = MemoryDisk::new(
-        alloc,
-        Bytes::empty(alloc),
-        Bytes::empty(alloc),
-        Bytes::empty(alloc),
-        fails(alloc, None),
-    );
-    match disk {
-        Ok(disk) => Account::open(alloc, disk, doors, JOURNAL_LIMIT).ok(),
-        Err(_) => None,
-    }
+/// The clock of each worker.
+fn clock() -> FixedClock {
+    FixedClock::new(Moment(1_700_000_000))
 }
 
-/// A connection with one message, which makes a secret of this name.
-fn connection(alloc: Global, name: &str) -> Result<MemoryConn, Fail> {
-    let body = format!(in alloc; "{{\"Name\":\"{name}\",\"SecretString\":\"s3cret\"}}")?;
-    let size = body.len();
-    let message = format!(in alloc;
-        "POST / HTTP/1.1\r\nX-Amz-Target: secretsmanager.CreateSecret\r\nContent-Length: {size}\r\n\r\n{body}"
-    )?;
-    let bytes = Bytes::from_slice(alloc, message.as_bytes())?;
+/// A connection with these messages, each an operation and a body.
+pub fn connection(alloc: Global, messages: &[(&str, &str)]) -> Result<MemoryConn, Fail> {
+    let mut input = String::new(alloc);
+    for (operation, body) in messages {
+        let size = body.len();
+        let message = format!(in alloc;
+            "POST / HTTP/1.1\r\nX-Amz-Target: secretsmanager.{operation}\r\nContent-Length: {size}\r\n\r\n{body}"
+        )?;
+        input.push_str(&message)?;
+    }
+    let bytes = Bytes::from_slice(alloc, input.as_bytes())?;
     let source = MemorySource::new(bytes, 1_000_000, fails(alloc, None));
     let sink = MemorySink::new(alloc, 1_000_000, fails(alloc, None));
     Ok(MemoryConn::new(source, sink))
 }
 
-/// A worker for an edge that hands out a connection for each of these names, unless an accept fails.
-pub fn door(alloc: Global, names: &[&str], fails_from: Option<u64>) -> Result<Over, Fail>
-    ensures { IfOk result IsFresh }
+/// An edge that hands out these connections, unless an accept fails.
+pub fn edge(alloc: Global, conns: Vec<MemoryConn>, from: Option<u64>) -> MemoryEdge<ConnEnd> {
+    MemoryEdge::new(alloc, List::new(conns), fails(alloc, from))
+}
+
+/// A worker for an edge.
+pub fn door<E, R: Rotator>(alloc: Global, edge: E) -> By<E, R>
+    ensures { IsFresh result }
 {
-    let mut conns = Vec::new(alloc);
-    for name in names {
-        conns.push(connection(alloc, name)?)?;
-    }
-    let edge = MemoryEdge::new(alloc, List::new(conns), fails(alloc, fails_from));
-    Ok(Worker::door(
-        edge,
-        FixedClock::new(Moment(1_700_000_000)),
-        CountWords::new(alloc, 0, fails(alloc, None)),
-    ))
+    Worker::door(edge, clock(), CountWords::new(alloc, 0, fails(alloc, None)))
 }
 
 /// A worker that takes rotation turns.
-pub fn turner(alloc: Global) -> Over
+pub fn turner<E, R: Rotator>(alloc: Global, rotator: R) -> By<E, R>
     ensures { IsFresh result }
 {
     Worker::turner(
-        NoRotator::new(),
-        FixedClock::new(Moment(1_700_000_000)),
+        rotator,
+        clock(),
         CountWords::new(alloc, 0, fails(alloc, None)),
     )
 }
 
 /// Adds a worker.
-pub fn add(workers: &mut Vec<Over>, worker: Over) -> Result<(), Fail>
+pub fn add<E: Drop, R: Rotator + Drop>(
+    workers: &mut Vec<By<E, R>>,
+    worker: By<E, R>,
+) -> Result<(), Fail>
     requires fresh { IsFresh worker }
     requires all { All IsFresh workers.old.items }
     ensures all { All IsFresh workers.new.items }
@@ -90,18 +83,41 @@ pub fn add(workers: &mut Vec<Over>, worker: Over) -> Result<(), Fail>
     Ok(())
 }
 
-/// How many connections came back to a door, whether each got a secret's reply and ended well, and whether the edge
-/// failed.
-pub fn outcome(worker: &Over) -> (usize, bool, bool) {
-    match &worker.task {
-        Task::Door(edge) => {
-            let back = edge.back();
-            let well = back.iter().all(|pair| {
-                let taken = pair.0.sink().taken().as_slice();
-                taken.starts_with(b"HTTP/1.1 200 OK\r\n") && pair.1.ended == Ended::Closed
-            });
-            (back.len(), well, worker.failed)
-        }
-        Task::Turner(_) => (0, true, worker.failed),
+/// How a server over an empty disk ends that runs these workers for everybody, and how many entries its account has
+/// then.
+pub fn ran_server<E: Edge<ConnEnd> + Send, R: Rotator + Drop + Send, H: Threads + Wait + Sync>(
+    rt: &H,
+    alloc: Global,
+    workers: &mut [By<E, R>],
+) -> Result<(Status, u64), Fail>
+where
+    E::C: Send,
+    requires many { (1 ≤ length workers.old) × (length workers.old ≤ 128) }
+    requires fresh { All IsFresh workers.old }
+{
+    let mut words = Vec::new(alloc);
+    for word in ["--mode", "serve"] {
+        words.push(String::from_str(alloc, word)?)?;
     }
+    let disk = MemoryDisk::new(
+        alloc,
+        Bytes::empty(alloc),
+        Bytes::empty(alloc),
+        Bytes::empty(alloc),
+        fails(alloc, None),
+    )?;
+    match run_server(rt, alloc, words.as_slice(), workers, disk, b"") {
+        RanBy::Opened(status, account) => Ok((status, account.entries())),
+        RanBy::Unopened(status, _disk) => Ok((status, 0)),
+    }
+}
+
+/// How many connections came back, and whether each was answered 200 at first and ended well.
+pub fn outcome(edge: &MemoryEdge<ConnEnd>) -> (usize, bool) {
+    let back = edge.back();
+    let well = back.iter().all(|pair| {
+        let taken = pair.0.sink().taken().as_slice();
+        taken.starts_with(b"HTTP/1.1 200 OK\r\n") && pair.1.ended == Ended::Closed
+    });
+    (back.len(), well)
 }

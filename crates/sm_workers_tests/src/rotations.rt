@@ -1,0 +1,177 @@
+//! Rotators that hold their answers, while others are at the same account.
+ghost use Rattle.std.specs.Prelude.{◌≡◌, All, IfOk, vec_len};
+ghost use Rattle.sm_workers.specs.Workers.{IsFresh};
+
+use crate::meeting::{Holding, Meeting, Watched};
+use crate::support::{By, add, connection, door, edge, fails, outcome, ran_server, turner};
+use sm_io::MemoryConn;
+use sm_model::Stage;
+use sm_rotator::ScriptRotator;
+use sm_server::Status;
+use sm_workers::Task;
+use std::sync::Wait;
+use std::test::Fail;
+use std::thread::Threads;
+
+type Over<'a> = By<Watched<'a>, Holding<'a>>;
+
+const CREATE: &str = "CreateSecret";
+
+const ROTATE: &str = "RotateSecret";
+
+const FIRST: &str = r#"{"Name":"db/one","SecretString":"s3cret"}"#;
+
+const ROTATE_FIRST: &str =
+    r#"{"SecretId":"db/one","ClientRequestToken":"rotation-token-000000000000-yyyy"}"#;
+
+const SECOND: &str = r#"{"Name":"db/two","SecretString":"s3cret"}"#;
+
+const ROTATE_SECOND: &str =
+    r#"{"SecretId":"db/two","ClientRequestToken":"rotation-token-000000000001-yyyy"}"#;
+
+const READ: (&str, &str) = ("GetSecretValue", r#"{"SecretId":"db/one"}"#);
+
+/// An edge with one connection, which is the second of a meeting or none of the two.
+fn watched<'a>(
+    rt: &'a HostRuntime,
+    meeting: &'a Meeting,
+    is_second: bool,
+    conn: MemoryConn,
+) -> Result<Watched<'a>, Fail> {
+    let mut conns = Vec::new(rt.alloc());
+    conns.push(conn)?;
+    Ok(Watched {
+        rt,
+        meeting,
+        is_second,
+        edge: edge(rt.alloc(), conns, None),
+    })
+}
+
+/// A rotator that holds its answers at a stage until the other of the meeting has come.
+fn holding<'a>(rt: &'a HostRuntime, meeting: &'a Meeting, stage: Stage) -> Holding<'a> {
+    Holding {
+        rt,
+        meeting,
+        stage,
+        script: ScriptRotator::new(rt.alloc(), fails(rt.alloc(), None)),
+    }
+}
+
+/// How many connections came back to a door, or how many steps a turner's rotator was asked to do, and whether all
+/// went well.
+fn came<'a>(worker: &Over<'a>) -> (u64, bool) {
+    match &worker.task {
+        Task::Door(edge) => {
+            let (count, well) = outcome(&edge.edge);
+            (count as u64, well && !worker.failed)
+        }
+        Task::Turner(rotator) => {
+            let calls = &rotator.script.calls;
+            (calls.made, calls.faults == 0)
+        }
+    }
+}
+
+/// A door that makes and rotates a secret, one that reads it behind the first of a meeting, and a turner whose rotator
+/// is that first at testSecret.
+fn testers<'a>(rt: &'a HostRuntime, meeting: &'a Meeting) -> Result<Vec<Over<'a>>, Fail>
+    ensures fresh { IfOk result (λ workers. All IsFresh workers.items) }
+    ensures many { IfOk result (λ workers. vec_len workers ≡ 3) }
+{
+    let alloc = rt.alloc();
+    let rotates = connection(alloc, &[(CREATE, FIRST), (ROTATE, ROTATE_FIRST)])?;
+    let reads = connection(alloc, &[READ])?;
+    let mut workers = Vec::new(alloc);
+    add(
+        &mut workers,
+        door(alloc, watched(rt, meeting, false, rotates)?),
+    )?;
+    add(
+        &mut workers,
+        door(alloc, watched(rt, meeting, true, reads)?),
+    )?;
+    add(
+        &mut workers,
+        turner(alloc, holding(rt, meeting, Stage::Test)),
+    )?;
+    Ok(workers)
+}
+
+/// A rotation whose rotator holds its answer at testSecret until a connection of another door got the value, which
+/// that door hands out only once testSecret is asked: what came of both doors and of the turner, how the server ends,
+/// and how many entries its account has then.
+fn read_while_tested<H: Threads + Wait + Sync>(
+    rt: &HostRuntime,
+    threads: &H,
+) -> Result<((u64, bool), (u64, bool), (u64, bool), (Status, u64)), Fail> {
+    let meeting = Meeting::new();
+    let mut workers = testers(rt, &meeting)?;
+    let ended = ran_server(threads, rt.alloc(), workers.as_mut_slice())?;
+    Ok((
+        came(&workers[0]),
+        came(&workers[1]),
+        came(&workers[2]),
+        ended,
+    ))
+}
+
+#[test]
+fn a_value_is_read_while_the_rotator_tests_another(rt: HostRuntime) -> Result<(), Fail> {
+    let out = read_while_tested(&rt, &rt)?;
+    assert_eq!(rt; out, ((1, true), (1, true), (4, true), (Status::Done, 6)));
+    Ok(())
+}
+
+/// A door that makes and rotates two secrets, and two turners whose rotators wait for each other at createSecret.
+fn rotators<'a>(rt: &'a HostRuntime, meeting: &'a Meeting) -> Result<Vec<Over<'a>>, Fail>
+    ensures fresh { IfOk result (λ workers. All IsFresh workers.items) }
+    ensures many { IfOk result (λ workers. vec_len workers ≡ 3) }
+{
+    let alloc = rt.alloc();
+    let messages = [
+        (CREATE, FIRST),
+        (CREATE, SECOND),
+        (ROTATE, ROTATE_FIRST),
+        (ROTATE, ROTATE_SECOND),
+    ];
+    let rotates = connection(alloc, &messages)?;
+    let mut workers = Vec::new(alloc);
+    add(
+        &mut workers,
+        door(alloc, watched(rt, meeting, false, rotates)?),
+    )?;
+    add(
+        &mut workers,
+        turner(alloc, holding(rt, meeting, Stage::Create)),
+    )?;
+    add(
+        &mut workers,
+        turner(alloc, holding(rt, meeting, Stage::Create)),
+    )?;
+    Ok(workers)
+}
+
+/// Two rotations, of which each one's rotator holds its first answer until the first step of the other was asked: what
+/// came of the door and of both turners, how the server ends, and how many entries its account has then.
+fn both_at_their_first_step<H: Threads + Wait + Sync>(
+    rt: &HostRuntime,
+    threads: &H,
+) -> Result<((u64, bool), (u64, bool), (Status, u64)), Fail> {
+    let meeting = Meeting::new();
+    let mut workers = rotators(rt, &meeting)?;
+    let ended = ran_server(threads, rt.alloc(), workers.as_mut_slice())?;
+    let (first, second) = (came(&workers[1]), came(&workers[2]));
+    Ok((
+        came(&workers[0]),
+        (first.0.saturating_add(second.0), first.1 && second.1),
+        ended,
+    ))
+}
+
+#[test]
+fn two_secrets_are_rotated_at_once(rt: HostRuntime) -> Result<(), Fail> {
+    let out = both_at_their_first_step(&rt, &rt)?;
+    assert_eq!(rt; out, ((1, true), (8, true), (Status::Done, 12)));
+    Ok(())
+}
