@@ -1,10 +1,11 @@
 //! Messages over one account, and the replies that they must get.
-use crate::exchanges::{
+use crate::expecting::expect;
+use sm_server::Status;
+use sm_server_fixtures::exchanges::{
     APP, APP_CREATED, BAD, CREATE, Exchange, FIRST_VALUE, GET, GET_APP, NOT_FOUND, OK, PUT, PUT_B,
     PUT_B_DONE, spoken,
 };
-use crate::support::{Outside, WELL, expect};
-use sm_server::Status;
+use sm_server_fixtures::runs::{Outside, WELL};
 use std::process::Abort;
 use std::test::Fail;
 

@@ -2,24 +2,14 @@
 #![tactic(auto)]
 
 #[cfg(test)]
-mod checks;
-#[cfg(test)]
 mod conversations;
 #[cfg(test)]
-mod disks;
-#[cfg(test)]
-mod exchanges;
-#[cfg(test)]
-mod failing;
+mod expecting;
 #[cfg(test)]
 mod outside;
 #[cfg(test)]
 mod people;
 #[cfg(test)]
-mod rotations;
-#[cfg(test)]
 mod streams;
-#[cfg(test)]
-mod support;
 #[cfg(test)]
 mod words;

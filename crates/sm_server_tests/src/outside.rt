@@ -1,7 +1,8 @@
 //! Faults of the source, the sink and the random source.
-use crate::exchanges::{APP, BAD, CREATE, FAULT, GET, GET_APP, NOT_FOUND, spoken};
-use crate::support::{Outside, WELL, add_message, expect};
+use crate::expecting::expect;
 use sm_server::Status;
+use sm_server_fixtures::exchanges::{APP, BAD, CREATE, FAULT, GET, GET_APP, NOT_FOUND, spoken};
+use sm_server_fixtures::runs::{Outside, WELL, add_message};
 use std::test::Fail;
 
 const RANDOM_FAULT: &str = r#"{"Message":"random source fault","__type":"InternalServiceError"}"#;

@@ -1,8 +1,8 @@
 //! Who may ask, and who asks.
-use crate::exchanges::{APP, BAD, CREATE, OK};
-use crate::support::{WELL, add_reply, disk_of, run_people};
 use sm_model::Fails;
 use sm_server::Status;
+use sm_server_fixtures::exchanges::{APP, BAD, CREATE, OK};
+use sm_server_fixtures::runs::{WELL, add_reply, disk_of, run_people};
 use std::alloc::Global;
 use std::test::Fail;
 

@@ -1,7 +1,8 @@
 //! Streams however they are cut, their ends, and the limits of their count and sizes.
-use crate::exchanges::{APP, BAD, CREATE, OK};
-use crate::support::{Outside, WELL, add_message, add_reply, expect};
+use crate::expecting::expect;
 use sm_server::Status;
+use sm_server_fixtures::exchanges::{APP, BAD, CREATE, OK};
+use sm_server_fixtures::runs::{Outside, WELL, add_message, add_reply};
 use std::alloc::Global;
 use std::process::Abort;
 use std::test::Fail;

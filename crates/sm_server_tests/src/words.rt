@@ -1,7 +1,7 @@
 //! Words that are followed, and words that are not.
-use crate::support::{WELL, disk_of, run_words};
 use sm_model::Fails;
 use sm_server::Status;
+use sm_server_fixtures::runs::{WELL, disk_of, run_words};
 use std::alloc::Global;
 use std::test::Fail;
 

@@ -1,23 +1,26 @@
 //! Messages and the replies that they must get.
-use crate::support::{add_message, add_reply};
+use crate::runs::{add_message, add_reply};
 use std::alloc::Global;
 use std::test::Fail;
 
 /// A message's operation and body, and its reply's status line and body.
 pub type Exchange = (&'static str, &'static str, &'static str, &'static str);
 
+/// The operations that most messages ask for.
 pub const CREATE: &str = "CreateSecret";
 
 pub const PUT: &str = "PutSecretValue";
 
 pub const GET: &str = "GetSecretValue";
 
+/// The status lines of replies.
 pub const OK: &str = "200 OK";
 
 pub const BAD: &str = "400 Bad Request";
 
 pub const FAULT: &str = "500 Internal Server Error";
 
+/// A secret with a value and a token, and the reply to it.
 pub const APP: &str =
     r#"{"Name":"db/app","SecretString":"s3cret","ClientRequestToken":"11111111-1111-4111-8111-111111111111"}"#;
 
@@ -25,6 +28,7 @@ pub const APP_CREATED: &str =
     "{\"ARN\":\"arn:aws:secretsmanager:us-east-1:000000000000:secret:db/app-ABCDEF\",\"Name\":\"db/app\",\
         \"VersionId\":\"11111111-1111-4111-8111-111111111111\"}";
 
+/// Another value of that secret, and the reply to it.
 pub const PUT_B: &str =
     r#"{"SecretId":"db/app","SecretString":"b","ClientRequestToken":"22222222-2222-4222-8222-222222222222"}"#;
 
@@ -32,6 +36,7 @@ pub const PUT_B_DONE: &str =
     "{\"ARN\":\"arn:aws:secretsmanager:us-east-1:000000000000:secret:db/app-ABCDEF\",\"Name\":\"db/app\",\
         \"VersionId\":\"22222222-2222-4222-8222-222222222222\",\"VersionStages\":[\"AWSCURRENT\"]}";
 
+/// A read of that secret, and its first value.
 pub const GET_APP: &str = r#"{"SecretId":"db/app"}"#;
 
 pub const FIRST_VALUE: &str =
@@ -39,6 +44,7 @@ pub const FIRST_VALUE: &str =
         \"Name\":\"db/app\",\"SecretString\":\"s3cret\",\"VersionId\":\"11111111-1111-4111-8111-111111111111\",\
         \"VersionStages\":[\"AWSCURRENT\"]}";
 
+/// Refusals.
 pub const NOT_FOUND: &str =
     r#"{"Message":"secret not found","__type":"ResourceNotFoundException"}"#;
 

@@ -1,15 +1,15 @@
 //! Runs over disks that hold something, or fail.
-use crate::exchanges::{
-    APP, APP_CREATED, CREATE, DISK_FAULT, Exchange, FAULT, FIRST_VALUE, GET, GET_APP, OK, PUT,
-    PUT_B, PUT_B_DONE, spoken,
-};
-use crate::support::{WELL, disk_of, expect_over};
 use sm_account::Account;
 use sm_disk::MemoryDisk;
 use sm_model::limits::JOURNAL_LIMIT;
 use sm_model::{Fails, List};
 use sm_rotator::NoRotator;
 use sm_server::Status;
+use sm_server_fixtures::exchanges::{
+    APP, APP_CREATED, CREATE, DISK_FAULT, Exchange, FAULT, FIRST_VALUE, GET, GET_APP, OK, PUT,
+    PUT_B, PUT_B_DONE, spoken,
+};
+use sm_server_fixtures::runs::{WELL, disk_of, run};
 use std::alloc::Global;
 use std::process::Abort;
 use std::test::Fail;
@@ -77,14 +77,10 @@ fn converse(
     exchanges: &[Exchange],
 ) -> Result<MemoryDisk, Fail> {
     let (input, output) = spoken(rt.alloc(), exchanges)?;
-    expect_over(
-        rt,
-        input.as_slice(),
-        &WELL,
-        disk,
-        Status::Done,
-        output.as_slice(),
-    )
+    let (ended, written, disk) = run(rt.alloc(), input.as_slice(), &WELL, disk)?;
+    assert_eq!(rt; ended, Status::Done);
+    assert!(rt; written.as_slice() == output.as_slice());
+    Ok(disk)
 }
 
 /// How many entries a disk recovers.
@@ -148,6 +144,8 @@ fn an_entry_that_is_not_legal_is_refused(rt: HostRuntime) -> Result<(), Fail> {
     let disk = disk_of(rt.alloc(), CANCELLED, Fails::never(rt.alloc()))?;
     let status = Status::Damaged(8, 0);
     assert_eq!(rt; status.code(), 3);
-    expect_over(&rt, b"", &WELL, disk, status, b"")?;
+    let (ended, written, _disk) = run(rt.alloc(), b"", &WELL, disk)?;
+    assert_eq!(rt; ended, status);
+    assert!(rt; written.is_empty());
     Ok(())
 }

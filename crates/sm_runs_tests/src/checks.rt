@@ -1,8 +1,8 @@
 //! What a disk holds, as a run in mode check says it.
-use crate::exchanges::{APP, CREATE};
-use crate::support::{Outside, WELL, add_message, disk_of, run, run_words};
 use sm_model::Fails;
 use sm_server::Status;
+use sm_server_fixtures::exchanges::{APP, CREATE};
+use sm_server_fixtures::runs::{Outside, WELL, add_message, disk_of, run, run_words};
 use std::alloc::Global;
 use std::test::Fail;
 

@@ -5,7 +5,6 @@ use sm_model::{Bytes, Fails, List, Moment, NoMemory};
 use sm_rotator::LocalRotator;
 use sm_server::{Status, run_once};
 use std::alloc::Global;
-use std::process::Abort;
 use std::test::Fail;
 
 /// How the objects of the outside behave: how many bytes move at a time, and from which call on each fails.
@@ -18,6 +17,7 @@ pub struct Outside {
     pub random_from: Option<u64>,
 }
 
+/// All moves at once, and nothing fails.
 pub const WELL: Outside = Outside {
     take: 1_000_000,
     put: 1_000_000,
@@ -105,34 +105,6 @@ fn words(alloc: Global, line: &str) -> Result<Vec<String>, Fail> {
         words.push(String::from_str(alloc, word)?)?;
     }
     Ok(words)
-}
-
-/// Asserts that a run over an empty disk ends so and writes this.
-pub fn expect(
-    rt: &(impl Abort + AllocGlobal),
-    input: &[u8],
-    outside: &Outside,
-    status: Status,
-    output: &[u8],
-) -> Result<(), Fail> {
-    let disk = disk_of(rt.alloc(), b"", Fails::never(rt.alloc()))?;
-    expect_over(rt, input, outside, disk, status, output)?;
-    Ok(())
-}
-
-/// Asserts that a run over a disk ends so and writes this, and gives the disk again.
-pub fn expect_over(
-    rt: &(impl Abort + AllocGlobal),
-    input: &[u8],
-    outside: &Outside,
-    disk: MemoryDisk,
-    status: Status,
-    output: &[u8],
-) -> Result<MemoryDisk, Fail> {
-    let (ended, written, disk) = run(rt.alloc(), input, outside, disk)?;
-    assert_eq!(rt; ended, status);
-    assert!(rt; written.as_slice() == output);
-    Ok(disk)
 }
 
 /// Adds a message that asks for an operation.

@@ -1,13 +1,13 @@
 //! Each call of the disk failing in turn.
 use crate::disks::{SYNC_OF_THE_PUT, entries};
-use crate::exchanges::{
-    APP, APP_CREATED, BAD, CREATE, DISK_FAULT, Exchange, FAULT, NOT_FOUND, OK, PUT, PUT_B,
-    PUT_B_DONE, spoken,
-};
-use crate::support::{WELL, disk_of, run};
 use sm_disk::MemoryDisk;
 use sm_model::{Fails, List};
 use sm_server::Status;
+use sm_server_fixtures::exchanges::{
+    APP, APP_CREATED, BAD, CREATE, DISK_FAULT, Exchange, FAULT, NOT_FOUND, OK, PUT, PUT_B,
+    PUT_B_DONE, spoken,
+};
+use sm_server_fixtures::runs::{WELL, disk_of, run};
 use std::alloc::Global;
 use std::test::Fail;
 

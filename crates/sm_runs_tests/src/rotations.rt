@@ -1,8 +1,8 @@
 //! Rotations behind messages, by the local rotator.
-use crate::exchanges::{CREATE, OK};
-use crate::support::{WELL, add_message, add_reply, disk_of, run, run_words};
 use sm_model::Fails;
 use sm_server::Status;
+use sm_server_fixtures::exchanges::{CREATE, OK};
+use sm_server_fixtures::runs::{WELL, add_message, add_reply, disk_of, run, run_words};
 use std::alloc::Global;
 use std::test::Fail;
 
