@@ -2,6 +2,7 @@
 ghost use Rattle.std.specs.Prelude.{◌≡◌, ◌+◌, ◌≤◌, All, OnOk, vec_len};
 ghost use Rattle.sm_workers.specs.Workers.{IsFresh};
 
+use crate::listening::SayingListener;
 use crate::rotators::MakeRotator;
 use sm_account::Account;
 use sm_disk::Disk;
@@ -14,7 +15,7 @@ use std::net::{OpenListener, TcpListener};
 
 /// A worker of the server, with the system's clock and random source.
 pub type Hand<'a, D: Disk, R: Rotator> = WorkerBy<
-    ListenerEdge<TcpListener>,
+    ListenerEdge<SayingListener<'a>>,
     SystemClock<&'a HostRuntime>,
     SystemWords<&'a HostRuntime>,
     R,
@@ -55,7 +56,7 @@ pub fn add_doors<'a, D: Disk + Drop, R: Rotator + Drop>(
             }
         };
         let door = WorkerBy::door(
-            ListenerEdge::new(listener),
+            ListenerEdge::new(SayingListener { rt, listener }),
             SystemClock::new(rt),
             SystemWords::new(rt.alloc(), rt),
         );

@@ -7,12 +7,15 @@
 #![tactic(auto)]
 
 mod crew;
+mod ending;
+mod listening;
 mod orders;
 mod rotators;
 mod serving;
 
 ghost use Rattle.sm_words.specs.Reading.{IsInBounds};
 
+use crate::ending::say_end;
 use crate::orders::{Orders, empty_disk};
 use crate::rotators::{Linked, Local, MakeRotator};
 use crate::serving::serve;
@@ -45,11 +48,8 @@ fn main(rt: HostRuntime) -> ExitCode {
             Status::Words
         }
     };
-    let code = status.code();
-    if code != 0 {
-        let _ = eprintln!(rt; "secretsd: status {code}");
-    }
-    ExitCode::from(code)
+    say_end(&rt, status);
+    ExitCode::from(status.code())
 }
 
 /// The words behind the program's name.
