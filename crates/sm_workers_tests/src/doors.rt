@@ -1,5 +1,7 @@
 //! Doors and a turner at one account.
-use crate::support::{By, add, connection, door, edge, outcome, ran_server, turner};
+use crate::support::{
+    MemoryWorker, add, connection, door, edge, outcome, ran_server, three, turner,
+};
 use sm_io::MemoryEdge;
 use sm_rotator::NoRotator;
 use sm_server::Status;
@@ -20,7 +22,7 @@ const SECOND: [&str; 20] = [
     "b14", "b15", "b16", "b17", "b18", "b19", "b20",
 ];
 
-type Over = By<MemoryEdge<ConnEnd>, NoRotator>;
+type Over = MemoryWorker<MemoryEdge<ConnEnd>, NoRotator>;
 
 /// An edge that hands out a connection for each of these names, unless an accept fails. Each makes a secret of its
 /// name, with a token of its own.
@@ -58,10 +60,12 @@ fn run<R: Threads + Wait + Sync>(
     second: &[&str],
     from: Option<u64>,
 ) -> Result<((usize, bool, bool), (usize, bool, bool), (Status, u64)), Fail> {
-    let mut workers: Vec<Over> = Vec::new(alloc);
-    add(&mut workers, door(alloc, makers(alloc, first, None)?))?;
-    add(&mut workers, door(alloc, makers(alloc, second, from)?))?;
-    add(&mut workers, turner(alloc, NoRotator::new()))?;
+    let mut workers: Vec<Over> = three(
+        alloc,
+        door(alloc, makers(alloc, first, None)?),
+        door(alloc, makers(alloc, second, from)?),
+        turner(alloc, NoRotator::new()),
+    )?;
     let ended = ran_server(rt, alloc, workers.as_mut_slice())?;
     Ok((at_door(&workers[0]), at_door(&workers[1]), ended))
 }

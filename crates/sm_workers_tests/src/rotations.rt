@@ -3,7 +3,9 @@ ghost use Rattle.std.specs.Prelude.{◌≡◌, All, IfOk, vec_len};
 ghost use Rattle.sm_workers.specs.Workers.{IsFresh};
 
 use crate::meeting::{Holding, Meeting, Watched};
-use crate::support::{By, add, connection, door, edge, fails, outcome, ran_server, turner};
+use crate::support::{
+    MemoryWorker, connection, door, edge, fails, outcome, ran_server, three, turner,
+};
 use sm_io::MemoryConn;
 use sm_model::Stage;
 use sm_rotator::ScriptRotator;
@@ -13,7 +15,7 @@ use std::sync::Wait;
 use std::test::Fail;
 use std::thread::Threads;
 
-type Over<'a> = By<Watched<'a>, Holding<'a>>;
+type Over<'a> = MemoryWorker<Watched<'a>, Holding<'a>>;
 
 const CREATE: &str = "CreateSecret";
 
@@ -82,20 +84,12 @@ fn testers<'a>(rt: &'a HostRuntime, meeting: &'a Meeting) -> Result<Vec<Over<'a>
     let alloc = rt.alloc();
     let rotates = connection(alloc, &[(CREATE, FIRST), (ROTATE, ROTATE_FIRST)])?;
     let reads = connection(alloc, &[READ])?;
-    let mut workers = Vec::new(alloc);
-    add(
-        &mut workers,
+    three(
+        alloc,
         door(alloc, watched(rt, meeting, false, rotates)?),
-    )?;
-    add(
-        &mut workers,
         door(alloc, watched(rt, meeting, true, reads)?),
-    )?;
-    add(
-        &mut workers,
         turner(alloc, holding(rt, meeting, Stage::Test)),
-    )?;
-    Ok(workers)
+    )
 }
 
 /// A rotation whose rotator holds its answer at testSecret until a connection of another door got the value, which
@@ -136,20 +130,12 @@ fn rotators<'a>(rt: &'a HostRuntime, meeting: &'a Meeting) -> Result<Vec<Over<'a
         (ROTATE, ROTATE_SECOND),
     ];
     let rotates = connection(alloc, &messages)?;
-    let mut workers = Vec::new(alloc);
-    add(
-        &mut workers,
+    three(
+        alloc,
         door(alloc, watched(rt, meeting, false, rotates)?),
-    )?;
-    add(
-        &mut workers,
         turner(alloc, holding(rt, meeting, Stage::Create)),
-    )?;
-    add(
-        &mut workers,
         turner(alloc, holding(rt, meeting, Stage::Create)),
-    )?;
-    Ok(workers)
+    )
 }
 
 /// Two rotations, of which each one's rotator holds its first answer until the first step of the other was asked: what

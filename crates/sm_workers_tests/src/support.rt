@@ -15,7 +15,7 @@ use std::test::Fail;
 use std::thread::Threads;
 
 /// A worker over memory, with an edge and a rotator of these kinds.
-pub type By<E, R: Rotator> = Worker<E, MemoryDisk, FixedClock, CountWords, R>;
+pub type MemoryWorker<E, R: Rotator> = Worker<E, MemoryDisk, FixedClock, CountWords, R>;
 
 /// Calls that fail from one on.
 pub fn fails(alloc: Global, from: Option<u64>) -> Fails {
@@ -52,14 +52,14 @@ pub fn edge(alloc: Global, conns: Vec<MemoryConn>, from: Option<u64>) -> MemoryE
 }
 
 /// A worker for an edge.
-pub fn door<E, R: Rotator>(alloc: Global, edge: E) -> By<E, R>
+pub fn door<E, R: Rotator>(alloc: Global, edge: E) -> MemoryWorker<E, R>
     ensures { IsFresh result }
 {
     Worker::door(edge, clock(), CountWords::new(alloc, 0, fails(alloc, None)))
 }
 
 /// A worker that takes rotation turns.
-pub fn turner<E, R: Rotator>(alloc: Global, rotator: R) -> By<E, R>
+pub fn turner<E, R: Rotator>(alloc: Global, rotator: R) -> MemoryWorker<E, R>
     ensures { IsFresh result }
 {
     Worker::turner(
@@ -71,8 +71,8 @@ pub fn turner<E, R: Rotator>(alloc: Global, rotator: R) -> By<E, R>
 
 /// Adds a worker.
 pub fn add<E: Drop, R: Rotator + Drop>(
-    workers: &mut Vec<By<E, R>>,
-    worker: By<E, R>,
+    workers: &mut Vec<MemoryWorker<E, R>>,
+    worker: MemoryWorker<E, R>,
 ) -> Result<(), Fail>
     requires fresh { IsFresh worker }
     requires all { All IsFresh workers.old.items }
@@ -83,12 +83,32 @@ pub fn add<E: Drop, R: Rotator + Drop>(
     Ok(())
 }
 
+/// These three workers.
+pub fn three<E: Drop, R: Rotator + Drop>(
+    alloc: Global,
+    first: MemoryWorker<E, R>,
+    second: MemoryWorker<E, R>,
+    third: MemoryWorker<E, R>,
+) -> Result<Vec<MemoryWorker<E, R>>, Fail>
+    requires first { IsFresh first }
+    requires second { IsFresh second }
+    requires third { IsFresh third }
+    ensures fresh { IfOk result (λ workers. All IsFresh workers.items) }
+    ensures many { IfOk result (λ workers. vec_len workers ≡ 3) }
+{
+    let mut workers = Vec::new(alloc);
+    add(&mut workers, first)?;
+    add(&mut workers, second)?;
+    add(&mut workers, third)?;
+    Ok(workers)
+}
+
 /// How a server over an empty disk ends that runs these workers for everybody, and how many entries its account has
 /// then.
 pub fn ran_server<E: Edge<ConnEnd> + Send, R: Rotator + Drop + Send, H: Threads + Wait + Sync>(
     rt: &H,
     alloc: Global,
-    workers: &mut [By<E, R>],
+    workers: &mut [MemoryWorker<E, R>],
 ) -> Result<(Status, u64), Fail>
 where
     E::C: Send,
