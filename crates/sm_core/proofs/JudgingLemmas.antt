@@ -25,8 +25,8 @@ use Rattle.sm_judging.specs.Changes.{IsChange}
 use Rattle.sm_judging.specs.Judged.{judged_told, refusal_told, IfAccepted, IfChange}
 use Rattle.sm_judging.proofs.JudgedLemmas.{told_same, told_refusal}
 use Rattle.sm_values.proofs.CreateSecretLemmas.{create_refuses, create_repeats, create_change}
-use Rattle.sm_values.proofs.DescribeSecretLemmas.{describe_refuses, describe_reads, describe_change}
-use Rattle.sm_values.proofs.GetSecretValueLemmas.{get_refuses, get_reads, get_change}
+use Rattle.sm_reads.proofs.DescribeSecretLemmas.{describe_refuses, describe_reads, describe_change}
+use Rattle.sm_reads.proofs.GetSecretValueLemmas.{get_refuses, get_reads, get_change}
 use Rattle.sm_values.proofs.PutSecretValueLemmas.{put_refuses, put_repeats, put_change}
 use Rattle.sm_values.proofs.UpdateSecretLemmas.{update_refuses, update_repeats, update_change}
 use Rattle.sm_labels.proofs.UpdateSecretVersionStageLemmas.{move_refuses, move_changes, move_change}

@@ -10,8 +10,8 @@ use Rattle.sm_model.specs.declared.why.Why.{Why}
 use Rattle.sm_judging.specs.declared.judged.Judged.{Judged}
 use Rattle.sm_judging.specs.declared.judged.Judged.TheVariants.{Refuse}
 use Rattle.sm_values.specs.CreateSecret.{create_judgement, create_refusal, create_repeat}
-use Rattle.sm_values.specs.DescribeSecret.{describe_judgement, describe_refusal}
-use Rattle.sm_values.specs.GetSecretValue.{get_judgement, get_refusal}
+use Rattle.sm_reads.specs.DescribeSecret.{describe_judgement, describe_refusal}
+use Rattle.sm_reads.specs.GetSecretValue.{get_judgement, get_refusal}
 use Rattle.sm_values.specs.PutSecretValue.{put_judgement, put_refusal, put_repeat}
 use Rattle.sm_values.specs.UpdateSecret.{update_judgement, update_refusal, update_repeat}
 use Rattle.sm_labels.specs.UpdateSecretVersionStage.{move_judgement, move_refusal}

@@ -19,7 +19,7 @@ use Rattle.sm_table.specs.Found.{found}
 use Rattle.sm_judging.specs.declared.judged.Judged.{Judged}
 use Rattle.sm_judging.specs.declared.judged.Judged.TheVariants.{Accept, Refuse}
 use Rattle.sm_judging.specs.Secrets.{unless_scheduled, on_secret}
-use Rattle.sm_values.specs.GetSecretValue.{got_secret, get_call, get_found, get_on, get_judgement}
+use Rattle.sm_reads.specs.GetSecretValue.{got_secret, get_call, get_found, get_on, get_judgement}
 use Rattle.sm_lists.specs.BatchGetSecretValue.{IsAnswer, value_in, error_in, values_of, errors_of, batch_judgement, batch_refusal}
 
 -- ---- a GetSecretValue is answered by a value or refused

@@ -8,7 +8,7 @@ use Rattle.sm_model.specs.declared.rows.Rows.{Rows}
 use Rattle.sm_model.specs.declared.rows.SecretRow.{SecretRow}
 use Rattle.sm_table.specs.Found.{found}
 use Rattle.sm_judging.specs.Judged.{refusal_told, IfAccepted, IfChange}
-use Rattle.sm_values.specs.DescribeSecret.{unless_found}
+use Rattle.sm_reads.specs.DescribeSecret.{unless_found}
 use Rattle.sm_lists.specs.declared.list_secret_version_ids.VersionsCall.{VersionsCall}
 use Rattle.sm_lists.specs.ListSecretVersionIds.{versions_call, versions_found, versions_judgement, versions_refusal}
 

@@ -22,7 +22,7 @@ use Rattle.sm_forms.specs.declared.paging.TheConstants.{BATCH_LIMIT}
 use Rattle.sm_forms.specs.GetSecretValue.{get_forms}
 use Rattle.sm_judging.specs.declared.judged.Judged.{Judged}
 use Rattle.sm_judging.specs.declared.judged.Judged.TheVariants.{Accept, Refuse, Memory}
-use Rattle.sm_values.specs.GetSecretValue.{get_judgement}
+use Rattle.sm_reads.specs.GetSecretValue.{get_judgement}
 use Rattle.sm_lists.specs.Pages.{page_size, filters_given, listed, page_rows}
 
 -- ---- one secret

@@ -22,7 +22,7 @@ use Rattle.sm_table.specs.Found.{found}
 use Rattle.sm_judging.specs.declared.judged.Judged.{Judged}
 use Rattle.sm_judging.specs.declared.judged.Judged.TheVariants.{Accept, Refuse}
 use Rattle.sm_judging.specs.LabelsShown.{labels_shown}
-use Rattle.sm_values.specs.DescribeSecret.{unless_found}
+use Rattle.sm_reads.specs.DescribeSecret.{unless_found}
 use Rattle.sm_lists.specs.declared.list_secret_version_ids.VersionsCall.{VersionsCall}
 use Rattle.sm_lists.specs.Pages.{page_size, token_serial, picked}
 

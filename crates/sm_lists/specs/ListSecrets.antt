@@ -12,7 +12,7 @@ use Rattle.sm_listing.specs.declared.asks.PageAsk.{PageAsk}
 use Rattle.sm_forms.specs.declared.paging.TheConstants.{PAGE_LIMIT}
 use Rattle.sm_judging.specs.declared.judged.Judged.{Judged}
 use Rattle.sm_judging.specs.declared.judged.Judged.TheVariants.{Accept}
-use Rattle.sm_values.specs.DescribeSecret.{described}
+use Rattle.sm_reads.specs.DescribeSecret.{described}
 use Rattle.sm_lists.specs.Pages.{page_size, filters_given, listed, page_rows}
 
 -- ---- the members

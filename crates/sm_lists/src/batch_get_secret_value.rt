@@ -9,7 +9,7 @@ ghost use Rattle.sm_lists.specs.Pages.{IsPageAsk, picked, row_serial, page_rows,
 ghost use Rattle.sm_model.specs.Causes.{error_of, message_of};
 ghost use Rattle.sm_model.specs.declared.request.Request.TheVariants as requests;
 ghost use Rattle.sm_table.specs.Sound.{Sound};
-ghost use Rattle.sm_values.specs.GetSecretValue.{get_judgement};
+ghost use Rattle.sm_reads.specs.GetSecretValue.{get_judgement};
 
 use crate::pages::{filters_given, is_next, listed, page_size, row_at};
 use sm_access::{Admitted, admit_get};
@@ -21,8 +21,8 @@ use sm_model::{
     BatchError, BatchGetSecretValue, Copied, GetSecretValue, GotSecret, List, Moment, NoMemory,
     Person, Reply, RowList, SecretBatch, Text, Why,
 };
+use sm_reads::get_secret_value::judge_get;
 use sm_table::Table;
-use sm_values::get_secret_value::judge_get;
 use std::alloc::Global;
 
 /// Judges a BatchGetSecretValue of a person.

@@ -5,7 +5,7 @@ ghost use Rattle.sm_listing.specs.Pages.{ordered};
 ghost use Rattle.sm_lists.specs.ListSecrets.{is_descending, list_ask, secret_page, list_judgement};
 ghost use Rattle.sm_lists.specs.Pages.{IsPageAsk, picked, row_serial, page_rows, first_listed};
 ghost use Rattle.sm_table.specs.Sound.{Sound};
-ghost use Rattle.sm_values.specs.DescribeSecret.{described};
+ghost use Rattle.sm_reads.specs.DescribeSecret.{described};
 
 use crate::pages::{filters_given, is_next, listed, page_size, row_at};
 use sm_forms::paging::PAGE_LIMIT;
@@ -14,8 +14,8 @@ use sm_listing::{Listed, PageAsk};
 use sm_model::{
     Copied, Described, List, ListSecrets, Moment, NoMemory, Reply, RowList, SecretPage, Text,
 };
+use sm_reads::describe_secret::described;
 use sm_table::Table;
-use sm_values::describe_secret::described;
 use std::alloc::Global;
 
 /// Judges a ListSecrets.

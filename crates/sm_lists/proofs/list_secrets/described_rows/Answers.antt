@@ -2,7 +2,7 @@ use Rattle.std.proofs.Common.{◌≡◌, ◌++◌, ◌∷◌, [], length, Some, 
 use Rattle.std.specs.List.{slice_get}
 use Rattle.std.proofs.lemmas.Bool.{false≢true}
 use Rattle.sm_listing.specs.Pages.{ordered}
-use Rattle.sm_values.specs.DescribeSecret.{described}
+use Rattle.sm_reads.specs.DescribeSecret.{described}
 use Rattle.sm_lists.specs.Pages.{row_serial}
 use Rattle.sm_lists.proofs.PickedLemmas.{picked_hit, picked_miss, picked_end, picked_full, length_ordered}
 use Rattle.sm_lists.proofs.list_secrets.described_rows.Goals.{then-is_next+in_ok-described+in_ok-push, else-is_next}

@@ -1,7 +1,7 @@
 use Rattle.std.proofs.Common.{◌≡◌, ◌++◌, map, length, drop}
 use Rattle.sm_listing.specs.Pages.{ordered}
 use Rattle.sm_lists.specs.Pages.{picked, row_serial}
-use Rattle.sm_values.specs.DescribeSecret.{described}
+use Rattle.sm_reads.specs.DescribeSecret.{described}
 use Rattle.sm_lists.proofs.list_secrets.described_rows.Given as goal
 
 abbrev pub invariant-loop-step : goal.invariant-loop-step

@@ -2,7 +2,7 @@
 ghost use Rattle.std.specs.Prelude.{◌≡◌, ◌++◌, IfOk, OnOk, None};
 ghost use Rattle.sm_forms.specs.OfSecret.{of_secret_forms};
 ghost use Rattle.sm_judging.specs.LabelsShown.{labels_shown};
-ghost use Rattle.sm_values.specs.DescribeSecret.{with_labels, staged, rules_shown, described, describe_found, describe_judgement};
+ghost use Rattle.sm_reads.specs.DescribeSecret.{with_labels, staged, rules_shown, described, describe_found, describe_judgement};
 
 use sm_base::{copy_three, copy_two};
 use sm_judging::Judged;

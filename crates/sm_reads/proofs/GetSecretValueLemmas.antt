@@ -17,7 +17,7 @@ use Rattle.sm_judging.proofs.ChangeLemmas.{on_secret_change}
 use Rattle.sm_model.specs.declared.reply.Reply.{Reply}
 use Rattle.sm_model.specs.declared.why.Why.TheVariants.{NoVersion, Differ}
 use Rattle.std.specs.Prelude.{[], ◌∷◌}
-use Rattle.sm_values.specs.GetSecretValue.{get_call, get_found, get_on, get_judgement, is_nowhere, is_apart, is_empty, get_refusal_on, get_refusal}
+use Rattle.sm_reads.specs.GetSecretValue.{get_call, get_found, get_on, get_judgement, is_nowhere, is_apart, is_empty, get_refusal_on, get_refusal}
 
 -- ---- refusals
 

@@ -11,7 +11,7 @@ use Rattle.sm_model.specs.declared.rows.VersionRow.{VersionRow}
 use Rattle.sm_table.specs.Found.{found}
 use Rattle.sm_judging.specs.Judged.{refusal_told, IfAccepted, IfChange}
 use Rattle.sm_judging.specs.LabelsShown.{labels_shown}
-use Rattle.sm_values.specs.DescribeSecret.{with_labels, staged, describe_found, describe_judgement, unless_found, describe_refusal}
+use Rattle.sm_reads.specs.DescribeSecret.{with_labels, staged, describe_found, describe_judgement, unless_found, describe_refusal}
 
 found_refuses : (row : Option SecretRow) → refusal_told (describe_found row) ≡ Some (unless_found row)
 found_refuses None = refl

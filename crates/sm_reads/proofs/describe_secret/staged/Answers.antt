@@ -1,5 +1,5 @@
-use Rattle.sm_values.proofs.DescribeSecretLemmas.{staged_more}
-use Rattle.sm_values.proofs.describe_secret.staged.Goals as goal
+use Rattle.sm_reads.proofs.DescribeSecretLemmas.{staged_more}
+use Rattle.sm_reads.proofs.describe_secret.staged.Goals as goal
 
 pub loop-version-preserved : goal.loop-version-preserved
 loop-version-preserved c =

@@ -2,7 +2,7 @@
 ghost use Rattle.std.specs.Prelude.{◌≡◌, IfOk, None};
 ghost use Rattle.sm_forms.specs.GetSecretValue.{get_forms};
 ghost use Rattle.sm_judging.specs.Secrets.{unless_scheduled};
-ghost use Rattle.sm_values.specs.GetSecretValue.{get_call, text_of, bytes_of, got_secret, get_version, get_found, get_on, get_judged, get_judgement};
+ghost use Rattle.sm_reads.specs.GetSecretValue.{get_call, text_of, bytes_of, got_secret, get_version, get_found, get_on, get_judged, get_judgement};
 ghost use Rattle.sm_versions.specs.Find.{lookup};
 
 use sm_judging::Judged;

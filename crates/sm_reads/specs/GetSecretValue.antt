@@ -20,7 +20,7 @@ use Rattle.sm_judging.specs.declared.judged.Judged.TheVariants.{Accept, Refuse}
 use Rattle.sm_judging.specs.LabelsShown.{labels_shown}
 use Rattle.sm_judging.specs.Refusals.{refuse_if, first_refusal, refusal_at}
 use Rattle.sm_judging.specs.Secrets.{with_secret}
-use Rattle.sm_values.specs.declared.get_secret_value.GetCall.{GetCall}
+use Rattle.sm_reads.specs.declared.get_secret_value.GetCall.{GetCall}
 
 -- ---- the members
 

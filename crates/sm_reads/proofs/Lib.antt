@@ -1,0 +1,2 @@
+pub mod DescribeSecretLemmas
+pub mod GetSecretValueLemmas

@@ -1,0 +1,2 @@
+pub mod DescribeSecret
+pub mod GetSecretValue
