@@ -19,6 +19,7 @@ use crate::stores::{copy, count};
 use sm_model::limits::{NO_SERIAL, SECRETS_LIMIT};
 use sm_model::{
     Arn, Change, List, Moment, Name, NoMemory, ReadRefused, Rotation, RowList, SecretRow,
+    SharedList,
 };
 use sm_table::Table;
 use std::alloc::Global;
@@ -159,7 +160,7 @@ fn fresh(alloc: Global, serial: u64, name: Name) -> Result<SecretRow, ReadRefuse
         description: None,
         kms: None,
         tags: List::empty(alloc),
-        versions: List::empty(alloc),
+        versions: SharedList::empty(alloc),
         next_version: 0,
         labels: List::empty(alloc),
         deletion: None,

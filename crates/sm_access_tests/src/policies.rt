@@ -1,6 +1,6 @@
 //! A policy that lets one person read and keeps everybody from what is pending; texts that are no policies; patterns.
 use sm_base::{Arn, List, Moment, Name, ReadRefused, Text};
-use sm_model::{Person, Rotation, SecretRow};
+use sm_model::{Person, Rotation, SecretRow, SharedList};
 use sm_policy::question::Question;
 use sm_policy::{Case, Decision, Policy, PolicyRefused, is_match};
 use std::alloc::Global;
@@ -23,7 +23,7 @@ fn row(alloc: Global) -> Result<SecretRow, ReadRefused> {
         description: None,
         kms: None,
         tags: List::empty(alloc),
-        versions: List::empty(alloc),
+        versions: SharedList::empty(alloc),
         next_version: 0,
         labels: List::empty(alloc),
         deletion: None,

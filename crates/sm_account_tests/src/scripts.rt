@@ -281,13 +281,13 @@ fn job_text(alloc: Global, job: &Option<Job>) -> Result<String, Fail> {
 }
 
 /// The attempt at which the version whose token begins so was tested, or 0.
-fn tested(row: &SecretRow, mark: char) -> u32 {
-    for version in row.versions.as_slice() {
+fn tested(alloc: Global, row: &SecretRow, mark: char) -> Result<u32, Fail> {
+    for version in row.versions.items(alloc)? {
         if mark_of(&version.id) == mark {
-            return version.rotated.unwrap_or(0);
+            return Ok(version.rotated.unwrap_or(0));
         }
     }
-    0
+    Ok(0)
 }
 
 /// The secret's job, who holds AWSCURRENT and AWSPENDING, and at which attempt the current version was tested.
@@ -295,7 +295,7 @@ fn shown(alloc: Global, row: &SecretRow) -> Result<String, Fail> {
     let job = job_text(alloc, &row.job)?;
     let current = holder_of(row, "AWSCURRENT");
     let pending = holder_of(row, "AWSPENDING");
-    let attempt = tested(row, current);
+    let attempt = tested(alloc, row, current)?;
     if attempt == 0 {
         return Ok(format!(in alloc; "{job}; current {current}, pending {pending}")?);
     }

@@ -8,4 +8,5 @@ pub mod LabelLemmas
 pub mod PartLemmas
 pub mod RunLemmas
 pub mod SecretIdLemmas
+pub mod SharedLemmas
 pub mod SpelledLemmas

@@ -3,6 +3,7 @@ pub mod Drawn
 pub mod Fails
 pub mod Faults
 pub mod FirstFault
+pub mod Links
 pub mod Outcomes
 pub mod Parts
 pub mod Reading

@@ -1,8 +1,8 @@
 //! What every layer stands on: texts, bytes and lists, want of memory and copies, moments, faults that are told, and
-//! names,
-//! tokens, labels and ARNs in their spelling.
+//! names, tokens, labels and ARNs in their spelling.
 //!
-//! Contracts see `Text` and `Bytes` as the list of their bytes, and `List<T>` as the list of its items.
+//! Contracts see `Text` and `Bytes` as the list of their bytes, and `List<T>` and `SharedList<T>` as the list of their
+//! items.
 #![tactic(auto)]
 
 pub mod bad_kind;
@@ -14,6 +14,7 @@ pub mod memory;
 pub mod moment;
 mod parts;
 pub mod secret_id;
+pub mod shared_list;
 pub mod spelled;
 pub mod spelling;
 pub mod text;
@@ -25,5 +26,6 @@ pub use list::List;
 pub use memory::{Copied, NoMemory, copy_three, copy_two};
 pub use moment::Moment;
 pub use secret_id::SecretId;
+pub use shared_list::{Keyed, SharedList};
 pub use spelling::{Arn, Label, Name, ReadRefused, Token};
 pub use text::Text;

@@ -37,7 +37,7 @@ fn is_version_of(version: Option<&VersionRow>, work: &Work) -> bool
 fn is_job_of(row: &SecretRow, job: &Job, work: &Work) -> bool
     ensures { result ≡ is_job_of row.now (Some job.now) work.now }
 {
-    is_at(job, &work.at) && is_version_of(version_of(row.versions.as_slice(), &job.token), work)
+    is_at(job, &work.at) && is_version_of(version_of(&row.versions, &job.token), work)
 }
 
 /// Whether a verdict on the work still holds of the secret that is found by the work's ARN. It takes no memory.

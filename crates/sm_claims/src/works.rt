@@ -6,7 +6,9 @@ ghost use Rattle.sm_versions.specs.Sound.{RowSound};
 ghost use Rattle.sm_versions.specs.Versions.{value_of};
 ghost use Rattle.sm_claims.specs.Works.{current_value, value_if, IsWorkOfJob};
 
-use sm_model::{Arn, At, Copied, Job, NoMemory, SecretRow, Stage, Token, Value, VersionRow};
+use sm_model::{
+    Arn, At, Copied, Job, NoMemory, SecretRow, SharedList, Stage, Token, Value, VersionRow,
+};
 use sm_rotation::stepping::at_of;
 use sm_rotator::Work;
 use sm_versions::labels::{current, holder};
@@ -39,7 +41,7 @@ fn needs_pending(stage: Stage) -> bool
 
 /// The value of the version with this id.
 #[tactic(auto, using(sm_versions::proofs::VersionLemmas::value_of_is))]
-fn value_of<'a>(versions: &'a [VersionRow], id: &Token) -> Option<&'a Value>
+fn value_of<'a>(versions: &'a SharedList<VersionRow>, id: &Token) -> Option<&'a Value>
     ensures { option_copied result ≡ value_of versions.now id.now }
 {
     match version_of(versions, id) {
@@ -53,7 +55,7 @@ fn current_value(row: &SecretRow) -> Option<&Value>
     ensures { option_copied result ≡ current_value row.now }
 {
     match holder(row.labels.as_slice(), &current()) {
-        Some(id) => value_of(row.versions.as_slice(), id),
+        Some(id) => value_of(&row.versions, id),
         None => None,
     }
 }
@@ -82,7 +84,7 @@ fn values_of(
         × (values.1 ≡ value_if (needs_pending job.now.stage) (value_of row.now.versions job.now.token))) }
 {
     let current = value_if(alloc, needs_current(job.stage), current_value(row))?;
-    let pending = value_of(row.versions.as_slice(), &job.token);
+    let pending = value_of(&row.versions, &job.token);
     let pending = value_if(alloc, needs_pending(job.stage), pending)?;
     Ok((current, pending))
 }
@@ -101,7 +103,7 @@ pub fn work_of(alloc: Global, row: &SecretRow, job: &Job) -> Result<Work, NoMemo
     requires its { row.now.job ≡ Some job.now }
     ensures { IfOk result (IsWorkOfJob row.now job.now) }
 {
-    match version_of(row.versions.as_slice(), &job.token) {
+    match version_of(&row.versions, &job.token) {
         Some(version) => {
             let (arn, at) = step_of(alloc, row, job)?;
             let (current, pending) = values_of(alloc, row, job)?;

@@ -3,8 +3,8 @@ ghost use Rattle.std.specs.Prelude.{◌≡◌, IfOk};
 ghost use Rattle.sm_versions.specs.Sound.{IsArnOf};
 
 use sm_model::{
-    Arn, Bytes, Change, Label, List, Moment, Name, Pair, Rotation, SecretRow, Text, Token, Value,
-    VersionRow,
+    Arn, Bytes, Change, Label, List, Moment, Name, Pair, Rotation, SecretRow, SharedList, Text,
+    Token, Value, VersionRow,
 };
 use sm_table::Table;
 use std::alloc::Global;
@@ -31,10 +31,10 @@ fn value(alloc: Global, number: u64) -> Result<Option<Value>, Fail> {
 }
 
 /// So many versions, of which the second is empty and the third has bytes.
-fn versions(alloc: Global, count: u64) -> Result<List<VersionRow>, Fail> {
-    let mut versions = List::empty(alloc);
+fn versions(alloc: Global, count: u64) -> Result<SharedList<VersionRow>, Fail> {
+    let mut versions = SharedList::empty(alloc);
     for number in 1..=count {
-        versions.push(version(alloc, number, value(alloc, number)?)?)?;
+        versions.push(alloc, version(alloc, number, value(alloc, number)?)?)?;
     }
     Ok(versions)
 }
@@ -78,7 +78,7 @@ fn fresh(alloc: Global, name: Name, six: &[u8; 6]) -> Result<SecretRow, Fail>
         description: None,
         kms: None,
         tags: List::empty(alloc),
-        versions: List::empty(alloc),
+        versions: SharedList::empty(alloc),
         next_version: 0,
         labels: List::empty(alloc),
         deletion: None,

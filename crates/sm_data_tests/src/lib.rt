@@ -10,4 +10,6 @@ mod requests;
 #[cfg(test)]
 mod rows;
 #[cfg(test)]
+mod shared_lists;
+#[cfg(test)]
 mod texts;

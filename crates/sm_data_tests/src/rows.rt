@@ -2,7 +2,7 @@
 use crate::requests::{one, tag};
 use sm_model::{
     Arn, Bytes, Change, Copied, Job, Label, List, Moment, Name, NoMemory, Pair, ReadRefused,
-    Rotation, RowList, Rows, SecretRow, Stage, Tag, Text, Token, Value, VersionRow,
+    Rotation, RowList, Rows, SecretRow, SharedList, Stage, Tag, Text, Token, Value, VersionRow,
 };
 use std::alloc::Global;
 use std::process::Abort;
@@ -60,14 +60,14 @@ fn names(alloc: Global) -> Result<(Name, Arn), ReadRefused> {
 #[derive(Drop)]
 struct RowLists {
     tags: List<Tag>,
-    versions: List<VersionRow>,
+    versions: SharedList<VersionRow>,
     labels: List<Pair>,
 }
 
 fn row_lists(alloc: Global) -> Result<RowLists, ReadRefused> {
     let tags = one(alloc, tag())?;
-    let version = version(alloc)?;
-    let versions = one(alloc, version)?;
+    let mut versions = SharedList::empty(alloc);
+    versions.push(alloc, version(alloc)?)?;
     let pair = pair(alloc)?;
     let labels = one(alloc, pair)?;
     Ok(RowLists {
@@ -105,15 +105,19 @@ fn full_row(alloc: Global) -> Result<SecretRow, ReadRefused> {
     })
 }
 
-/// What a row shows of its names, its versions and its labels.
-fn is_full(row: &SecretRow) -> bool {
-    let value_len = match row.versions.get(0) {
+/// How long the value of the version with this id is.
+fn value_len(row: &SecretRow, id: &Token) -> usize {
+    match row.versions.find(id.as_text().as_bytes()) {
         Some(version) => version.value.as_ref().map_or(0, |value| value.len()),
         None => 0,
-    };
-    let label_len = match row.labels.get(0) {
-        Some(pair) => pair.label.as_text().len(),
-        None => 0,
+    }
+}
+
+/// What a row shows of its names, its versions and its labels.
+fn is_full(row: &SecretRow) -> bool {
+    let (value_len, label_len) = match row.labels.get(0) {
+        Some(pair) => (value_len(row, &pair.id), pair.label.as_text().len()),
+        None => (0, 0),
     };
     row.serial == 4 && row.name.as_text().as_str() == "db/app" && (value_len, label_len) == (2, 10)
 }

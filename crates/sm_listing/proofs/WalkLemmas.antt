@@ -71,6 +71,22 @@ page_full max f p xs i x out at passes same full =
       further = sym (lt-ltb max (length (map f (filter p xs))) more);
     }
 
+there_behind : {A : Type 0} (seen rest : List A) (x : A) → slice_get (seen ++ x ∷ rest) (length seen) ≡ Some x
+there_behind [] rest x = refl
+there_behind (y ∷ seen) rest x = there_behind seen rest x
+
+-- the same of a walk that was handed its items: some are seen, this one is next, and the others are left
+pub page_full_behind : {A : Type 0} (max : ℕ) (f : A → ℕ) (p : A → Bool) (xs seen rest : List A) (x : A)
+    (out : List ℕ) → seen ++ x ∷ rest ≡ xs → p x ≡ true → out ≡ map f (filter p seen) → length out ≡ max →
+    IsPage max (map f (filter p xs)) out true
+page_full_behind max f p xs seen rest x out all passes same full =
+    page_full max f p xs (length seen) x out (ap (λ ys. slice_get ys (length seen)) (sym all) ∙ there_behind seen rest
+    x)
+    passes
+    (same ∙ ap (λ ys. map f (filter p ys))
+    (sym (take_at seen (x ∷ rest) (length seen) refl) ∙ ap (take (length seen)) all))
+    full
+
 -- all items were met
 pub page_ends : {A : Type 0} (max : ℕ) (f : A → ℕ) (p : A → Bool) (xs : List A) (i : ℕ) (out : List ℕ) →
     length xs ≤ i → out ≡ map f (filter p (take i xs)) → length out ≤ max → IsPage max (map f (filter p xs)) out false

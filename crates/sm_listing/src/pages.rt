@@ -140,7 +140,8 @@ fn shown_versions(
         (λ shown. IsPage max (version_serials row.now deprecated start) shown.serials.items shown.follows) }
 {
     let mut serials = Vec::new(alloc);
-    for version in row.versions.as_slice() {
+    let versions = row.versions.items(alloc)?;
+    for version in versions {
         if !version_comes(row.labels.as_slice(), deprecated, start, version) {
             continue;
         }

@@ -116,7 +116,8 @@ fn version_items(
         ≡ map (version_item row.now) (picked version_serial serials.now row.now.versions)) }
 {
     let mut list = List::empty(alloc);
-    for version in row.versions.as_slice() {
+    let versions = row.versions.items(alloc)?;
+    for version in versions {
         if list.len() >= serials.len() {
             return Ok(list);
         }

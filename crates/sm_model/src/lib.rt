@@ -34,8 +34,8 @@ pub use request::{
 pub use row_list::RowList;
 pub use rows::{Job, Pair, Rotation, Rows, SecretRow, Stage, VersionRow};
 pub use sm_base::{
-    Arn, BadKind, Bytes, Copied, Fails, Label, List, Moment, Name, NoMemory, ReadRefused, SecretId,
-    Text, Token,
+    Arn, BadKind, Bytes, Copied, Fails, Keyed, Label, List, Moment, Name, NoMemory, ReadRefused,
+    SecretId, SharedList, Text, Token,
 };
 pub use value::{Tag, Value};
 pub use why::{What, Why};

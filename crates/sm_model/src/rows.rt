@@ -3,7 +3,8 @@ ghost use Rattle.std.specs.Prelude.{◌≡◌, IfOk};
 
 use crate::value::{Tag, Value};
 use sm_base::{
-    Arn, Copied, Label, List, Moment, Name, NoMemory, Text, Token, copy_three, copy_two,
+    Arn, Copied, Keyed, Label, List, Moment, Name, NoMemory, SharedList, Text, Token, copy_three,
+    copy_two,
 };
 use std::alloc::Global;
 
@@ -72,7 +73,7 @@ pub struct SecretRow {
     pub kms: Option<Text>,
     pub tags: List<Tag>,
     /// In order of creation.
-    pub versions: List<VersionRow>,
+    pub versions: SharedList<VersionRow>,
     /// The serial of the next version.
     pub next_version: u64,
     /// Each label is in at most one pair.
@@ -102,6 +103,15 @@ impl Copied for VersionRow {
             rotated: self.rotated,
             by_rotation: self.by_rotation,
         })
+    }
+}
+
+/// A version is found by its id.
+impl Keyed for VersionRow {
+    ghost key = { λ version. version.id };
+
+    fn key(&self) -> &[u8] {
+        self.id.as_text().as_bytes()
     }
 }
 

@@ -5,7 +5,8 @@ ghost use Rattle.std.specs.Prelude.{◌≤◌, IfOk};
 use crate::shown::shown;
 use sm_listing::{PageAsk, page};
 use sm_model::{
-    Arn, Filter, List, Moment, Name, NoMemory, ReadRefused, Rotation, Rows, SecretRow, Tag, Text,
+    Arn, Filter, List, Moment, Name, NoMemory, ReadRefused, Rotation, Rows, SecretRow, SharedList,
+    Tag, Text,
 };
 use std::alloc::Global;
 use std::test::Fail;
@@ -152,7 +153,7 @@ pub fn row(alloc: Global, given: &Row) -> Result<SecretRow, ReadRefused> {
         description: description.map(|text| Text::fixed(text)),
         kms: None,
         tags,
-        versions: List::empty(alloc),
+        versions: SharedList::empty(alloc),
         next_version: 0,
         labels: List::empty(alloc),
         deletion: deletion.map(|date| Moment(date)),

@@ -3,7 +3,8 @@ use crate::secrets::row;
 use crate::shown::shown;
 use sm_listing::version_page;
 use sm_model::{
-    Label, List, Moment, NoMemory, Pair, ReadRefused, SecretRow, Text, Token, VersionRow,
+    Label, List, Moment, NoMemory, Pair, ReadRefused, SecretRow, SharedList, Text, Token,
+    VersionRow,
 };
 use std::alloc::Global;
 use std::test::Fail;
@@ -40,10 +41,10 @@ fn pair(alloc: Global, label: &str, serial: u8) -> Result<Pair, ReadRefused> {
     Ok(Pair { label, id })
 }
 
-fn versions(alloc: Global) -> Result<List<VersionRow>, NoMemory> {
-    let mut versions = List::empty(alloc);
+fn versions(alloc: Global) -> Result<SharedList<VersionRow>, NoMemory> {
+    let mut versions = SharedList::empty(alloc);
     for serial in 0..3 {
-        versions.push(version(alloc, serial)?)?;
+        versions.push(alloc, version(alloc, serial)?)?;
     }
     Ok(versions)
 }

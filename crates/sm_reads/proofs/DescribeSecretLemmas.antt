@@ -1,6 +1,6 @@
 -- Judging DescribeSecret: when it is refused, and that it changes nothing.
-use Rattle.std.proofs.Common.{◌≡◌, ℕ, ◌+◌, ◌<◌, true, List, [], ◌∷◌, ◌++◌, length, take, get_or, Option, Some, None, is_none, refl, sym, ap, ◌∙◌, append_assoc, arith}
-use Rattle.std.proofs.lemmas.List.{take_more, append-nil}
+use Rattle.std.proofs.Common.{◌≡◌, ◌+◌, true, List, [], ◌∷◌, ◌++◌, Option, Some, None, is_none, refl, sym, ap, ◌∙◌, append_assoc, arith}
+use Rattle.std.proofs.lemmas.List.{append-nil}
 use Rattle.sm_base.specs.declared.moment.Moment.{Moment}
 use Rattle.sm_base.specs.SecretId.{secret_id}
 use Rattle.sm_model.specs.declared.entry.Change.{Change}
@@ -46,13 +46,9 @@ staged-append row (v ∷ vs) ws =
     ∙ sym (append_assoc (with_labels v.id (labels_shown row v.id)) (staged row vs) (staged row ws))
 
 -- one version more is shown behind the others
-pub staged_more : (row : SecretRow) (versions : List VersionRow) (i : ℕ) (version : VersionRow) → i < length versions
-    → version ≡ get_or versions i version
-    → staged row (take (i + 1) versions)
-    ≡ staged row (take i versions) ++ with_labels version.id (labels_shown row version.id)
-staged_more row versions i version under is =
-    let more : take (i + 1) versions ≡ take i versions ++ version ∷ [] = grind
-    (arith, take_more versions i version under, is) in
-    rw more (rw (staged-append row (take i versions) (version ∷ []))
-    (ap (λ rest. staged row (take i versions) ++ rest)
-    (append-nil (with_labels version.id (labels_shown row version.id)))))
+pub staged_more : (row : SecretRow) (versions : List VersionRow) (version : VersionRow)
+    → staged row (versions ++ version ∷ [])
+    ≡ staged row versions ++ with_labels version.id (labels_shown row version.id)
+staged_more row versions version =
+    rw (staged-append row versions (version ∷ []))
+    (ap (λ rest. staged row versions ++ rest) (append-nil (with_labels version.id (labels_shown row version.id))))

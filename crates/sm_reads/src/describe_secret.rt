@@ -87,7 +87,8 @@ fn staged(alloc: Global, row: &SecretRow) -> Result<List<Staged>, NoMemory>
     ensures { IfOk result (λ list. list ≡ staged row.now row.now.versions) }
 {
     let mut list = List::empty(alloc);
-    for version in row.versions.as_slice() {
+    let versions = row.versions.items(alloc)?;
+    for version in versions {
         push_staged(alloc, &mut list, row, &version.id)?;
     }
     Ok(list)

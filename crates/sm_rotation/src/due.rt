@@ -50,7 +50,7 @@ pub fn is_due_for_some(row: &SecretRow, moment: Moment) -> bool
 fn has_each(row: &SecretRow, token: &Token, moment: Moment) -> bool
     ensures { result ≡ is_due_for row.now moment token.now }
 {
-    is_due_for_some(row, moment) && !has_version(row.versions.as_slice(), token)
+    is_due_for_some(row, moment) && !has_version(&row.versions, token)
 }
 
 /// Whether a rotation of the secret is due at the moment, and may begin with the token. It takes no memory.

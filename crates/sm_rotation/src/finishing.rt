@@ -6,11 +6,12 @@ ghost use Rattle.sm_versions.specs.Texts.{same_text};
 ghost use Rattle.sm_rotation.specs.Step.{marked, finished_labels, finished};
 
 use sm_dates::next_rotation;
-use sm_model::{Copied, Job, List, Moment, NoMemory, Pair, SecretRow, Token, VersionRow};
+use sm_model::{
+    Copied, Job, List, Moment, NoMemory, Pair, SecretRow, SharedList, Token, VersionRow,
+};
 use sm_versions::labels::{current, is_same_id, pending};
 use sm_versions::placing::{place, remove};
 use std::alloc::Global;
-use std::mem;
 
 /// The place of the version with this id.
 fn position_of(versions: &[VersionRow], id: &Token) -> Option<usize>
@@ -30,6 +31,20 @@ fn mark(versions: &mut Vec<VersionRow>, id: &Token, tested: Option<u32>)
     }
 }
 
+/// The versions, of which the one with this id remembers the attempt at which it was tested.
+fn marked(
+    alloc: Global,
+    versions: &SharedList<VersionRow>,
+    id: &Token,
+    tested: Option<u32>,
+) -> Result<SharedList<VersionRow>, NoMemory>
+    ensures { IfOk result (λ all. all ≡ marked versions.now id.now tested) }
+{
+    let mut all = versions.to_vec(alloc)?;
+    mark(&mut all, id, tested);
+    SharedList::from_vec(alloc, all)
+}
+
 /// The pairs with AWSCURRENT placed on the version, and without AWSPENDING.
 fn finished_labels(alloc: Global, pairs: &List<Pair>, id: &Token) -> Result<List<Pair>, NoMemory>
     ensures { IfOk result (λ labels. labels ≡ finished_labels pairs.now id.now) }
@@ -47,9 +62,7 @@ pub fn finish(alloc: Global, row: &mut SecretRow, job: &Job, moment: Moment) -> 
     ensures err { OnErr result (row.new ≡ row.old) }
 {
     let labels = finished_labels(alloc, &row.labels, &job.token)?;
-    let mut versions = mem::replace(&mut row.versions, List::empty(alloc)).into_vec();
-    mark(&mut versions, &job.token, job.tested);
-    row.versions = List::new(versions);
+    row.versions = marked(alloc, &row.versions, &job.token, job.tested)?;
     row.labels = labels;
     row.rotation.next = next_rotation(&row.rotation, moment);
     row.rotation.last = Some(moment);

@@ -40,7 +40,7 @@ pub enum Began {
 fn is_of_rotation(row: &SecretRow, token: &Token) -> bool
     ensures { result ≡ is_of_rotation (version_of row.now.versions token.now) }
 {
-    match version_of(row.versions.as_slice(), token) {
+    match version_of(&row.versions, token) {
         Some(version) => version.by_rotation,
         None => false,
     }
@@ -68,7 +68,7 @@ fn begin_if_room(row: &SecretRow) -> Began
 fn begin_new(alloc: Global, row: &SecretRow, token: &Token) -> Result<Began, NoMemory>
     ensures { IfOk result (λ began. began ≡ begin_new row.now token.now) }
 {
-    if has_version(row.versions.as_slice(), token) {
+    if has_version(&row.versions, token) {
         return Ok(Began::Exists(token.copy(alloc)?));
     }
     Ok(begin_if_room(row))
@@ -165,7 +165,7 @@ fn start(alloc: Global, row: &mut SecretRow, token: &Token, moment: Moment) -> R
     let placed = pending_placed(alloc, &row.labels, token)?;
     let version = pending_version(alloc, row, token, moment)?;
     let job = first_job(alloc, token, moment)?;
-    row.versions.push(version)?;
+    row.versions.push(alloc, version)?;
     row.next_version += 1;
     row.labels = placed;
     row.job = Some(job);

@@ -10,12 +10,11 @@ ghost use Rattle.sm_rotation.specs.Vouched.{Replies, RowVouched, AcceptsOnly};
 
 use crate::finishing::finish;
 use sm_model::limits::{ATTEMPTS_LIMIT, VALUE_LIMIT};
-use sm_model::{Answer, At, Copied, Job, List, Moment, NoMemory, SecretRow, Stage, Token, Value};
+use sm_model::{Answer, At, Copied, Job, Moment, NoMemory, SecretRow, Stage, Token, Value};
 use sm_versions::labels::is_same_id;
 use sm_versions::settle;
-use sm_versions::versions::fill;
+use sm_versions::versions::filled;
 use std::alloc::Global;
-use std::mem;
 
 /// What became of an answer.
 #[derive(Drop)]
@@ -145,19 +144,25 @@ fn after_test(job: Job, moment: Moment, answer: &Answer) -> Option<Job>
 }
 
 /// Gives the row's version the value that createSecret made.
-fn after_create(alloc: Global, row: &mut SecretRow, job: Job, moment: Moment, value: Option<Value>)
+fn after_create(
+    alloc: Global,
+    row: &mut SecretRow,
+    job: Job,
+    moment: Moment,
+    value: Option<Value>,
+) -> Result<(), NoMemory>
     requires { moment.0 ≤ LAST_READING }
-    ensures { row.new ≡ after_create row.old job moment value }
+    ensures done { OnOk result (row.new ≡ after_create row.old job moment value) }
+    ensures err { OnErr result (row.new ≡ row.old) }
 {
     match value {
         Some(value) => {
-            let mut versions = mem::replace(&mut row.versions, List::empty(alloc)).into_vec();
-            fill(&mut versions, &job.token, value);
-            row.versions = List::new(versions);
+            row.versions = filled(alloc, &row.versions, &job.token, value)?;
             row.job = Some(onward(job, Stage::Set, moment));
         }
         None => row.job = retried(job, moment),
     }
+    Ok(())
 }
 
 /// Ends the rotation after a yes.
@@ -195,7 +200,7 @@ fn step(
     match job.stage {
         Stage::Create => {
             let value = made_value(alloc, answer)?;
-            after_create(alloc, row, job, moment, value);
+            after_create(alloc, row, job, moment, value)?;
         }
         Stage::Set => row.job = after_set(job, moment, answer),
         Stage::Test => row.job = after_test(job, moment, answer),

@@ -4,6 +4,7 @@ ghost use Rattle.sm_versions.specs.Sound.{IsArnOf};
 
 use sm_model::{
     Arn, Change, Copied, List, Moment, Name, ReadRefused, Rotation, RowList, SecretId, SecretRow,
+    SharedList,
 };
 use sm_table::Table;
 use sm_table::edits::is_gone;
@@ -47,7 +48,7 @@ fn fresh(alloc: Global, serial: u64, name: Name, letter: u8) -> Result<SecretRow
         description: None,
         kms: None,
         tags: List::empty(alloc),
-        versions: List::empty(alloc),
+        versions: SharedList::empty(alloc),
         next_version: 0,
         labels: List::empty(alloc),
         deletion: None,

@@ -1,6 +1,7 @@
 //! Calls on one row, with what each answers and the labels that it leaves.
 use sm_model::{
-    Arn, Job, Label, List, Moment, Name, Rotation, SecretRow, Stage, Text, Token, Value, VersionRow,
+    Arn, Job, Label, List, Moment, Name, Rotation, SecretRow, SharedList, Stage, Text, Token,
+    Value, VersionRow,
 };
 use sm_versions::{Found, Moved, PutDone, find, move_label, put, settle};
 use std::alloc::Global;
@@ -63,7 +64,7 @@ fn fresh(alloc: Global) -> Result<SecretRow, Fail> {
         description: None,
         kms: None,
         tags: List::empty(alloc),
-        versions: List::empty(alloc),
+        versions: SharedList::empty(alloc),
         next_version: 0,
         labels: List::empty(alloc),
         deletion: None,
@@ -193,14 +194,17 @@ fn run_fill(alloc: Global, row: &mut SecretRow, count: u32) -> Result<String, Fa
 }
 
 fn run_begin(alloc: Global, row: &mut SecretRow, id: u32) -> Result<String, Fail> {
-    row.versions.push(VersionRow {
-        id: token(alloc, id)?,
-        serial: row.next_version,
-        made: Moment(0),
-        value: None,
-        rotated: None,
-        by_rotation: true,
-    })?;
+    row.versions.push(
+        alloc,
+        VersionRow {
+            id: token(alloc, id)?,
+            serial: row.next_version,
+            made: Moment(0),
+            value: None,
+            rotated: None,
+            by_rotation: true,
+        },
+    )?;
     row.next_version = row.next_version.saturating_add(1);
     row.job = Some(Job {
         token: token(alloc, id)?,

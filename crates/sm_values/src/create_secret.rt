@@ -10,7 +10,7 @@ use sm_judging::Judged;
 use sm_model::limits::{NO_SERIAL, SECRETS_LIMIT, TAGS_LIMIT};
 use sm_model::{
     Arn, Change, Copied, CreateSecret, List, Moment, Name, NoMemory, Pair, Reply, Rotation,
-    SecretRow, Tag, Text, VersionRow, What, Why,
+    SecretRow, SharedList, Tag, Text, VersionRow, What, Why,
 };
 use sm_table::Table;
 use sm_versions::labels::current;
@@ -261,7 +261,7 @@ fn empty_row(
         description: details.description,
         kms: details.kms,
         tags: details.tags,
-        versions: List::empty(alloc),
+        versions: SharedList::empty(alloc),
         next_version: 0,
         labels: List::empty(alloc),
         deletion: None,
@@ -325,7 +325,8 @@ fn with_first(
     };
     let mut row = row;
     row.labels = only(alloc, pair)?;
-    row.versions = only(alloc, first_version(moment, first))?;
+    row.versions = SharedList::empty(alloc);
+    row.versions.push(alloc, first_version(moment, first))?;
     row.next_version = 1;
     Ok(row)
 }

@@ -1,6 +1,7 @@
 -- Versions of one secret.
-use Rattle.std.proofs.Common.{◌≡◌, ◌↔◌, ℕ, zero, suc, ◌+◌, ◌<◌, ◌≤◌, Bool, true, false, not, cond, List, [], ◌∷◌, length, get_or, set, Option, Some, None, is_some, IsTrue, Decides, refl, sym, ap, ◌∙◌, arith}
+use Rattle.std.proofs.Common.{◌≡◌, ◌↔◌, ℕ, zero, suc, ◌+◌, ◌<◌, ◌≤◌, Bool, true, false, not, cond, List, [], ◌∷◌, length, get_or, set, nat_eq, Option, Some, None, is_some, IsTrue, Decides, refl, sym, ap, ◌∙◌, arith}
 use Rattle.std.specs.List.{find, position, position_or_len}
+use Rattle.std.specs.Cmp.Lexicographic.{pointwise}
 use Rattle.std.specs.Option.{option_and_then}
 use Rattle.std.proofs.lemmas.Bool.{false≢true}
 use Rattle.std.proofs.lemmas.Bool.Decides.{same_from_decides, nat_tests}
@@ -30,7 +31,8 @@ same_value_from_equals a b r h = same_from_decides r (same_value a b) h (same_va
 
 -- the version with an id is the first that has it
 pub version_of_is_find : (versions : List VersionRow) (id : List ℕ)
-    → version_of versions id ≡ find (λ v. same_text v.id id) versions
+    → version_of versions id ≡ find (λ v. pointwise nat_eq v.id id) versions
+unfolding same_text
 version_of_is_find [] id = refl
 version_of_is_find (v ∷ vs) id = grind (arith, version_of_is_find vs id)
 

@@ -21,7 +21,7 @@ fn version_labelled<'a>(row: &'a SecretRow, label: &Label) -> Option<&'a Version
     ensures { option_copied result ≡ version_labelled row.now label.now }
 {
     match holder(row.labels.as_slice(), label) {
-        Some(id) => version_of(row.versions.as_slice(), id),
+        Some(id) => version_of(&row.versions, id),
         None => None,
     }
 }
@@ -68,7 +68,7 @@ pub fn find<'a>(row: &'a SecretRow, id: Option<&Token>, label: Option<&Label>) -
 {
     match id {
         Some(id) => {
-            let version = version_of(row.versions.as_slice(), id);
+            let version = version_of(&row.versions, id);
             match label {
                 Some(label) => lookup_of_both(version, version_labelled(row, label)),
                 None => lookup_of(version),

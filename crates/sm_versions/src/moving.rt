@@ -11,7 +11,7 @@ use crate::placing::{place, remove};
 use crate::values::has_too_many;
 use crate::versions::{has_value, has_version};
 use sm_model::limits::LABELS_LIMIT;
-use sm_model::{Copied, Label, List, NoMemory, Pair, SecretRow, Token, VersionRow};
+use sm_model::{Copied, Label, List, NoMemory, Pair, SecretRow, SharedList, Token, VersionRow};
 use std::alloc::Global;
 
 /// What a move of a label did.
@@ -32,7 +32,7 @@ pub enum Moved {
 }
 
 /// The id, where it is given and names no version.
-fn missing_id<'a>(versions: &[VersionRow], id: Option<&'a Token>) -> Option<&'a Token>
+fn missing_id<'a>(versions: &SharedList<VersionRow>, id: Option<&'a Token>) -> Option<&'a Token>
     ensures { option_copied result ≡ missing versions.now (option_copied id.entry) }
 {
     match id {
@@ -100,7 +100,7 @@ fn move_onto(
     ensures answer { IfOk result (λ moved. moved ≡ move_onto row.old label.now to.now) }
     ensures row { row.new ≡ (if is_done result then move_row row.old label.now (Some to.now) else row.old) }
 {
-    if is_current(label) && !has_value(row.versions.as_slice(), to) {
+    if is_current(label) && !has_value(&row.versions, to) {
         return Ok(Moved::Empty(to.copy(alloc)?));
     }
     let pairs = moved_pairs(alloc, &row.labels, label, Some(to))?;
@@ -173,10 +173,10 @@ fn try_move(
         (λ moved. moved ≡ move_answer row.old label.now (option_copied to.entry) (option_copied from.entry)) }
     ensures row { row.new ≡ (if is_done result then move_row row.old label.now (option_copied to.entry) else row.old) }
 {
-    if let Some(id) = missing_id(row.versions.as_slice(), from) {
+    if let Some(id) = missing_id(&row.versions, from) {
         return Ok(Moved::NotThere(id.copy(alloc)?));
     }
-    if let Some(id) = missing_id(row.versions.as_slice(), to) {
+    if let Some(id) = missing_id(&row.versions, to) {
         return Ok(Moved::NotThere(id.copy(alloc)?));
     }
     move_between(alloc, row, label, to, from)

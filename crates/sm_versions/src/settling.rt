@@ -15,7 +15,7 @@ pub fn is_live(row: &SecretRow, job: &Job) -> bool
 {
     let pairs = row.labels.as_slice();
     row.deletion.is_none()
-        && has_version(row.versions.as_slice(), &job.token)
+        && has_version(&row.versions, &job.token)
         && is_held_by(pairs, &pending(), &job.token)
         && !is_held_by(pairs, &current(), &job.token)
 }
@@ -24,7 +24,7 @@ pub fn is_live(row: &SecretRow, job: &Job) -> bool
 fn has_its_value(row: &SecretRow, job: &Job) -> bool
     ensures { result ≡ (is_create job.now.stage && has_value row.now.versions job.now.token) }
 {
-    job.stage == Stage::Create && has_value(row.versions.as_slice(), &job.token)
+    job.stage == Stage::Create && has_value(&row.versions, &job.token)
 }
 
 /// The job, moved from createSecret to setSecret where its version has a value.

@@ -7,11 +7,10 @@ ghost use Rattle.sm_versions.specs.Kept.{KeptUnsettled, will_have_current};
 
 use crate::labels::{labels_on, own_count};
 use crate::placing::place_all;
-use crate::versions::{fill, is_same_value, version_of};
+use crate::versions::{filled, is_same_value, version_of};
 use sm_model::limits::{LABELS_LIMIT, NO_SERIAL, VERSIONS_LIMIT};
 use sm_model::{Copied, Label, List, Moment, NoMemory, Pair, SecretRow, Token, Value, VersionRow};
 use std::alloc::Global;
-use std::mem;
 
 /// What a put did.
 #[derive(Drop)]
@@ -73,9 +72,7 @@ fn fill_version(
         return Ok(PutDone::TooManyLabels(LABELS_LIMIT));
     }
     let value = value.copy(alloc)?;
-    let mut versions = mem::replace(&mut row.versions, List::empty(alloc)).into_vec();
-    fill(&mut versions, token, value);
-    row.versions = List::new(versions);
+    row.versions = filled(alloc, &row.versions, token, value)?;
     row.labels = placed;
     Ok(PutDone::Added)
 }
@@ -121,7 +118,7 @@ fn add_version(
         return Ok(PutDone::TooManyLabels(LABELS_LIMIT));
     }
     let version = new_version(alloc, row, token, value, moment)?;
-    row.versions.push(version)?;
+    row.versions.push(alloc, version)?;
     row.next_version += 1;
     row.labels = placed;
     Ok(PutDone::Added)
@@ -152,7 +149,7 @@ fn try_put(
     ensures row { row.new ≡
         (if is_done result then put_row row.old token.now value.now labels.now moment else row.old) }
 {
-    match version_of(row.versions.as_slice(), token) {
+    match version_of(&row.versions, token) {
         Some(version) => match &version.value {
             Some(kept) => {
                 let is_same = is_same_value(kept, value);

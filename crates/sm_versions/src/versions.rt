@@ -1,11 +1,12 @@
 //! The versions of a secret.
-ghost use Rattle.std.specs.Prelude.{◌≡◌, option_copied};
-ghost use Rattle.std.specs.List.{find, position};
+ghost use Rattle.std.specs.Prelude.{◌≡◌, IfOk, option_copied};
+ghost use Rattle.std.specs.List.{position};
 ghost use Rattle.sm_versions.specs.Texts.{same_text};
 ghost use Rattle.sm_versions.specs.Versions.{same_value, version_of, has_version, has_value, is_value, same, filled};
 
 use crate::labels::is_same_id;
-use sm_model::{SecretRow, Token, Value, VersionRow};
+use sm_model::{NoMemory, SecretRow, SharedList, Token, Value, VersionRow};
+use std::alloc::Global;
 
 /// Whether both are the same text, or the same bytes.
 pub fn is_same_value(value: &Value, other: &Value) -> bool
@@ -14,24 +15,17 @@ pub fn is_same_value(value: &Value, other: &Value) -> bool
     value.equals(other)
 }
 
-/// The first version with this id.
-fn first_with<'a>(versions: &'a [VersionRow], id: &Token) -> Option<&'a VersionRow>
-    ensures { option_copied result ≡ find (λ v. same_text v.id id.now) versions.now }
-{
-    versions.iter().find(|version| is_same_id(&version.id, id))
-}
-
 /// The version with this id.
 #[tactic(auto, using(crate::proofs::VersionLemmas::version_of_is_find))]
-pub fn version_of<'a>(versions: &'a [VersionRow], id: &Token) -> Option<&'a VersionRow>
+pub fn version_of<'a>(versions: &'a SharedList<VersionRow>, id: &Token) -> Option<&'a VersionRow>
     ensures { option_copied result ≡ version_of versions.now id.now }
 {
-    first_with(versions, id)
+    versions.find(id.as_text().as_bytes())
 }
 
 /// Whether a version has this id.
 #[tactic(auto, using(crate::proofs::VersionLemmas::has_version_is_some))]
-pub fn has_version(versions: &[VersionRow], id: &Token) -> bool
+pub fn has_version(versions: &SharedList<VersionRow>, id: &Token) -> bool
     ensures { result ≡ has_version versions.now id.now }
 {
     version_of(versions, id).is_some()
@@ -39,7 +33,7 @@ pub fn has_version(versions: &[VersionRow], id: &Token) -> bool
 
 /// Whether the version with this id has a value.
 #[tactic(auto, using(crate::proofs::VersionLemmas::value_of_is))]
-pub fn has_value(versions: &[VersionRow], id: &Token) -> bool
+pub fn has_value(versions: &SharedList<VersionRow>, id: &Token) -> bool
     ensures { result ≡ has_value versions.now id.now }
 {
     match version_of(versions, id) {
@@ -53,7 +47,7 @@ pub fn has_value(versions: &[VersionRow], id: &Token) -> bool
 pub fn same(row: &SecretRow, token: &Token, value: &Value) -> bool
     ensures { result ≡ same row.now token.now value.now }
 {
-    match version_of(row.versions.as_slice(), token) {
+    match version_of(&row.versions, token) {
         Some(version) => is_value(&version.value, value),
         None => false,
     }
@@ -79,10 +73,24 @@ fn position_of(versions: &[VersionRow], id: &Token) -> Option<usize>
 }
 
 /// Gives a value to the version with this id.
-pub fn fill(versions: &mut Vec<VersionRow>, id: &Token, value: Value)
+fn fill(versions: &mut Vec<VersionRow>, id: &Token, value: Value)
     ensures { versions.new.items ≡ filled versions.old.items id.now value }
 {
     if let Some(i) = position_of(versions.as_slice(), id) {
         versions[i].value = Some(value);
     }
+}
+
+/// The versions, with a value in the one with this id.
+pub fn filled(
+    alloc: Global,
+    versions: &SharedList<VersionRow>,
+    id: &Token,
+    value: Value,
+) -> Result<SharedList<VersionRow>, NoMemory>
+    ensures { IfOk result (λ all. all ≡ filled versions.now id.now value) }
+{
+    let mut all = versions.to_vec(alloc)?;
+    fill(&mut all, id, value);
+    SharedList::from_vec(alloc, all)
 }

@@ -5,4 +5,5 @@ pub mod TurnerLemmas
 pub mod WorkerLemmas
 pub mod GivenLemmas
 pub mod SendLemmas
+pub mod TableSendLemmas
 pub mod RunLemmas

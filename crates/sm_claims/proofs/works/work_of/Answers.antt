@@ -8,6 +8,5 @@ pub unreachable-requires : goal.unreachable-requires
 unreachable-requires c =
     let row = c.args.row.now in
     let job = c.args.job.now in
-    let none : version_of row.versions job.token ≡ None = sym (ap (λ vs. version_of vs job.token) c.as_slice.ensures)
-    ∙ sym c.version_of.ensures ∙ ap option_copied c.in-None.is in
+    let none : version_of row.versions job.token ≡ None = sym c.version_of.ensures ∙ ap option_copied c.in-None.is in
     version_there row job c.requires.sound c.requires.its none

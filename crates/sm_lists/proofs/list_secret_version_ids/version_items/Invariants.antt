@@ -8,4 +8,5 @@ invariant-loop-version l =
     map (version_item l.row) (picked version_serial l.serials l.row.versions)
     ≡ l.list
     ++ map (version_item l.row)
-    (picked version_serial (drop (length l.list) l.serials) (drop l.version-index l.row.versions))
+    (picked version_serial (drop (length l.list) l.serials)
+    (map (λ version. version.now) l.version-iterator.rest.items))
