@@ -19,13 +19,23 @@ use std::marker::PhantomData;
 
 /// All secrets of an account, its entries on a disk, and the history since it was opened. Between any two calls its
 /// books keep what `Kept` says, and each answer that was entered is one that its rotator may give.
-#[derive(Drop)]
 pub struct Account<D: Disk, R: Rotator> {
     books: Books<D>,
     doors: u32,
     rotator: PhantomData<R>,
     ghost kept: { Kept D.Disk books } by { Kept-prop books },
     ghost allowed: { ∥ EntriesAllowed R.replies books ∥₁ },
+}
+
+/// Who lets an account go makes one call.
+impl<D: Disk + Drop, R: Rotator> Drop for Account<D, R> {
+    fn drop(self) {
+        let Account {
+            books: _,
+            doors: _,
+            rotator: _,
+        } = self;
+    }
 }
 
 impl<D: Disk, R: Rotator> Account<D, R> {
@@ -241,7 +251,11 @@ impl<D: Disk, R: Rotator> Account<D, R> {
     pub fn close(self) -> D
         ensures { result ≡ disk self }
     {
-        let Account { books, .. } = self;
+        let Account {
+            books,
+            doors: _,
+            rotator: _,
+        } = self;
         let Books { store, .. } = books;
         store.close()
     }

@@ -46,7 +46,7 @@ pub fn consider(
     ensures changes { IfChange result (λ _. is_reading request.now ≡ false) }
 {
     match forms(alloc, request) {
-        Some(Why::Memory) => Judged::Memory,
+        Some(Why::Memory { .. }) => Judged::Memory,
         Some(why) => Judged::Refuse(why),
         None => judge_admitted(alloc, table, person, moment, drawn, request),
     }

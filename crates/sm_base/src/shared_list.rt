@@ -36,7 +36,7 @@ struct Link<T> {
     before: Upto<T>,
 }
 
-/// No longer list runs out of stack.
+/// So that a long list does not run out of stack.
 impl<T: Drop> Drop for Upto<T> {
     fn drop(mut self) {
         loop {

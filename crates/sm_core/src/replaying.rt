@@ -86,7 +86,7 @@ fn replay_request(
         return Replayed::Refuse;
     }
     match forms(alloc, request) {
-        Some(Why::Memory) => Replayed::Memory,
+        Some(Why::Memory { .. }) => Replayed::Memory,
         Some(_) => Replayed::Refuse,
         None => replay_formed(alloc, table, moment, drawn, request),
     }

@@ -29,13 +29,25 @@ pub struct Kept {
 ///
 /// Once a sync of a file failed each later call on it fails, until the folder is opened anew: a system may drop what it
 /// could not write, and answer the next sync as if nothing had been.
-#[derive(Drop)]
 pub struct FileDisk {
     journal_0: Kept,
     journal_1: Kept,
     root: Kept,
     lock: File,
     faults: u64,
+}
+
+/// Who lets a disk go makes one call.
+impl Drop for FileDisk {
+    fn drop(self) {
+        let FileDisk {
+            journal_0: _,
+            journal_1: _,
+            root: _,
+            lock: _,
+            faults: _,
+        } = self;
+    }
 }
 
 /// Why a folder is not opened.

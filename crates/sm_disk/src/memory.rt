@@ -13,7 +13,6 @@ const ROOM: usize = 16;
 
 /// A disk that keeps what its files held when it was made, and every call that may change a file or what a crash
 /// leaves of it. What a read gives is replayed from these, so it answers for every moment.
-#[derive(Drop)]
 pub struct MemoryDisk {
     alloc: Global,
     journal_0: Bytes,
@@ -23,6 +22,22 @@ pub struct MemoryDisk {
     fails: Fails,
     made: u64,
     faults: u64,
+}
+
+/// Who lets a disk go makes one call.
+impl Drop for MemoryDisk {
+    fn drop(self) {
+        let MemoryDisk {
+            alloc: _,
+            journal_0: _,
+            journal_1: _,
+            root: _,
+            calls: _,
+            fails: _,
+            made: _,
+            faults: _,
+        } = self;
+    }
 }
 
 /// Fills the buffer with the bytes from a place on.

@@ -26,7 +26,7 @@ use Rattle.sm_lists.specs.BatchGetSecretValue.{IsAnswer, value_in, error_in, val
 
 valued_answer : (valued : Bool) (got : GotSecret)
     → IsAnswer (cond valued (Accept (replies.GetSecretValue got) None) (Refuse NoVersion))
-valued_answer true got = tt
+valued_answer true got = refl
 valued_answer false got = tt
 
 found_answer : (row : SecretRow) (version : Lookup) → IsAnswer (get_found row version)

@@ -1,6 +1,6 @@
 -- BatchGetSecretValue: its reply. It refuses nothing that its forms pass, and changes nothing.
 -- AWS Secrets Manager API Reference, BatchGetSecretValue.
-use Rattle.std.specs.Prelude.{ℕ, false, List, [], ◌∷◌, ◌++◌, map, Option, Some, None, ⊤}
+use Rattle.std.specs.Prelude.{ℕ, false, List, [], ◌∷◌, ◌++◌, map, Option, Some, None, ⊤, is_some, IsTrue, option_to_list}
 use Rattle.sm_base.specs.declared.moment.Moment.{Moment}
 use Rattle.sm_model.specs.declared.person.Person.{Person}
 use Rattle.sm_model.specs.declared.reply.BatchError.{BatchError}
@@ -16,6 +16,7 @@ use Rattle.sm_model.specs.declared.rows.SecretRow.{SecretRow}
 use Rattle.sm_model.specs.declared.why.Why.{Why}
 use Rattle.sm_model.specs.declared.why.Why.TheVariants.{Denied}
 use Rattle.sm_model.specs.Causes.{error_of, message_of}
+use Rattle.sm_model.specs.Replies.{shown_value}
 use Rattle.sm_access.specs.Admission.{admission}
 use Rattle.sm_listing.specs.declared.asks.PageAsk.{PageAsk}
 use Rattle.sm_forms.specs.declared.paging.TheConstants.{BATCH_LIMIT}
@@ -60,8 +61,7 @@ answered_to person rows moment id = answered (value_question rows person moment)
 
 -- a GetSecretValue is answered by a value or refused, and in no other way
 abbrev pub IsValue : Reply → Type 0
-IsValue (replies.GetSecretValue got) = ⊤
-IsValue _ = ⊥
+IsValue reply = IsTrue (is_some (shown_value reply))
 
 abbrev pub IsAnswer : Judged → Type 0
 IsAnswer (Accept reply change) = IsValue reply
@@ -70,8 +70,7 @@ IsAnswer Memory = ⊥
 
 -- a value that is answered stands among the values
 abbrev pub value_shown : Reply → List GotSecret
-value_shown (replies.GetSecretValue got) = got ∷ []
-value_shown _ = []
+value_shown reply = option_to_list (shown_value reply)
 
 abbrev pub value_in : Judged → List GotSecret
 value_in (Accept reply change) = value_shown reply

@@ -172,12 +172,12 @@ fn add_value(values: &mut List<GotSecret>, reply: Reply) -> Result<(), NoMemory>
     requires { IsValue reply }
     ensures { OnOk result (values.new ≡ values.old ++ value_shown reply) }
 {
-    match reply {
-        Reply::GetSecretValue(got) => {
+    match reply.into_value() {
+        Some(got) => {
             values.push(got)?;
             Ok(())
         }
-        _ => unreachable!(),
+        None => unreachable!(),
     }
 }
 

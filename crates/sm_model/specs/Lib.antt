@@ -2,3 +2,4 @@ pub mod Causes
 pub mod Needed
 pub mod Value
 pub mod Bounds
+pub mod Replies

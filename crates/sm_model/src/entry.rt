@@ -27,7 +27,6 @@ pub enum Answer {
 }
 
 /// What an entry did.
-#[derive(Drop)]
 pub enum Act {
     /// A request was accepted.
     Asked(Request),
@@ -37,8 +36,16 @@ pub enum Act {
     Reported(Arn, At, Answer),
 }
 
+/// Who lets an act go makes one call.
+impl Drop for Act {
+    fn drop(self) {
+        match self {
+            Act::Asked(_) | Act::Begun(_) | Act::Reported(_, _, _) => {}
+        }
+    }
+}
+
 /// One accepted change.
-#[derive(Drop)]
 pub struct Entry {
     pub moment: Moment,
     /// The key of the person who asked.
@@ -48,14 +55,34 @@ pub struct Entry {
     pub act: Act,
 }
 
+/// Who lets an entry go makes one call.
+impl Drop for Entry {
+    fn drop(self) {
+        let Entry {
+            moment: _,
+            caller: _,
+            drawn: _,
+            act: _,
+        } = self;
+    }
+}
+
 /// What stands in an account's history. Only entries change the rows.
-#[derive(Drop)]
 pub enum Mark {
     Entry(Entry),
     /// At this moment somebody took up a step of the rotation of the secret with this ARN.
     Claim(Arn, At, Moment),
     /// The disk failed where an entry was to be written.
     Fault,
+}
+
+/// Who lets a mark go makes one call.
+impl Drop for Mark {
+    fn drop(self) {
+        match self {
+            Mark::Entry(_) | Mark::Claim(_, _, _) | Mark::Fault => {}
+        }
+    }
 }
 
 /// A change of the rows.

@@ -1,4 +1,7 @@
 //! Replies to accepted requests: one variant for each operation, with the members of its JSON body in snake case.
+ghost use Rattle.std.specs.Prelude.{◌≡◌};
+ghost use Rattle.sm_model.specs.Replies.{shown_value};
+
 use crate::value::Tag;
 use sm_base::{Bytes, Label, List, Moment, Text, Token};
 
@@ -28,7 +31,6 @@ pub struct BatchError {
 }
 
 /// The reply to GetSecretValue, and an item of a batch.
-#[derive(Drop)]
 pub struct GotSecret {
     pub arn: Text,
     /// When the version was made.
@@ -38,6 +40,21 @@ pub struct GotSecret {
     pub secret_string: Option<Text>,
     pub version_id: Token,
     pub version_stages: List<Label>,
+}
+
+/// Who lets it go makes one call.
+impl Drop for GotSecret {
+    fn drop(self) {
+        let GotSecret {
+            arn: _,
+            created_date: _,
+            name: _,
+            secret_binary: _,
+            secret_string: _,
+            version_id: _,
+            version_stages: _,
+        } = self;
+    }
 }
 
 /// The reply to BatchGetSecretValue.
@@ -73,7 +90,6 @@ pub struct Staged {
 }
 
 /// The reply to DescribeSecret, and an item of ListSecrets (API Reference, SecretListEntry).
-#[derive(Drop)]
 pub struct Described {
     pub arn: Text,
     pub created_date: Moment,
@@ -91,6 +107,28 @@ pub struct Described {
     pub tags: List<Tag>,
     /// The versions with a label.
     pub version_ids_to_stages: List<Staged>,
+}
+
+/// Who lets it go makes one call.
+impl Drop for Described {
+    fn drop(self) {
+        let Described {
+            arn: _,
+            created_date: _,
+            deleted_date: _,
+            description: _,
+            kms_key_id: _,
+            last_changed_date: _,
+            last_rotated_date: _,
+            name: _,
+            next_rotation_date: _,
+            rotation_enabled: _,
+            rotation_lambda_arn: _,
+            rotation_rules: _,
+            tags: _,
+            version_ids_to_stages: _,
+        } = self;
+    }
 }
 
 /// The reply to GetRandomPassword.
@@ -156,7 +194,6 @@ pub struct PolicyValidation {
 }
 
 /// A reply to an accepted request.
-#[derive(Drop)]
 pub enum Reply {
     BatchGetSecretValue(SecretBatch),
     CancelRotateSecret(VersionedSecret),
@@ -178,4 +215,44 @@ pub enum Reply {
     UpdateSecret(VersionedSecret),
     UpdateSecretVersionStage(NamedSecret),
     ValidateResourcePolicy(PolicyValidation),
+}
+
+impl Reply {
+    /// The value that a reply to GetSecretValue shows, or None of another operation.
+    pub fn into_value(self) -> Option<GotSecret>
+        ensures { result ≡ shown_value self }
+    {
+        match self {
+            Reply::GetSecretValue(got) => Some(got),
+            _ => None,
+        }
+    }
+}
+
+/// Who lets a reply go makes one call, whatever its operation.
+impl Drop for Reply {
+    fn drop(self) {
+        match self {
+            Reply::BatchGetSecretValue(_)
+            | Reply::CancelRotateSecret(_)
+            | Reply::CreateSecret(_)
+            | Reply::DeleteResourcePolicy(_)
+            | Reply::DeleteSecret(_)
+            | Reply::DescribeSecret(_)
+            | Reply::GetRandomPassword(_)
+            | Reply::GetResourcePolicy(_)
+            | Reply::GetSecretValue(_)
+            | Reply::ListSecretVersionIds(_)
+            | Reply::ListSecrets(_)
+            | Reply::PutResourcePolicy(_)
+            | Reply::PutSecretValue(_)
+            | Reply::RestoreSecret(_)
+            | Reply::RotateSecret(_)
+            | Reply::TagResource
+            | Reply::UntagResource
+            | Reply::UpdateSecret(_)
+            | Reply::UpdateSecretVersionStage(_)
+            | Reply::ValidateResourcePolicy(_) => {}
+        }
+    }
 }

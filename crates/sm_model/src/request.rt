@@ -172,7 +172,6 @@ pub struct ValidateResourcePolicy {
 }
 
 /// A request as its body was read. Whether its members are in their forms is not yet known.
-#[derive(Drop)]
 pub enum Request {
     BatchGetSecretValue(BatchGetSecretValue),
     CancelRotateSecret(OfSecret),
@@ -194,6 +193,34 @@ pub enum Request {
     UpdateSecret(UpdateSecret),
     UpdateSecretVersionStage(UpdateSecretVersionStage),
     ValidateResourcePolicy(ValidateResourcePolicy),
+}
+
+/// Who lets a request go makes one call, whatever its operation.
+impl Drop for Request {
+    fn drop(self) {
+        match self {
+            Request::BatchGetSecretValue(_)
+            | Request::CancelRotateSecret(_)
+            | Request::CreateSecret(_)
+            | Request::DeleteResourcePolicy(_)
+            | Request::DeleteSecret(_)
+            | Request::DescribeSecret(_)
+            | Request::GetRandomPassword(_)
+            | Request::GetResourcePolicy(_)
+            | Request::GetSecretValue(_)
+            | Request::ListSecretVersionIds(_)
+            | Request::ListSecrets(_)
+            | Request::PutResourcePolicy(_)
+            | Request::PutSecretValue(_)
+            | Request::RestoreSecret(_)
+            | Request::RotateSecret(_)
+            | Request::TagResource(_)
+            | Request::UntagResource(_)
+            | Request::UpdateSecret(_)
+            | Request::UpdateSecretVersionStage(_)
+            | Request::ValidateResourcePolicy(_) => {}
+        }
+    }
 }
 
 /// How many random bytes are drawn for a request, as its body was read: 6 for the end of a new secret's ARN, 16 for a

@@ -9,7 +9,6 @@ use sm_base::{
 use std::alloc::Global;
 
 /// A version of a secret. Its id is the token of the call that made it.
-#[derive(Drop)]
 pub struct VersionRow {
     pub id: Token,
     /// How many versions of the secret were made before it.
@@ -20,6 +19,20 @@ pub struct VersionRow {
     pub rotated: Option<u32>,
     /// Whether RotateSecret or a due rotation made it.
     pub by_rotation: bool,
+}
+
+/// Who lets a version go makes one call.
+impl Drop for VersionRow {
+    fn drop(self) {
+        let VersionRow {
+            id: _,
+            serial: _,
+            made: _,
+            value: _,
+            rotated: _,
+            by_rotation: _,
+        } = self;
+    }
 }
 
 /// A staging label and the version that it is on.
@@ -61,7 +74,6 @@ pub struct Rotation {
 }
 
 /// A secret.
-#[derive(Drop)]
 pub struct SecretRow {
     /// How many secrets of the account were made before it.
     pub serial: u64,
@@ -83,6 +95,29 @@ pub struct SecretRow {
     pub rotation: Rotation,
     pub policy: Option<Text>,
     pub job: Option<Job>,
+}
+
+/// Who lets a row go makes one call.
+impl Drop for SecretRow {
+    fn drop(self) {
+        let SecretRow {
+            serial: _,
+            arn: _,
+            name: _,
+            created: _,
+            changed: _,
+            description: _,
+            kms: _,
+            tags: _,
+            versions: _,
+            next_version: _,
+            labels: _,
+            deletion: _,
+            rotation: _,
+            policy: _,
+            job: _,
+        } = self;
+    }
 }
 
 /// All secrets of an account, in order of creation.

@@ -14,7 +14,6 @@ pub enum What {
 }
 
 /// The cause of a refusal.
-#[derive(Drop)]
 pub enum Why {
     /// The member is not in its form.
     Form(Text),
@@ -66,6 +65,44 @@ pub enum Why {
     Memory,
     /// The request names something that is not built yet.
     NotBuilt,
+}
+
+/// Who lets a cause go makes one call.
+impl Drop for Why {
+    fn drop(self) {
+        match self {
+            Why::Form(_)
+            | Why::Left(_)
+            | Why::HeldBy(_)
+            | Why::KeepsCurrent
+            | Why::Empty(_)
+            | Why::Scheduled(_)
+            | Why::Differ
+            | Why::Pending(_)
+            | Why::NoCurrent
+            | Why::NoSecret
+            | Why::NoVersion
+            | Why::NotThere(_)
+            | Why::SecretExists(_)
+            | Why::OtherValue(_)
+            | Why::VersionExists(_)
+            | Why::Limit(_, _)
+            | Why::Malformed(_, _)
+            | Why::Public(_)
+            | Why::BadToken
+            | Why::Denied(_)
+            | Why::NoCredential
+            | Why::UnknownKey(_)
+            | Why::UnknownOperation
+            | Why::NotJson
+            | Why::BadMember(_)
+            | Why::Http(_)
+            | Why::DiskFault
+            | Why::RandomFault
+            | Why::Memory
+            | Why::NotBuilt => {}
+        }
+    }
 }
 
 impl Copied for Why {

@@ -18,11 +18,21 @@ use std::marker::Model;
 use std::snapshot::Snapshot;
 
 /// All secrets, in order of creation, which contracts see as the rows.
-#[derive(Drop)]
 pub struct Table {
     alloc: Global,
     next: u64,
     secrets: Indexed,
+}
+
+/// Who lets a table go makes one call.
+impl Drop for Table {
+    fn drop(self) {
+        let Table {
+            alloc: _,
+            next: _,
+            secrets: _,
+        } = self;
+    }
 }
 
 impl Model for Table {

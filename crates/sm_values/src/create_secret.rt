@@ -1,5 +1,5 @@
 //! Judging CreateSecret (AWS Secrets Manager API Reference, CreateSecret).
-ghost use Rattle.std.specs.Prelude.{◌≡◌, ◌≤◌, ◌∷◌, [], IfOk, None, Some, length, take, unwrap_or};
+ghost use Rattle.std.specs.Prelude.{◌≡◌, ◌≤◌, [], IfOk, None, Some, length, take, unwrap_or};
 ghost use Rattle.sm_base.specs.Drawn.{drawn_arn};
 ghost use Rattle.sm_forms.specs.CreateSecret.{create_forms};
 ghost use Rattle.sm_judging.specs.Secrets.{unless_scheduled};
@@ -287,15 +287,6 @@ fn created_row(
     }
 }
 
-/// A list of one item.
-fn only<T: Drop>(alloc: Global, item: T) -> Result<List<T>, NoMemory>
-    ensures { IfOk result (λ list. list ≡ item ∷ []) }
-{
-    let mut list = List::empty(alloc);
-    list.push(item)?;
-    Ok(list)
-}
-
 /// The first version of a secret, under its token.
 fn first_version(moment: Moment, first: NewValue) -> VersionRow
     ensures { result ≡ first_version moment first }
@@ -324,7 +315,8 @@ fn with_first(
         id: first.token.copy(alloc)?,
     };
     let mut row = row;
-    row.labels = only(alloc, pair)?;
+    row.labels = List::empty(alloc);
+    row.labels.push(pair)?;
     row.versions = SharedList::empty(alloc);
     row.versions.push(alloc, first_version(moment, first))?;
     row.next_version = 1;
