@@ -1,11 +1,12 @@
 //! What text is a policy (IAM User Guide, "Grammar of the IAM JSON policy language").
-ghost use Rattle.std.specs.Prelude.{◌≡◌, option_map};
+ghost use Rattle.std.specs.Prelude.{◌≡◌, [], option_map, unwrap_or};
+ghost use Rattle.serde_json.specs.Find.{as_object};
 ghost use Rattle.serde_json.specs.View.{view, items_view};
 ghost use Rattle.sm_base.specs.Outcomes.{OrMemory};
 ghost use Rattle.sm_policy.specs.Bodies.{IsBody, IsDocument};
-ghost use Rattle.sm_policy.specs.Documents.{json_of, statement_fault, statement_in, item_fault, statements_from, items, document_fault, policy_with, policy_in, policy_of, told};
-ghost use Rattle.sm_policy.specs.Kinds.{is_version};
-ghost use Rattle.sm_policy.specs.Members.{must, fault_of, given};
+ghost use Rattle.sm_policy.specs.Documents.{json_of, statement_names, statement_fault, statement_in, item_fault, statements_from, items, document_fault, policy_with, policy_in, policy_of, told};
+ghost use Rattle.sm_policy.specs.Kinds.{is_text, is_version, condition, condition_with};
+ghost use Rattle.sm_policy.specs.Members.{may, must, is_read, first, unknown_of, fault_of, given};
 ghost use Rattle.sm_policy.specs.Reads.{Passes, Reads};
 
 use crate::kinds::is_version;
@@ -51,10 +52,10 @@ fn read_json(alloc: Global, bytes: &[u8]) -> Body
     }
 }
 
-/// The parts of a statement.
-#[tactic(auto, unfolding(crate::specs::Documents::statement_fields))]
-fn statement_in(alloc: Global, object: &Value) -> Result<Statement, Fault>
-    ensures { Reads result (statement_fault (view object.now)) (statement_in (view object.now)) }
+/// That a statement has no members but its own, and that its Sid is a text where it is there.
+fn statement_form(alloc: Global, object: &Value) -> Result<(), Fault>
+    ensures { Passes result (first (unknown_of statement_names (as_object (view object.now)))
+        (fault_of (may Member.Sid is_text) (view object.now))) }
 {
     only(
         alloc,
@@ -68,15 +69,30 @@ fn statement_in(alloc: Global, object: &Value) -> Result<Statement, Fault>
             Member::Sid,
         ],
     )?;
-    optional_text(object, Member::Sid)?;
+    optional_text(object, Member::Sid)
+}
+
+/// The condition of a statement. Without one it always holds.
+fn condition_in(alloc: Global, object: &Value) -> Result<Condition, Fault>
+    ensures { Reads result (fault_of (may Member.Condition (is_read condition)) (view object.now))
+        (unwrap_or (given condition Member.Condition (view object.now)) (condition_with [])) }
+{
+    let condition = optional::<Condition>(alloc, object, Member::Condition)?;
+    Ok(condition.unwrap_or(Condition(List::empty(alloc))))
+}
+
+/// The parts of a statement.
+#[tactic(auto, unfolding(crate::specs::Documents::statement_fields))]
+fn statement_in(alloc: Global, object: &Value) -> Result<Statement, Fault>
+    ensures { Reads result (statement_fault (view object.now)) (statement_in (view object.now)) }
+{
+    statement_form(alloc, object)?;
     Ok(Statement {
         effect: required(alloc, object, Member::Effect)?,
         principals: required(alloc, object, Member::Principal)?,
         actions: required(alloc, object, Member::Action)?,
         resources: required(alloc, object, Member::Resource)?,
-        condition: optional::<Condition>(alloc, object, Member::Condition)?.unwrap_or(Condition(
-            List::empty(alloc),
-        )),
+        condition: condition_in(alloc, object)?,
     })
 }
 

@@ -11,7 +11,7 @@ use Rattle.sm_model.specs.declared.entry.Act.TheVariants as acts
 use Rattle.sm_record.specs.Codec.{Codec, then_read, read_byte, both, nothing, arm, no_arm}
 use Rattle.sm_record.specs.Fields.{moment, octets, text, arn, token, stage, attempt, value}
 use Rattle.sm_record.specs.Requests.{of_secret, create_secret, delete_secret, put_resource_policy, put_secret_value, rotate_secret, tag_resource, untag_resource, update_secret, update_secret_version_stage}
-use Rattle.sm_record.specs.Entries.{spell_answer, fits_answer, answer, at, report, spell_act, fits_act, rotation_arms, act_arms, act, entry}
+use Rattle.sm_record.specs.Entries.{spell_answer, fits_answer, answer, at, report, spell_act, fits_act, asked_arms, act_arms, act, entry}
 use Rattle.sm_record.proofs.Bytes.{gives}
 use Rattle.sm_record.proofs.CodecLaws.{Lawful, both_lawful, mapped_lawful, nothing_lawful}
 use Rattle.sm_record.proofs.ArmLaws.{Arms, no_arms, arm_laws, tagged_lawful}
@@ -75,24 +75,14 @@ report_lawful = both_lawful arn_lawful (both_lawful at_lawful answer_lawful)
 abbrev of_report : List ℕ × (At × Answer) → Act
 of_report x = acts.Reported x.0 x.1.0 x.1.1
 
-abbrev reported_arms : ℕ → List ℕ → Result (Act × List ℕ) ℕ
-reported_arms = arm 14 report of_report no_arm
-
-rotation_laws : Arms spell_act fits_act rotation_arms
-rotation_laws =
-    arm_laws spell_act fits_act 13 arn arn_lawful acts.Begun reported_arms
-    (arm_laws spell_act fits_act 14 report report_lawful of_report no_arm (no_arms spell_act fits_act)
-    (λ _. refl) (λ _. refl))
-    (λ _. refl) (λ _. refl)
-
 abbrev arms_from_12 : ℕ → List ℕ → Result (Act × List ℕ) ℕ
-arms_from_12 = arm 12 of_secret (λ r. acts.Asked (requests.CancelRotateSecret r)) rotation_arms
+arms_from_12 = arm 12 of_secret (λ r. acts.Asked (requests.CancelRotateSecret r)) no_arm
 
 arms_from_12_laws : Arms spell_act fits_act arms_from_12
 arms_from_12_laws =
     arm_laws spell_act fits_act 12 of_secret of_secret_lawful
-    (λ r. acts.Asked (requests.CancelRotateSecret r)) rotation_arms
-    rotation_laws (λ _. refl) (λ _. refl)
+    (λ r. acts.Asked (requests.CancelRotateSecret r)) no_arm
+    (no_arms spell_act fits_act) (λ _. refl) (λ _. refl)
 
 abbrev arms_from_11 : ℕ → List ℕ → Result (Act × List ℕ) ℕ
 arms_from_11 = arm 11 rotate_secret (λ r. acts.Asked (requests.RotateSecret r)) arms_from_12
@@ -192,8 +182,21 @@ arms_from_1_laws =
     (λ r. acts.Asked (requests.CreateSecret r)) arms_from_2
     arms_from_2_laws (λ _. refl) (λ _. refl)
 
+abbrev reported_arms : ℕ → List ℕ → Result (Act × List ℕ) ℕ
+reported_arms = arm 14 report of_report arms_from_1
+
+abbrev begun_arms : ℕ → List ℕ → Result (Act × List ℕ) ℕ
+begun_arms = arm 13 arn acts.Begun reported_arms
+
+begun_arms_laws : Arms spell_act fits_act begun_arms
+begun_arms_laws =
+    arm_laws spell_act fits_act 13 arn arn_lawful acts.Begun reported_arms
+    (arm_laws spell_act fits_act 14 report report_lawful of_report arms_from_1 arms_from_1_laws
+    (λ _. refl) (λ _. refl))
+    (λ _. refl) (λ _. refl)
+
 request_again : (request : Request) (rest : List ℕ) → IsTrue (fits_act (acts.Asked request))
-    → then_read (read_byte (spell_act (acts.Asked request) ++ rest)) arms_from_1 ≡ gives (acts.Asked request, rest)
+    → then_read (read_byte (spell_act (acts.Asked request) ++ rest)) begun_arms ≡ gives (acts.Asked request, rest)
 request_again (requests.CreateSecret r) rest fits =
     within_arm create_secret create_secret_lawful (λ x. acts.Asked (requests.CreateSecret x)) r rest fits
 request_again (requests.PutSecretValue r) rest fits =
@@ -230,15 +233,15 @@ request_again (requests.ListSecrets r) rest fits = absurd (false≢true fits)
 request_again (requests.ValidateResourcePolicy r) rest fits = absurd (false≢true fits)
 
 act_again : (a : Act) (rest : List ℕ) → IsTrue (fits_act a)
-    → then_read (read_byte (spell_act a ++ rest)) arms_from_1 ≡ gives (a, rest)
+    → then_read (read_byte (spell_act a ++ rest)) begun_arms ≡ gives (a, rest)
 act_again (acts.Asked request) rest fits = request_again request rest fits
 act_again (acts.Begun name) rest fits = within_arm arn arn_lawful acts.Begun name rest fits
 act_again (acts.Reported name place given) rest fits =
     within_arm report report_lawful of_report (name, (place, given)) rest fits
 
 pub act_lawful : Lawful act
-unfolding act act_arms
-act_lawful = tagged_lawful spell_act fits_act arms_from_1 arms_from_1_laws act_again
+unfolding act act_arms asked_arms
+act_lawful = tagged_lawful spell_act fits_act begun_arms begun_arms_laws act_again
 
 pub entry_lawful : Lawful entry
 unfolding entry

@@ -96,13 +96,9 @@ fits_act (acts.Asked request) = fits_request request
 fits_act (acts.Begun name) = arn.fits name
 fits_act (acts.Reported name place given) = report.fits (name, (place, given))
 
--- the starts and reports of rotations
-abbrev pub rotation_arms : ℕ → List ℕ → Result (Act × List ℕ) ℕ
-rotation_arms = arm 13 arn acts.Begun (arm 14 report (λ x. acts.Reported x.0 x.1.0 x.1.1) no_arm)
-
--- what stands behind an act's tag
-unfoldable pub act_arms : ℕ → List ℕ → Result (Act × List ℕ) ℕ
-act_arms =
+-- the requests, each behind its tag
+unfoldable pub asked_arms : ℕ → List ℕ → Result (Act × List ℕ) ℕ
+asked_arms =
     arm 1 create_secret (λ r. acts.Asked (requests.CreateSecret r))
     (arm 2 put_secret_value (λ r. acts.Asked (requests.PutSecretValue r))
     (arm 3 update_secret (λ r. acts.Asked (requests.UpdateSecret r))
@@ -114,7 +110,11 @@ act_arms =
     (arm 9 put_resource_policy (λ r. acts.Asked (requests.PutResourcePolicy r))
     (arm 10 of_secret (λ r. acts.Asked (requests.DeleteResourcePolicy r))
     (arm 11 rotate_secret (λ r. acts.Asked (requests.RotateSecret r))
-    (arm 12 of_secret (λ r. acts.Asked (requests.CancelRotateSecret r)) rotation_arms)))))))))))
+    (arm 12 of_secret (λ r. acts.Asked (requests.CancelRotateSecret r)) no_arm)))))))))))
+
+-- what stands behind an act's tag: the start or the report of a rotation, or a request
+unfoldable pub act_arms : ℕ → List ℕ → Result (Act × List ℕ) ℕ
+act_arms = arm 13 arn acts.Begun (arm 14 report (λ x. acts.Reported x.0 x.1.0 x.1.1) asked_arms)
 
 -- an act is its tag and its fields
 unfoldable pub act : Codec Act

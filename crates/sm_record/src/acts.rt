@@ -1,16 +1,12 @@
 //! Acts: a tag byte, and what the act has.
 ghost use Rattle.std.specs.Prelude.{◌≡◌, ◌++◌, ◌∷◌, IsTrue, OnOk};
-ghost use Rattle.sm_record.specs.Entries.{act, act_arms, spell_request, fits_request, report};
+ghost use Rattle.sm_record.specs.Entries.{act, act_arms, asked_arms, spell_request, fits_request, report};
 ghost use Rattle.sm_record.specs.Reading.{Gives};
 
-use crate::field::Field;
+use crate::field::{Field, made_at, made_of};
 use crate::single::byte_at;
 use crate::unread::Unread;
-use sm_model::{
-    Act, Answer, Arn, At, CreateSecret, DeleteSecret, NoMemory, OfSecret, PutResourcePolicy,
-    PutSecretValue, Request, RotateSecret, TagResource, UntagResource, UpdateSecret,
-    UpdateSecretVersionStage,
-};
+use sm_model::{Act, Answer, Arn, At, NoMemory, Request};
 use std::alloc::Global;
 
 /// The act of a tag.
@@ -19,64 +15,40 @@ fn act_at(alloc: Global, tag: u8, bytes: &[u8]) -> Result<(Act, &[u8]), Unread>
     ensures { Gives (λ x. (x.0, x.1.now)) result (act_arms tag bytes.now) }
 {
     match tag {
-        1 => {
-            let (request, rest) = CreateSecret::read_front(alloc, bytes)?;
-            Ok((Act::Asked(Request::CreateSecret(request)), rest))
-        }
-        2 => {
-            let (request, rest) = PutSecretValue::read_front(alloc, bytes)?;
-            Ok((Act::Asked(Request::PutSecretValue(request)), rest))
-        }
-        3 => {
-            let (request, rest) = UpdateSecret::read_front(alloc, bytes)?;
-            Ok((Act::Asked(Request::UpdateSecret(request)), rest))
-        }
-        4 => {
-            let (request, rest) = DeleteSecret::read_front(alloc, bytes)?;
-            Ok((Act::Asked(Request::DeleteSecret(request)), rest))
-        }
-        5 => {
-            let (request, rest) = OfSecret::read_front(alloc, bytes)?;
-            Ok((Act::Asked(Request::RestoreSecret(request)), rest))
-        }
-        6 => {
-            let (request, rest) = UpdateSecretVersionStage::read_front(alloc, bytes)?;
-            Ok((Act::Asked(Request::UpdateSecretVersionStage(request)), rest))
-        }
-        7 => {
-            let (request, rest) = TagResource::read_front(alloc, bytes)?;
-            Ok((Act::Asked(Request::TagResource(request)), rest))
-        }
-        8 => {
-            let (request, rest) = UntagResource::read_front(alloc, bytes)?;
-            Ok((Act::Asked(Request::UntagResource(request)), rest))
-        }
-        9 => {
-            let (request, rest) = PutResourcePolicy::read_front(alloc, bytes)?;
-            Ok((Act::Asked(Request::PutResourcePolicy(request)), rest))
-        }
-        10 => {
-            let (request, rest) = OfSecret::read_front(alloc, bytes)?;
-            Ok((Act::Asked(Request::DeleteResourcePolicy(request)), rest))
-        }
-        11 => {
-            let (request, rest) = RotateSecret::read_front(alloc, bytes)?;
-            Ok((Act::Asked(Request::RotateSecret(request)), rest))
-        }
-        12 => {
-            let (request, rest) = OfSecret::read_front(alloc, bytes)?;
-            Ok((Act::Asked(Request::CancelRotateSecret(request)), rest))
-        }
-        13 => {
-            let (arn, rest) = Arn::read_front(alloc, bytes)?;
-            Ok((Act::Begun(arn), rest))
-        }
-        14 => {
-            let ((arn, (at, answer)), rest) = Reported::read_front(alloc, bytes)?;
-            Ok((Act::Reported(arn, at, answer), rest))
-        }
+        13 => made_at(alloc, bytes, Act::Begun),
+        14 => made_at(alloc, bytes, reported),
+        _ => made_of(request_at(alloc, tag, bytes), Act::Asked),
+    }
+}
+
+/// The request of a tag.
+#[tactic(auto, unfolding(crate::specs::Entries::asked_arms))]
+fn request_at(alloc: Global, tag: u8, bytes: &[u8]) -> Result<(Request, &[u8]), Unread>
+    ensures { Gives (λ x. (Act.Asked x.0, x.1.now)) result (asked_arms tag bytes.now) }
+{
+    match tag {
+        1 => made_at(alloc, bytes, Request::CreateSecret),
+        2 => made_at(alloc, bytes, Request::PutSecretValue),
+        3 => made_at(alloc, bytes, Request::UpdateSecret),
+        4 => made_at(alloc, bytes, Request::DeleteSecret),
+        5 => made_at(alloc, bytes, Request::RestoreSecret),
+        6 => made_at(alloc, bytes, Request::UpdateSecretVersionStage),
+        7 => made_at(alloc, bytes, Request::TagResource),
+        8 => made_at(alloc, bytes, Request::UntagResource),
+        9 => made_at(alloc, bytes, Request::PutResourcePolicy),
+        10 => made_at(alloc, bytes, Request::DeleteResourcePolicy),
+        11 => made_at(alloc, bytes, Request::RotateSecret),
+        12 => made_at(alloc, bytes, Request::CancelRotateSecret),
         _ => Err(Unread::Left(bytes.len() + 1)),
     }
+}
+
+/// The report that has these parts.
+fn reported(parts: Reported) -> Act
+    ensures { result ≡ Act.Reported parts.0 parts.1.0 parts.1.1 }
+{
+    let (arn, (at, answer)) = parts;
+    Act::Reported(arn, at, answer)
 }
 
 /// What was reported of a rotation, one thing behind another.

@@ -1,13 +1,32 @@
 //! Entries as fields.
+ghost use Rattle.std.specs.Prelude.{◌≡◌};
 ghost use Rattle.sm_record.specs.Entries.{entry};
 
-use crate::field::Field;
+use crate::field::{Field, made_at};
 use crate::unread::Unread;
 use sm_model::{Act, Bytes, Entry, Moment, NoMemory, Text};
 use std::alloc::Global;
 
 /// What an entry has, one thing behind another.
 type EntryParts = (Moment, (Text, (Bytes, Act)));
+
+/// The entry that has these parts.
+fn entry_of(parts: EntryParts) -> Entry
+    ensures { result ≡ record {
+      moment = parts.0;
+      caller = parts.1.0;
+      drawn = parts.1.1.0;
+      act = parts.1.1.1;
+    } }
+{
+    let (moment, (caller, (drawn, act))) = parts;
+    Entry {
+        moment,
+        caller,
+        drawn,
+        act,
+    }
+}
 
 impl Field for Entry {
     ghost codec = { entry };
@@ -19,17 +38,7 @@ impl Field for Entry {
 
     #[tactic(auto, unfolding(crate::specs::Entries::entry))]
     fn read_front(alloc: Global, bytes: &[u8]) -> Result<(Entry, &[u8]), Unread> {
-        let (parts, rest) = EntryParts::read_front(alloc, bytes)?;
-        let (moment, (caller, (drawn, act))) = parts;
-        Ok((
-            Entry {
-                moment,
-                caller,
-                drawn,
-                act,
-            },
-            rest,
-        ))
+        made_at(alloc, bytes, entry_of)
     }
 
     #[tactic(auto, using(std::proofs::lemmas::List::append_assoc, std::proofs::lemmas::Bool::and_parts), unfolding(crate::specs::Entries::entry))]

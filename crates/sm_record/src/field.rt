@@ -1,7 +1,7 @@
 //! What is spelled inside of an entry.
 ghost use Rattle.std.specs.Prelude.{◌≡◌, ◌++◌, IsTrue, OnOk};
 ghost use Rattle.sm_record.specs.Codec.{Codec};
-ghost use Rattle.sm_record.specs.Reading.{Gives};
+ghost use Rattle.sm_record.specs.Reading.{Gives, Makes, IsMade};
 
 use crate::unread::Unread;
 use sm_model::NoMemory;
@@ -24,4 +24,28 @@ pub trait Field: Drop {
     fn put(&self, out: &mut Vec<u8>) -> Result<(), NoMemory>
         requires { IsTrue (codec.fits self.now) }
         ensures { OnOk result (out.new.items ≡ out.old.items ++ codec.spell self.now) };
+}
+
+/// What is made of what was read, and the bytes behind it.
+pub fn made_of<A: Drop, B, F: FnOnce(A) -> B>(
+    read: Result<(A, &[u8]), Unread>,
+    make: F,
+) -> Result<(B, &[u8]), Unread>
+    requires { F.IsAlwaysCallable make }
+    ensures { IsMade (F.post make) read.entry result }
+{
+    let (thing, rest) = read?;
+    Ok((make(thing), rest))
+}
+
+/// What is made of the field at the front of bytes.
+pub fn made_at<A: Field, B, F: FnOnce(A) -> B>(
+    alloc: Global,
+    bytes: &[u8],
+    make: F,
+) -> Result<(B, &[u8]), Unread>
+    requires { F.IsAlwaysCallable make }
+    ensures { Makes (F.post make) (λ x. (x.0, x.1.now)) result (A.codec.read bytes.now) }
+{
+    made_of(A::read_front(alloc, bytes), make)
 }

@@ -1,5 +1,5 @@
 //! The bodies of replies.
-ghost use Rattle.std.specs.Prelude.{◌≡◌, IfOk, Some, option_map, false};
+ghost use Rattle.std.specs.Prelude.{◌≡◌, IfOk, Some, option_map, unwrap_or, [], false};
 ghost use Rattle.serde_json.specs.Data.{object};
 ghost use Rattle.serde_json.specs.Written.{members_have_float, compact_text};
 ghost use Rattle.serde_json.specs.View.{members_view};
@@ -85,26 +85,35 @@ fn reply_members(alloc: Global, reply: &Reply) -> Result<Option<Map<String, Valu
         ≡ option_map members_of (reply_members reply.now)) }
 {
     match reply {
-        Reply::BatchGetSecretValue(reply) => Ok(Some(batches::batch_members(alloc, reply)?)),
-        Reply::CancelRotateSecret(reply) => Ok(Some(secrets::versioned_members(alloc, reply)?)),
-        Reply::CreateSecret(reply) => Ok(Some(secrets::versioned_members(alloc, reply)?)),
-        Reply::DeleteResourcePolicy(reply) => Ok(Some(secrets::named_members(alloc, reply)?)),
-        Reply::DeleteSecret(reply) => Ok(Some(secrets::deleted_members(alloc, reply)?)),
-        Reply::DescribeSecret(reply) => Ok(Some(pages::described_members(alloc, reply)?)),
-        Reply::GetRandomPassword(reply) => Ok(Some(secrets::password_members(alloc, reply)?)),
-        Reply::GetResourcePolicy(reply) => Ok(Some(secrets::policy_members(alloc, reply)?)),
-        Reply::GetSecretValue(reply) => Ok(Some(secrets::got_members(alloc, reply)?)),
-        Reply::ListSecretVersionIds(reply) => Ok(Some(pages::versions_members(alloc, reply)?)),
-        Reply::ListSecrets(reply) => Ok(Some(pages::page_members(alloc, reply)?)),
-        Reply::PutResourcePolicy(reply) => Ok(Some(secrets::named_members(alloc, reply)?)),
-        Reply::PutSecretValue(reply) => Ok(Some(secrets::put_members(alloc, reply)?)),
-        Reply::RestoreSecret(reply) => Ok(Some(secrets::named_members(alloc, reply)?)),
-        Reply::RotateSecret(reply) => Ok(Some(secrets::versioned_members(alloc, reply)?)),
-        Reply::UpdateSecret(reply) => Ok(Some(secrets::versioned_members(alloc, reply)?)),
-        Reply::UpdateSecretVersionStage(reply) => Ok(Some(secrets::named_members(alloc, reply)?)),
-        Reply::ValidateResourcePolicy(reply) => Ok(Some(batches::validation_members(
-            alloc, reply,
-        )?)),
         Reply::TagResource | Reply::UntagResource => Ok(None),
+        _ => Ok(Some(object_members(alloc, reply)?)),
+    }
+}
+
+/// The members of a reply's object, and none where it has no object.
+fn object_members(alloc: Global, reply: &Reply) -> Result<Map<String, Value>, NoMemory>
+    ensures { IfOk result (λ members. members_view members.entries
+        ≡ members_of (unwrap_or (reply_members reply.now) [])) }
+{
+    match reply {
+        Reply::BatchGetSecretValue(reply) => batches::batch_members(alloc, reply),
+        Reply::CancelRotateSecret(reply) => secrets::versioned_members(alloc, reply),
+        Reply::CreateSecret(reply) => secrets::versioned_members(alloc, reply),
+        Reply::DeleteResourcePolicy(reply) => secrets::named_members(alloc, reply),
+        Reply::DeleteSecret(reply) => secrets::deleted_members(alloc, reply),
+        Reply::DescribeSecret(reply) => pages::described_members(alloc, reply),
+        Reply::GetRandomPassword(reply) => secrets::password_members(alloc, reply),
+        Reply::GetResourcePolicy(reply) => secrets::policy_members(alloc, reply),
+        Reply::GetSecretValue(reply) => secrets::got_members(alloc, reply),
+        Reply::ListSecretVersionIds(reply) => pages::versions_members(alloc, reply),
+        Reply::ListSecrets(reply) => pages::page_members(alloc, reply),
+        Reply::PutResourcePolicy(reply) => secrets::named_members(alloc, reply),
+        Reply::PutSecretValue(reply) => secrets::put_members(alloc, reply),
+        Reply::RestoreSecret(reply) => secrets::named_members(alloc, reply),
+        Reply::RotateSecret(reply) => secrets::versioned_members(alloc, reply),
+        Reply::UpdateSecret(reply) => secrets::versioned_members(alloc, reply),
+        Reply::UpdateSecretVersionStage(reply) => secrets::named_members(alloc, reply),
+        Reply::ValidateResourcePolicy(reply) => batches::validation_members(alloc, reply),
+        Reply::TagResource | Reply::UntagResource => Ok(Map::new(alloc)),
     }
 }
