@@ -28,13 +28,15 @@ fn bare<'a>(alloc: Global) -> Command<'a>
 pub fn command<'a>(alloc: Global) -> Result<Command<'a>, AllocError>
     ensures { IfOk result (λ c. IsApp (app_of c)) }
 {
-    bare(alloc)
-        .arg(mode(alloc))?
-        .arg(data(alloc))?
-        .arg(people(alloc))?
-        .arg(listen(alloc))?
-        .arg(rotator(alloc))?
-        .arg(connections(alloc))?
-        .arg(workers(alloc))?
-        .arg(number(alloc))
+    let arguments = vec![in alloc;
+        mode(alloc),
+        data(alloc),
+        people(alloc),
+        listen(alloc),
+        rotator(alloc),
+        connections(alloc),
+        workers(alloc),
+        number(alloc),
+    ]?;
+    bare(alloc).args(arguments)
 }

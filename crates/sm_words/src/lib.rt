@@ -13,6 +13,3 @@ mod settings;
 pub use reading::read_words;
 pub use refusal::{Refusal, refusal_of};
 pub use settings::{Mode, Settings, WordsRefused};
-
-#[cfg(test)]
-mod tests;

@@ -1,11 +1,11 @@
 //! Lists of words, each with what is wanted of it.
-use crate::{Settings, WordsRefused, read_words, refusal_of};
 use sm_base::Text;
+use sm_words::{Settings, WordsRefused, read_words, refusal_of};
 use std::alloc::{AllocError, Global};
 use std::test::Fail;
 
 /// Words, and the settings that are wanted of them, in the order of the fields.
-const READ: [(&str, &str); 47] = [
+static READ: [(&str, &str); 47] = [
     ("", "Exec - - 127.0.0.1:7777 local 4 2 None"),
     ("--", "Exec - - 127.0.0.1:7777 local 4 2 None"),
     ("--mode exec", "Exec - - 127.0.0.1:7777 local 4 2 None"),
@@ -74,7 +74,7 @@ const READ: [(&str, &str); 47] = [
 ];
 
 /// Words, whether they ask for help or the version, and a part of what is said.
-const SAID: [(&str, bool, &str); 9] = [
+static SAID: [(&str, bool, &str); 9] = [
     ("--version", true, "secretsd 0.1.0\n"),
     ("-V", true, "secretsd 0.1.0\n"),
     ("-h", true, "--connections <1 to 64>"),
@@ -96,18 +96,18 @@ const SAID: [(&str, bool, &str); 9] = [
 
 #[test]
 fn words_are_read(rt: HostRuntime) -> Result<(), Fail> {
-    for (line, wanted) in READ {
+    for (line, wanted) in &READ {
         let read = read(rt.alloc(), line)?;
-        assert!(rt; read.as_str() == wanted, "{line}: {read}");
+        assert!(rt; read.as_str() == *wanted, "{line}: {read}");
     }
     Ok(())
 }
 
 #[test]
 fn refusals_are_said(rt: HostRuntime) -> Result<(), Fail> {
-    for (line, is_asked, part) in SAID {
+    for (line, is_asked, part) in &SAID {
         let said = said(rt.alloc(), line, part)?;
-        assert!(rt; said == Some((is_asked, true)), "{line}: {said:?}");
+        assert!(rt; said == Some((*is_asked, true)), "{line}: {said:?}");
     }
     Ok(())
 }
