@@ -75,7 +75,7 @@ fn described(alloc: Global) -> Result<Described, ReadRefused> {
     })
 }
 
-fn batch(alloc: Global) -> Result<SecretBatch, ReadRefused> {
+fn batch(alloc: Global) -> Result<Reply, ReadRefused> {
     let error = BatchError {
         error_code: Text::fixed("e"),
         message: Text::fixed("m"),
@@ -84,14 +84,14 @@ fn batch(alloc: Global) -> Result<SecretBatch, ReadRefused> {
     let errors = one(alloc, error)?;
     let got = got(alloc)?;
     let secret_values = one(alloc, got)?;
-    Ok(SecretBatch {
+    Ok(Reply::BatchGetSecretValue(SecretBatch {
         errors,
         next_token: Some(Text::fixed("s1")),
         secret_values,
-    })
+    }))
 }
 
-fn versions(alloc: Global) -> Result<VersionPage, ReadRefused> {
+fn versions(alloc: Global) -> Result<Reply, ReadRefused> {
     let labels = labels(alloc)?;
     let id = token(alloc)?;
     let item = VersionItem {
@@ -100,24 +100,24 @@ fn versions(alloc: Global) -> Result<VersionPage, ReadRefused> {
         version_stages: Some(labels),
     };
     let versions = one(alloc, item)?;
-    Ok(VersionPage {
+    Ok(Reply::ListSecretVersionIds(VersionPage {
         arn: Text::fixed("arn"),
         name: Text::fixed("n"),
         next_token: Some(Text::fixed("v0")),
         versions,
-    })
+    }))
 }
 
-fn validation(alloc: Global) -> Result<PolicyValidation, NoMemory> {
+fn validation(alloc: Global) -> Result<Reply, NoMemory> {
     let error = ValidationError {
         check_name: Text::fixed("Syntax"),
         error_message: Text::fixed("statement 0: policy"),
     };
     let validation_errors = one(alloc, error)?;
-    Ok(PolicyValidation {
+    Ok(Reply::ValidateResourcePolicy(PolicyValidation {
         policy_validation_passed: false,
         validation_errors,
-    })
+    }))
 }
 
 fn policy() -> PolicyOfSecret {
@@ -136,24 +136,24 @@ fn deleted() -> DeletedSecret {
     }
 }
 
-fn put(alloc: Global) -> Result<PutValue, ReadRefused> {
+fn put(alloc: Global) -> Result<Reply, ReadRefused> {
     let labels = labels(alloc)?;
     let id = token(alloc)?;
-    Ok(PutValue {
+    Ok(Reply::PutSecretValue(PutValue {
         arn: Text::fixed("arn"),
         name: Text::fixed("n"),
         version_id: id,
         version_stages: labels,
-    })
+    }))
 }
 
-fn page(alloc: Global) -> Result<SecretPage, ReadRefused> {
+fn page(alloc: Global) -> Result<Reply, ReadRefused> {
     let described = described(alloc)?;
     let secret_list = one(alloc, described)?;
-    Ok(SecretPage {
+    Ok(Reply::ListSecrets(SecretPage {
         next_token: Some(Text::fixed("s1")),
         secret_list,
-    })
+    }))
 }
 
 /// The reply of the operation with this number, in ascending order of their names.
@@ -167,15 +167,14 @@ fn reply(alloc: Global, number: usize) -> Result<Reply, ReadRefused> {
 
 fn first_reply(alloc: Global, number: usize) -> Result<Reply, ReadRefused> {
     match number {
-        0 => Ok(Reply::BatchGetSecretValue(batch(alloc)?)),
-        1 => Ok(Reply::CancelRotateSecret(versioned(alloc)?)),
-        2 => Ok(Reply::CreateSecret(versioned(alloc)?)),
+        0 => batch(alloc),
         3 => Ok(Reply::DeleteResourcePolicy(named())),
         4 => Ok(Reply::DeleteSecret(deleted())),
         5 => Ok(Reply::DescribeSecret(described(alloc)?)),
-        _ => Ok(Reply::GetRandomPassword(RandomPassword {
+        6 => Ok(Reply::GetRandomPassword(RandomPassword {
             random_password: Text::fixed("p"),
         })),
+        _ => Ok(reply_of_version(versioned(alloc)?, number)),
     }
 }
 
@@ -183,22 +182,31 @@ fn middle_reply(alloc: Global, number: usize) -> Result<Reply, ReadRefused> {
     match number {
         7 => Ok(Reply::GetResourcePolicy(policy())),
         8 => Ok(Reply::GetSecretValue(got(alloc)?)),
-        9 => Ok(Reply::ListSecretVersionIds(versions(alloc)?)),
-        10 => Ok(Reply::ListSecrets(page(alloc)?)),
+        9 => versions(alloc),
+        10 => page(alloc),
         11 => Ok(Reply::PutResourcePolicy(named())),
-        12 => Ok(Reply::PutSecretValue(put(alloc)?)),
+        12 => put(alloc),
         _ => Ok(Reply::RestoreSecret(named())),
     }
 }
 
 fn last_reply(alloc: Global, number: usize) -> Result<Reply, ReadRefused> {
     match number {
-        14 => Ok(Reply::RotateSecret(versioned(alloc)?)),
         15 => Ok(Reply::TagResource),
         16 => Ok(Reply::UntagResource),
-        17 => Ok(Reply::UpdateSecret(versioned(alloc)?)),
         18 => Ok(Reply::UpdateSecretVersionStage(named())),
-        _ => Ok(Reply::ValidateResourcePolicy(validation(alloc)?)),
+        19 => Ok(validation(alloc)?),
+        _ => Ok(reply_of_version(versioned(alloc)?, number)),
+    }
+}
+
+/// The reply of an operation that names a version.
+fn reply_of_version(versioned: VersionedSecret, number: usize) -> Reply {
+    match number {
+        1 => Reply::CancelRotateSecret(versioned),
+        2 => Reply::CreateSecret(versioned),
+        14 => Reply::RotateSecret(versioned),
+        _ => Reply::UpdateSecret(versioned),
     }
 }
 
@@ -237,21 +245,26 @@ fn answer(number: usize) -> Answer {
 /// The act with this number: of a request, and then those of a rotation.
 fn act(alloc: Global, number: usize) -> Result<Act, ReadRefused> {
     match number {
-        0 => Ok(Act::Asked(request(alloc, 2)?)),
+        0 => asked(alloc),
         1 => Ok(Act::Begun(arn(alloc)?)),
-        _ => reported(alloc, number - 2),
+        _ => reported(alloc, answer(number - 2)),
     }
 }
 
-fn reported(alloc: Global, number: usize) -> Result<Act, ReadRefused> {
-    let arn = arn(alloc)?;
-    let at = at(alloc)?;
-    Ok(Act::Reported(arn, at, answer(number)))
+fn asked(alloc: Global) -> Result<Act, ReadRefused> {
+    Ok(Act::Asked(request(alloc, 2)?))
 }
 
+fn reported(alloc: Global, answer: Answer) -> Result<Act, ReadRefused> {
+    let arn = arn(alloc)?;
+    let at = at(alloc)?;
+    Ok(Act::Reported(arn, at, answer))
+}
+
+/// An entry of the act with this number.
 fn entry(alloc: Global, number: usize) -> Result<Mark, ReadRefused> {
-    let act = act(alloc, number)?;
     let drawn = bytes(alloc)?;
+    let act = act(alloc, number)?;
     Ok(Mark::Entry(Entry {
         moment: Moment(8),
         caller: Text::fixed("ADA"),

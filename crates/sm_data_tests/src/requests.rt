@@ -343,11 +343,15 @@ static NEEDS: [Case; 22] = [
     (Operation::Password(Some(i64::MIN)), false, false, 0),
 ];
 
+fn needed(alloc: Global, case: &Case) -> Result<usize, NoMemory> {
+    let request = case_request(alloc, case)?;
+    Ok(need(&request))
+}
+
 #[test]
 fn requests_need_bytes(rt: HostRuntime) -> Result<(), Fail> {
     for (row, case) in NEEDS.iter().enumerate() {
-        let request = case_request(rt.alloc(), case)?;
-        assert_eq!(rt; (row, need(&request)), (row, case.3));
+        assert_eq!(rt; needed(rt.alloc(), case)?, case.3, "row {row}");
     }
     Ok(())
 }

@@ -4,7 +4,7 @@ use std::alloc::Global;
 use std::test::Fail;
 
 /// Tokens, of which the first two have the same number.
-const TOKENS: [&str; 4] = [
+static TOKENS: [&str; 4] = [
     "00000000-0000-0000-0000-0000000000Aa",
     "00000000-0000-0000-0000-0000000000BB",
     "00000000-0000-0000-0000-0000000000Aa",
@@ -48,45 +48,58 @@ fn found(all: &SharedList<VersionRow>, place: usize) -> u64 {
     }
 }
 
-#[test]
-fn copies_share_and_grow_alone(rt: HostRuntime) -> Result<(), Fail> {
-    let alloc = rt.alloc();
+/// What a list shows: its serials, its length, and where the last token is found.
+fn look(alloc: Global, all: &SharedList<VersionRow>) -> Result<[u64; 3], NoMemory> {
+    Ok([serials(alloc, all)?, all.len() as u64, found(all, 3)])
+}
+
+/// A list and its copy, after each has grown, and the copy again once the list is gone.
+fn grown_alone(alloc: Global) -> Result<[[u64; 3]; 3], ReadRefused> {
     let mut all = versions(alloc, 3)?;
     let mut copy = all.copy(alloc)?;
     copy.push(alloc, version(alloc, 3)?)?;
     all.push(alloc, version(alloc, 1)?)?;
-    assert_eq!(rt; (all.len(), copy.len()), (4, 4));
-    assert_eq!(rt; (serials(alloc, &all)?, serials(alloc, &copy)?), (121, 123));
-    assert_eq!(rt; (found(&all, 3), found(&copy, 3)), (9, 3));
+    let shown = look(alloc, &all)?;
+    let beside = look(alloc, &copy)?;
     drop(all);
-    assert_eq!(rt; serials(alloc, &copy)?, 123);
+    Ok([shown, beside, look(alloc, &copy)?])
+}
+
+#[test]
+fn copies_share_and_grow_alone(rt: HostRuntime) -> Result<(), Fail> {
+    assert_eq!(rt;
+        grown_alone(rt.alloc())?,
+        [[121, 4, 9], [123, 4, 3], [123, 4, 3]]
+    );
     Ok(())
+}
+
+/// How many versions there are, and where each token is found.
+static FOUND: [(usize, [u64; 4]); 3] = [(4, [0, 1, 0, 3]), (1, [0, 9, 0, 9]), (0, [9, 9, 9, 9])];
+
+fn all_found(all: &SharedList<VersionRow>) -> [u64; 4] {
+    [found(all, 0), found(all, 1), found(all, 2), found(all, 3)]
 }
 
 #[test]
 fn the_first_of_a_key_is_found(rt: HostRuntime) -> Result<(), Fail> {
-    let all = versions(rt.alloc(), 4)?;
-    assert_eq!(rt;
-        (
-            found(&all, 0),
-            found(&all, 1),
-            found(&all, 2),
-            found(&all, 3)
-        ),
-        (0, 1, 0, 3)
-    );
-    assert_eq!(rt; found(&versions(rt.alloc(), 1)?, 1), 9);
-    assert_eq!(rt; found(&versions(rt.alloc(), 0)?, 0), 9);
+    for (count, wanted) in &FOUND {
+        assert_eq!(rt; all_found(&versions(rt.alloc(), *count)?), *wanted);
+    }
     Ok(())
+}
+
+/// A list made of the versions in the reverse order.
+fn reversed(alloc: Global) -> Result<SharedList<VersionRow>, ReadRefused> {
+    let mut vec = versions(alloc, 4)?.to_vec(alloc)?;
+    vec.as_mut_slice().reverse();
+    Ok(SharedList::from_vec(alloc, vec)?)
 }
 
 #[test]
 fn vectors_and_back(rt: HostRuntime) -> Result<(), Fail> {
-    let alloc = rt.alloc();
-    let mut vec = versions(alloc, 4)?.to_vec(alloc)?;
-    vec.as_mut_slice().reverse();
-    let all = SharedList::from_vec(alloc, vec)?;
-    assert_eq!(rt; serials(alloc, &all)?, 3210);
+    let all = reversed(rt.alloc())?;
+    assert_eq!(rt; serials(rt.alloc(), &all)?, 3210);
     assert_eq!(rt; found(&all, 0), 2);
     Ok(())
 }

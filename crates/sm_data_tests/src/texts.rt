@@ -70,23 +70,19 @@ fn texts_are_read_to_their_first_fault(rt: HostRuntime) -> Result<(), Fail> {
     Ok(())
 }
 
+static TOKENS: [([u8; 16], &'static str); 2] = [
+    (
+        [6, 7, 8, 9, 10, 11, 12, 13, 14, 15, 16, 17, 18, 19, 20, 21],
+        "06070809-0a0b-4c0d-8e0f-101112131415",
+    ),
+    ([255; 16], "ffffffff-ffff-4fff-bfff-ffffffffffff"),
+];
+
 #[test]
-fn tokens_and_arns_are_drawn(rt: HostRuntime) -> Result<(), Fail> {
-    let sixteen = [6, 7, 8, 9, 10, 11, 12, 13, 14, 15, 16, 17, 18, 19, 20, 21];
-    let token = Token::drawn(rt.alloc(), &sixteen)?;
-    assert_eq!(rt;
-        token.as_text().as_str(),
-        "06070809-0a0b-4c0d-8e0f-101112131415"
-    );
-    let most = Token::drawn(rt.alloc(), &[255; 16])?;
-    assert_eq!(rt;
-        most.as_text().as_str(),
-        "ffffffff-ffff-4fff-bfff-ffffffffffff"
-    );
-    let name = Name::read(rt.alloc(), b"db/app")?;
-    for (six, arn) in &ARNS {
-        let drawn = Arn::drawn(rt.alloc(), &name, six)?;
-        assert_eq!(rt; drawn.as_text().as_str(), *arn);
+fn tokens_are_drawn(rt: HostRuntime) -> Result<(), Fail> {
+    for (sixteen, wanted) in &TOKENS {
+        let token = Token::drawn(rt.alloc(), sixteen)?;
+        assert_eq!(rt; token.as_text().as_str(), *wanted);
     }
     Ok(())
 }
@@ -107,39 +103,69 @@ static ARNS: [([u8; 6], &'static str); 3] = [
 ];
 
 #[test]
-fn texts_and_bytes(rt: HostRuntime) -> Result<(), Fail> {
+fn arns_are_drawn(rt: HostRuntime) -> Result<(), Fail> {
+    let name = Name::read(rt.alloc(), b"db/app")?;
+    for (six, wanted) in &ARNS {
+        let arn = Arn::drawn(rt.alloc(), &name, six)?;
+        assert_eq!(rt; arn.as_text().as_str(), *wanted);
+    }
+    Ok(())
+}
+
+fn is_as_told(text: &Text) -> bool {
+    text.equals(&Text::fixed("s3cret")) && text.len() == 6 && !text.is_empty()
+}
+
+#[test]
+fn texts_are_kept(rt: HostRuntime) -> Result<(), Fail> {
     let text = Text::from_str(rt.alloc(), "s3cret")?;
-    assert!(rt; text.equals(&Text::fixed("s3cret")));
-    assert_eq!(rt; (text.len(), text.is_empty()), (6, false));
-    let text = Text::new(text.into_string(rt.alloc())?);
-    let bytes = Bytes::from_slice(rt.alloc(), text.as_bytes())?;
-    assert_eq!(rt; (bytes.len(), bytes.is_empty()), (6, false));
-    let bytes = Bytes::new(bytes.into_vec());
-    assert!(rt; bytes.equals(&bytes.copy(rt.alloc())?));
-    assert!(rt; text.equals(&text.copy(rt.alloc())?));
+    let copy = text.copy(rt.alloc())?;
+    let again = Text::new(text.into_string(rt.alloc())?);
+    assert!(rt; is_as_told(&copy) && is_as_told(&again));
     Ok(())
 }
 
 #[test]
-fn calls_are_told(rt: HostRuntime) -> Result<(), Fail> {
-    let calls = List::new(one(rt.alloc(), 4u64)?.into_vec());
-    assert_eq!(rt;
-        (calls.len(), calls.is_empty(), calls.get(0)),
-        (1, false, Some(&4))
-    );
-    let fails = Fails {
-        calls,
+fn bytes_are_kept(rt: HostRuntime) -> Result<(), Fail> {
+    let bytes = Bytes::from_slice(rt.alloc(), b"s3cret")?;
+    let copy = bytes.copy(rt.alloc())?;
+    let again = Bytes::new(bytes.into_vec());
+    assert!(rt; again.equals(&copy) && again.as_slice() == b"s3cret".as_slice());
+    assert!(rt; again.len() == 6 && !again.is_empty());
+    Ok(())
+}
+
+/// Call 4 is told to fail, and each from call 7 on.
+fn told_fails(alloc: Global) -> Result<Fails, NoMemory> {
+    Ok(Fails {
+        calls: one(alloc, 4)?,
         from: Some(7),
-    };
-    let told = fails.copy(rt.alloc())?;
-    assert_eq!(rt;
-        (told.is_told(3), told.is_told(4), told.is_told(6)),
-        (false, true, false)
-    );
-    assert_eq!(rt;
-        (told.is_told(7), Fails::never(rt.alloc()).is_told(7)),
-        (true, false)
-    );
+    })
+}
+
+/// Whether calls 3, 4, 6 and 7 are told to fail.
+fn are_told(fails: &Fails) -> [bool; 4] {
+    [
+        fails.is_told(3),
+        fails.is_told(4),
+        fails.is_told(6),
+        fails.is_told(7),
+    ]
+}
+
+#[test]
+fn calls_are_told(rt: HostRuntime) -> Result<(), Fail> {
+    let fails = told_fails(rt.alloc())?.copy(rt.alloc())?;
+    assert_eq!(rt; are_told(&fails), [false, true, false, true]);
+    assert_eq!(rt; are_told(&Fails::never(rt.alloc())), [false; 4]);
+    Ok(())
+}
+
+#[test]
+fn lists_give_their_items(rt: HostRuntime) -> Result<(), Fail> {
+    let list = List::new(one(rt.alloc(), 4u64)?.into_vec());
+    assert_eq!(rt; list.get(0), Some(&4));
+    assert!(rt; list.len() == 1 && !list.is_empty() && list.get(1).is_none());
     Ok(())
 }
 

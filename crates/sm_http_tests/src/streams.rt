@@ -8,7 +8,7 @@ use std::test::Fail;
 /// A name, a stream, and what is told of it: its messages, and twice how it ended.
 type Row = (&'static str, &'static [u8], &'static [u8]);
 
-const ROWS: [Row; 21] = [
+static ROWS: [Row; 21] = [
     ("nothing", b"", b"end 0\nend 0\n"),
     ("a cut head", b"GET", b"cut 3\ncut 3\n"),
     (
@@ -115,12 +115,17 @@ fn told_of(alloc: Global, bytes: &[u8], failing: Option<u64>) -> Result<Vec<u8>,
     told(alloc, &mut source)
 }
 
+/// Whether of a row's bytes is told what is wanted.
+fn is_told(alloc: Global, row: &Row) -> Result<bool, NoMemory> {
+    let text = told_of(alloc, row.1, None)?;
+    Ok(text.as_slice() == row.2)
+}
+
 /// The name of the first row of which something else is told.
 fn first_other(alloc: Global) -> Result<Option<&'static str>, NoMemory> {
-    for (name, bytes, wanted) in ROWS {
-        let text = told_of(alloc, bytes, None)?;
-        if text.as_slice() != wanted {
-            return Ok(Some(name));
+    for row in &ROWS {
+        if !is_told(alloc, row)? {
+            return Ok(Some(row.0));
         }
     }
     Ok(None)
@@ -135,7 +140,7 @@ fn streams_are_read(rt: HostRuntime) -> Result<(), Fail> {
 const TWO: &[u8] = b"GET / HTTP/1.1\r\n\r\nGET / HTTP/1.1\r\n\r\n";
 
 /// The number of a take that fails, and what is told of two messages then.
-const FAILING: [(u64, &[u8]); 4] = [
+static FAILING: [(u64, &[u8]); 4] = [
     (1, b"read fault 0\nread fault 0\n"),
     (3, b"read fault 0\nread fault 0\n"),
     (4, b"0 GET / staying <>\nread fault 0\nread fault 0\n"),
@@ -147,10 +152,10 @@ const FAILING: [(u64, &[u8]); 4] = [
 
 /// The first failing take at which something else is told.
 fn other_fault(alloc: Global) -> Result<Option<u64>, NoMemory> {
-    for (call, wanted) in FAILING {
-        let text = told_of(alloc, TWO, Some(call))?;
-        if text.as_slice() != wanted {
-            return Ok(Some(call));
+    for (call, wanted) in &FAILING {
+        let text = told_of(alloc, TWO, Some(*call))?;
+        if text.as_slice() != *wanted {
+            return Ok(Some(*call));
         }
     }
     Ok(None)
@@ -163,7 +168,7 @@ fn a_source_fails(rt: HostRuntime) -> Result<(), Fail> {
 }
 
 /// How often a part is repeated between two others, and how what is told begins.
-const LONG: [(usize, &str, &str, &str, &[u8]); 5] = [
+static LONG: [(usize, &str, &str, &str, &[u8]); 5] = [
     (16_366, "GET /", "x", " HTTP/1.1\r\n\r\n", b"0 GET /xxx"),
     (
         16_367,

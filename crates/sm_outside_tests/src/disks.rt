@@ -1,6 +1,7 @@
 //! The images that a disk in memory gives for each fill, and a call that is told to fail.
 ghost use Rattle.std.specs.Prelude.{◌<◌};
 
+use crate::rows::{Shown, compare};
 use sm_base::{Bytes, Fails, List, NoMemory};
 use sm_disk::{Disk, DiskFailed, MemoryDisk, QuietDisk};
 use std::alloc::Global;
@@ -122,6 +123,20 @@ pub fn content<D: Disk>(alloc: Global, disk: &mut D, file: u8) -> Result<Vec<u8>
     Ok(bytes)
 }
 
+/// Shows what a file holds.
+pub fn show_content<D: Disk>(
+    alloc: Global,
+    disk: &mut D,
+    file: u8,
+    shown: &mut Shown,
+) -> Result<(), Fail>
+    requires { file < 3 }
+{
+    let bytes = content(alloc, disk, file)?;
+    shown.extend_from_slice(bytes.as_slice())?;
+    Ok(())
+}
+
 fn run<D: Disk>(disk: &mut D, step: &Step) -> Result<(), DiskFailed> {
     match step {
         Step::Write(file, at, piece) if *file < 3 => write(disk, *file, *at, piece),
@@ -142,25 +157,43 @@ fn faults<D: Disk>(disk: &mut D, steps: &[Step]) -> u8 {
     b'0' + faults % 10
 }
 
-fn show_row(alloc: Global, row: &Row) -> Result<Vec<u8>, Fail> {
-    let mut disk = new_disk(alloc, row.fails)?;
-    let mut shown = vec![in alloc; faults(&mut disk, row.steps); 1]?;
-    for fill in [0, 1, 7] {
-        let mut crashed = disk.crash(fill)?;
-        for file in 0..2u8 {
-            shown.push(b' ')?;
-            shown.extend_from_slice(content(alloc, &mut crashed, file)?.as_slice())?;
-        }
+/// Shows what the two files hold.
+fn show_files(alloc: Global, disk: &mut MemoryDisk, shown: &mut Shown) -> Result<(), Fail> {
+    for file in 0..2u8 {
+        shown.push(b' ')?;
+        show_content(alloc, disk, file, shown)?;
     }
-    Ok(shown)
+    Ok(())
+}
+
+/// Shows what a crash with this fill leaves of the two files.
+fn show_crash(alloc: Global, disk: &MemoryDisk, fill: u8, shown: &mut Shown) -> Result<(), Fail> {
+    show_files(alloc, &mut disk.crash(fill)?, shown)
+}
+
+/// Shows what each fill leaves of the two files.
+fn show_crashes(alloc: Global, disk: &MemoryDisk, shown: &mut Shown) -> Result<(), Fail> {
+    for fill in [0, 1, 7] {
+        show_crash(alloc, disk, fill, shown)?;
+    }
+    Ok(())
+}
+
+/// Shows the faults of a row, and what its crashes leave.
+fn show_row(alloc: Global, row: &Row, shown: &mut Shown) -> Result<(), Fail> {
+    let mut disk = new_disk(alloc, row.fails)?;
+    shown.push(faults(&mut disk, row.steps))?;
+    show_crashes(alloc, &disk, shown)
 }
 
 #[test]
 fn crashes_leave_what_the_fills_say(rt: HostRuntime) -> Result<(), Fail> {
     for row in &ROWS {
-        let came = show_row(rt.alloc(), row)?;
-        assert_eq!(rt; came.as_slice(), row.wanted, "{}", row.name);
+        let mut shown = Vec::new(rt.alloc());
+        show_row(rt.alloc(), row, &mut shown)?;
+        compare(&rt, row.name, shown.as_slice(), row.wanted);
     }
-    assert_eq!(rt; faults(&mut QuietDisk, ROWS[0].steps), b'0');
+    let faults = faults(&mut QuietDisk, ROWS[0].steps);
+    compare(&rt, "a quiet disk", &[faults], b"0");
     Ok(())
 }

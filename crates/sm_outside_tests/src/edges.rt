@@ -1,15 +1,13 @@
-//! Connections, and where they come from.
+//! Connections, and where they come from. Shown is of each accept `+`, `.` where none is left, or `!`; and of each
+//! connection what it gives and takes.
 use crate::fakes::FlakyListener;
 use crate::forms::{put_once, read, second};
+use crate::rows::{Shown, compare};
 use sm_base::{Bytes, Fails, List, NoMemory};
 use sm_io::{Accepted, Conn, Edge, ListenerEdge, MemoryConn, MemoryEdge, MemorySink, MemorySource};
 use std::alloc::Global;
 use std::sync::atomic::AtomicU64;
 use std::test::Fail;
-
-/// What came so far: of each accept `+`, `.` where none is left, or `!`; and of each connection what it gives and
-/// takes.
-type Shown = Vec<u8>;
 
 fn conn(alloc: Global, text: &str) -> Result<MemoryConn, NoMemory> {
     let bytes = Bytes::from_slice(alloc, text.as_bytes())?;
@@ -55,61 +53,105 @@ where
     }
 }
 
-/// Four accepts of an edge in memory whose second fails.
-fn of_memory(alloc: Global) -> Result<Shown, Fail> {
-    let mut shown = Vec::new(alloc);
-    let mut edge: MemoryEdge<u8> = MemoryEdge::new(alloc, two_conns(alloc)?, second(alloc)?);
-    for _ in 0..4 {
-        show_accept::<u8, MemoryEdge<u8>>(alloc, &mut edge, &mut shown)?;
+/// So many accepts.
+fn show_accepts<N, E: Edge<N>>(
+    alloc: Global,
+    edge: &mut E,
+    times: u8,
+    shown: &mut Shown,
+) -> Result<(), Fail>
+where
+    E::C: Drop,
+{
+    for _ in 0..times {
+        show_accept::<N, E>(alloc, edge, shown)?;
     }
-    shown.push(b'0' + (edge.back().len() % 10) as u8)?;
-    Ok(shown)
+    Ok(())
 }
 
-/// A connection of an edge in memory comes back with its note, and what was put stands in it.
-fn come_back(alloc: Global) -> Result<Shown, Fail> {
-    let mut shown = Vec::new(alloc);
-    let mut edge: MemoryEdge<u8> = MemoryEdge::new(alloc, two_conns(alloc)?, Fails::never(alloc));
-    if let Accepted::Conn(mut conn) = edge.accept() {
-        put_once(&mut conn, &mut shown)?;
-        edge.done(conn, b'n');
-    }
+/// Four accepts of an edge in memory whose second fails.
+fn show_memory_edge(alloc: Global, shown: &mut Shown) -> Result<(), Fail> {
+    let fails = second(alloc)?;
+    let mut edge: MemoryEdge<u8> = MemoryEdge::new(alloc, two_conns(alloc)?, fails);
+    show_accepts::<u8, MemoryEdge<u8>>(alloc, &mut edge, 4, shown)?;
+    shown.push(b'0' + (edge.back().len() % 10) as u8)?;
+    Ok(())
+}
+
+/// What was put into the connections that came back, each behind its note.
+fn show_back(edge: &MemoryEdge<u8>, shown: &mut Shown) -> Result<(), Fail> {
     for (conn, note) in edge.back() {
         shown.push(*note)?;
         shown.extend_from_slice(conn.sink().taken().as_slice())?;
     }
-    Ok(shown)
+    Ok(())
+}
+
+/// A connection of an edge in memory comes back with its note, and what was put stands in it.
+fn show_return(alloc: Global, shown: &mut Shown) -> Result<(), Fail> {
+    let mut edge: MemoryEdge<u8> = MemoryEdge::new(alloc, two_conns(alloc)?, Fails::never(alloc));
+    if let Accepted::Conn(mut conn) = edge.accept() {
+        put_once(&mut conn, shown)?;
+        edge.done(conn, b'n');
+    }
+    show_back(&edge, shown)
 }
 
 /// Two accepts of a listener, the first of which fails.
-fn of_listener(alloc: Global) -> Result<Shown, Fail> {
-    let mut shown = Vec::new(alloc);
+fn show_listener(alloc: Global, shown: &mut Shown) -> Result<(), Fail> {
     let calls = AtomicU64::new(0);
     let mut edge = ListenerEdge::new(FlakyListener { calls });
-    for _ in 0..2 {
-        show_accept::<u8, ListenerEdge<FlakyListener>>(alloc, &mut edge, &mut shown)?;
+    show_accepts::<u8, ListenerEdge<FlakyListener>>(alloc, &mut edge, 2, shown)
+}
+
+/// What is tried.
+#[derive(Clone, Copy)]
+enum Case {
+    Memory,
+    Return,
+    Listener,
+}
+
+/// A name, what is tried, and what comes of it.
+struct Row {
+    name: &'static str,
+    case: Case,
+    wanted: &'static [u8],
+}
+
+const ROWS: [Row; 3] = [
+    Row {
+        name: "an edge in memory",
+        case: Case::Memory,
+        wanted: b"+one..22222!+two..22222.0",
+    },
+    Row {
+        name: "a connection comes back",
+        case: Case::Return,
+        wanted: b"22222nxyxyxyxyxy",
+    },
+    Row {
+        name: "a listener",
+        case: Case::Listener,
+        wanted: b"!+abc!.2!!!3",
+    },
+];
+
+/// Shows what comes of a case.
+fn show_case(alloc: Global, case: Case, shown: &mut Shown) -> Result<(), Fail> {
+    match case {
+        Case::Memory => show_memory_edge(alloc, shown),
+        Case::Return => show_return(alloc, shown),
+        Case::Listener => show_listener(alloc, shown),
     }
-    Ok(shown)
 }
 
 #[test]
 fn edges_hand_out_connections(rt: HostRuntime) -> Result<(), Fail> {
-    let alloc = rt.alloc();
-    let rows = [
-        (
-            "an edge in memory",
-            of_memory(alloc)?,
-            b"+one..22222!+two..22222.0".as_slice(),
-        ),
-        (
-            "a connection comes back",
-            come_back(alloc)?,
-            b"22222nxyxyxyxyxy",
-        ),
-        ("a listener", of_listener(alloc)?, b"!+abc!.2!!!3"),
-    ];
-    for (name, came, wanted) in &rows {
-        assert_eq!(rt; came.as_slice(), *wanted, "{name}");
+    for row in &ROWS {
+        let mut shown = Vec::new(rt.alloc());
+        show_case(rt.alloc(), row.case, &mut shown)?;
+        compare(&rt, row.name, shown.as_slice(), row.wanted);
     }
     Ok(())
 }

@@ -1,7 +1,8 @@
 //! A disk over a folder of the system.
-use crate::disks::content;
-use sm_disk::{Disk, FileDisk, FolderRefused};
-use std::alloc::Global;
+use crate::disks::show_content;
+use crate::rows::{Shown, compare};
+use sm_disk::{Disk, DiskFailed, FileDisk, FolderRefused};
+use std::alloc::{AllocError, Global};
 use std::fs;
 use std::os::unix::fs::{MetadataExt, symlink};
 use std::path::PathBuf;
@@ -64,15 +65,17 @@ const ROWS: [Row; 6] = [
     },
 ];
 
-/// What came so far.
-type Shown = Vec<u8>;
+/// The folder of a number, which may be there.
+fn folder_of(rt: &HostRuntime, number: u32) -> Result<PathBuf<Global>, Fail> {
+    let name = format!(in rt.alloc(); "sm_outside-{number}")?;
+    let above = std::env::temp_dir(rt)?;
+    Ok(above.join(rt.alloc(), name.as_str())?)
+}
 
 /// A folder that wasn't there.
 fn new_folder(rt: &HostRuntime) -> Result<PathBuf<Global>, Fail> {
-    let above = std::env::temp_dir(rt)?;
     for number in 0..1_000u32 {
-        let name = format!(in rt.alloc(); "sm_outside-{number}")?;
-        let folder = above.join(rt.alloc(), name.as_str())?;
+        let folder = folder_of(rt, number)?;
         if fs::create_dir(rt, folder.as_str()).is_ok() {
             return Ok(folder);
         }
@@ -85,36 +88,65 @@ fn show<T, E>(outcome: &Result<T, E>, shown: &mut Shown) -> Result<(), Fail> {
     Ok(())
 }
 
-fn fill(rt: &HostRuntime, folder: &str) -> Result<(), Fail> {
-    let mut disk = FileDisk::open(rt, rt.alloc(), folder)?;
+/// Writes and cuts file 0 and file 2, and syncs both.
+fn write_files(disk: &mut FileDisk) -> Result<(), DiskFailed> {
     disk.write_at(0, 0, b"abcdef")?;
     disk.write_at(0, 2, b"ZZ")?;
     disk.sync(0)?;
     disk.cut(0, 5)?;
     disk.write_at(2, 0, b"\x01")?;
     disk.sync(2)?;
-    disk.sync(0)?;
+    disk.sync(0)
+}
+
+/// Fills the folder.
+fn fill(rt: &HostRuntime, folder: &str) -> Result<(), Fail> {
+    write_files(&mut FileDisk::open(rt, rt.alloc(), folder)?)?;
     Ok(())
 }
 
-fn show_filled(rt: &HostRuntime, folder: &str, shown: &mut Shown) -> Result<(), Fail> {
-    fill(rt, folder)?;
-    let mut disk = FileDisk::open(rt, rt.alloc(), folder)?;
-    for file in 0..3u8 {
-        if file > 0 {
-            shown.push(b' ')?;
-        }
-        shown.extend_from_slice(content(rt.alloc(), &mut disk, file)?.as_slice())?;
+/// What the files hold, and whether more is read than one of them holds.
+fn show_files(alloc: Global, disk: &mut FileDisk, shown: &mut Shown) -> Result<(), Fail> {
+    show_content(alloc, disk, 0, shown)?;
+    for file in 1..3u8 {
+        shown.push(b' ')?;
+        show_content(alloc, disk, file, shown)?;
     }
     show(&disk.read(0, 4, &mut [0u8; 2]), shown)
+}
+
+/// What a filled folder holds.
+fn show_filled(rt: &HostRuntime, folder: &str, shown: &mut Shown) -> Result<(), Fail> {
+    fill(rt, folder)?;
+    show_files(
+        rt.alloc(),
+        &mut FileDisk::open(rt, rt.alloc(), folder)?,
+        shown,
+    )
+}
+
+/// The path of a file of the folder.
+fn path_of(alloc: Global, folder: &str, name: &str) -> Result<String, AllocError> {
+    format!(in alloc; "{folder}/{name}")
+}
+
+/// The mode of a file of the folder.
+fn mode_of(rt: &HostRuntime, folder: &str, name: &str) -> Result<u32, Fail> {
+    let path = path_of(rt.alloc(), folder, name)?;
+    Ok(fs::metadata(rt, path.as_str())?.mode() % 512)
+}
+
+/// The last nine bits of a mode, in octal digits.
+fn show_mode(alloc: Global, mode: u32, shown: &mut Shown) -> Result<(), Fail> {
+    let text = format!(in alloc; "{mode:o} ")?;
+    shown.extend_from_slice(text.as_bytes())?;
+    Ok(())
 }
 
 fn show_modes(rt: &HostRuntime, folder: &str, shown: &mut Shown) -> Result<(), Fail> {
     fill(rt, folder)?;
     for name in &NAMES {
-        let path = format!(in rt.alloc(); "{folder}/{name}")?;
-        let mode = fs::metadata(rt, path.as_str())?.mode() % 512;
-        shown.extend_from_slice(format!(in rt.alloc(); "{mode:o} ")?.as_bytes())?;
+        show_mode(rt.alloc(), mode_of(rt, folder, name)?, shown)?;
     }
     Ok(())
 }
@@ -129,10 +161,15 @@ fn show_opened(opened: &Result<FileDisk, FolderRefused>, shown: &mut Shown) -> R
     Ok(())
 }
 
+/// What comes of an opening.
+fn show_opening(rt: &HostRuntime, folder: &str, shown: &mut Shown) -> Result<(), Fail> {
+    show_opened(&FileDisk::open(rt, rt.alloc(), folder), shown)
+}
+
 fn open_twice(rt: &HostRuntime, folder: &str, shown: &mut Shown) -> Result<(), Fail> {
     let first = FileDisk::open(rt, rt.alloc(), folder);
     show_opened(&first, shown)?;
-    show_opened(&FileDisk::open(rt, rt.alloc(), folder), shown)
+    show_opening(rt, folder, shown)
 }
 
 fn show_lengths(disk: &mut FileDisk, shown: &mut Shown) -> Result<(), Fail> {
@@ -143,22 +180,46 @@ fn show_lengths(disk: &mut FileDisk, shown: &mut Shown) -> Result<(), Fail> {
     Ok(())
 }
 
-fn use_full(rt: &HostRuntime, folder: &str, file: u8, shown: &mut Shown) -> Result<(), Fail> {
-    let mut disk = FileDisk::open(rt, rt.alloc(), folder)?;
-    show(&disk.write_at(file, 0, b"a"), shown)?;
-    show(&disk.cut(file, 0), shown)?;
+/// What comes of a sync of each file.
+fn show_syncs(disk: &mut FileDisk, shown: &mut Shown) -> Result<(), Fail> {
     for file in 0..3u8 {
         show(&disk.sync(file), shown)?;
     }
+    Ok(())
+}
+
+/// What comes of a write, a cut, the syncs and the lengths.
+fn show_faults(disk: &mut FileDisk, file: u8, shown: &mut Shown) -> Result<(), Fail> {
+    show(&disk.write_at(file, 0, b"a"), shown)?;
+    show(&disk.cut(file, 0), shown)?;
+    show_syncs(disk, shown)?;
+    show_lengths(disk, shown)
+}
+
+/// What comes of a folder with a link to `/dev/full`.
+fn use_full(rt: &HostRuntime, folder: &str, file: u8, shown: &mut Shown) -> Result<(), Fail> {
+    let mut disk = FileDisk::open(rt, rt.alloc(), folder)?;
+    show_faults(&mut disk, file, shown)
+}
+
+/// The lengths in a folder that is opened again.
+fn show_opened_lengths(rt: &HostRuntime, folder: &str, shown: &mut Shown) -> Result<(), Fail> {
+    let mut disk = FileDisk::open(rt, rt.alloc(), folder)?;
     show_lengths(&mut disk, shown)
+}
+
+/// Makes a file of the folder a link to `/dev/full`.
+fn link_full(rt: &HostRuntime, folder: &str, name: &str) -> Result<(), Fail> {
+    let link = path_of(rt.alloc(), folder, name)?;
+    symlink(rt, "/dev/full", link.as_str())?;
+    Ok(())
 }
 
 fn show_full(rt: &HostRuntime, folder: &str, file: u8, shown: &mut Shown) -> Result<(), Fail> {
     let name = NAMES.get(file as usize).copied().unwrap_or("root");
-    let link = format!(in rt.alloc(); "{folder}/{name}")?;
-    symlink(rt, "/dev/full", link.as_str())?;
+    link_full(rt, folder, name)?;
     use_full(rt, folder, file, shown)?;
-    show_lengths(&mut FileDisk::open(rt, rt.alloc(), folder)?, shown)
+    show_opened_lengths(rt, folder, shown)
 }
 
 fn show_case(rt: &HostRuntime, folder: &str, case: Case, shown: &mut Shown) -> Result<(), Fail> {
@@ -167,7 +228,7 @@ fn show_case(rt: &HostRuntime, folder: &str, case: Case, shown: &mut Shown) -> R
         Case::Modes => show_modes(rt, folder, shown),
         Case::Twice => {
             open_twice(rt, folder, shown)?;
-            show_opened(&FileDisk::open(rt, rt.alloc(), folder), shown)
+            show_opening(rt, folder, shown)
         }
         Case::Full(file) => show_full(rt, folder, file, shown),
     }
@@ -187,7 +248,7 @@ fn show_row(rt: &HostRuntime, case: Case) -> Result<Shown, Fail> {
 fn a_folder_is_a_disk(rt: HostRuntime) -> Result<(), Fail> {
     for row in &ROWS {
         let came = show_row(&rt, row.case)?;
-        assert_eq!(rt; came.as_slice(), row.wanted, "{}", row.name);
+        compare(&rt, row.name, came.as_slice(), row.wanted);
     }
     Ok(())
 }

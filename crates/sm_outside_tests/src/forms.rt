@@ -1,5 +1,6 @@
 //! Sources, sinks, words and clocks.
 use crate::fakes::{FlakyReader, FlakyWriter, SetClock, Sevens};
+use crate::rows::{Shown, compare};
 use sm_base::moment::LAST_READING;
 use sm_base::{Bytes, Fails, List, Moment, NoMemory};
 use sm_io::{
@@ -132,9 +133,6 @@ const ROWS: [Row; 24] = [
     ("the system's clock is past 2020", Case::SystemClock, b"."),
 ];
 
-/// What came so far.
-type Shown = Vec<u8>;
-
 /// The second call is told to fail.
 pub fn second(alloc: Global) -> Result<Fails, NoMemory> {
     Ok(Fails {
@@ -246,24 +244,31 @@ fn show_source(rt: &HostRuntime, case: Case, shown: &mut Shown) -> Result<(), Fa
     }
 }
 
+/// Two puts to a sink in memory, and what it took.
+fn put_and_show(sink: &mut MemorySink, shown: &mut Shown) -> Result<(), Fail> {
+    put(sink, shown)?;
+    shown.extend_from_slice(sink.taken().as_slice())?;
+    Ok(())
+}
+
+/// A sink in memory with a step of 3, whose second call fails.
+fn show_memory_sink(alloc: Global, shown: &mut Shown) -> Result<(), Fail> {
+    let fails = second(alloc)?;
+    put_and_show(&mut sendable(MemorySink::new(alloc, 3, fails)), shown)
+}
+
+/// Two puts to a file.
+fn show_file_sink(rt: &HostRuntime, path: &str, shown: &mut Shown) -> Result<(), Fail> {
+    let file = fs::create(rt, path)?;
+    put(&mut sendable(StreamSink::new(file)), shown)
+}
+
 fn show_sink(rt: &HostRuntime, case: Case, shown: &mut Shown) -> Result<(), Fail> {
-    let alloc = rt.alloc();
     match case {
-        Case::MemorySink => {
-            let mut sink = sendable(MemorySink::new(alloc, 3, second(alloc)?));
-            put(&mut sink, shown)?;
-            shown.extend_from_slice(sink.taken().as_slice())?;
-            Ok(())
-        }
+        Case::MemorySink => show_memory_sink(rt.alloc(), shown),
         Case::QuietSink => put(&mut sendable(QuietSink), shown),
-        Case::FullFile => put(
-            &mut sendable(StreamSink::new(fs::create(rt, "/dev/full")?)),
-            shown,
-        ),
-        Case::NullFile => put(
-            &mut sendable(StreamSink::new(fs::create(rt, "/dev/null")?)),
-            shown,
-        ),
+        Case::FullFile => show_file_sink(rt, "/dev/full", shown),
+        Case::NullFile => show_file_sink(rt, "/dev/null", shown),
         _ => put_once(
             &mut sendable(StreamSink::new(FlakyWriter { calls: 0 })),
             shown,
@@ -345,7 +350,7 @@ fn show_row(rt: &HostRuntime, case: Case) -> Result<Shown, Fail> {
 fn each_form_does_what_it_says(rt: HostRuntime) -> Result<(), Fail> {
     for (name, case, wanted) in &ROWS {
         let came = show_row(&rt, *case)?;
-        assert_eq!(rt; came.as_slice(), *wanted, "{name}");
+        compare(&rt, name, came.as_slice(), wanted);
     }
     Ok(())
 }

@@ -1,9 +1,10 @@
 //! A journal's worked bytes, its limits, and each device call failing in turn.
 use crate::disks::content;
+use crate::rows::compare;
 use sm_base::{Bytes, Fails, List, NoMemory};
 use sm_disk::{Disk, MemoryDisk};
 use sm_journal::{Appended, Damage, Journal, OpenRefused};
-use std::alloc::Global;
+use std::alloc::{AllocError, Global};
 use std::test::Fail;
 
 /// The body of an entry.
@@ -111,13 +112,14 @@ fn disk_of(alloc: Global, bytes: &[u8], fails: Fails) -> Result<MemoryDisk, NoMe
     )
 }
 
-fn file_of(alloc: Global, case: &Case) -> Result<Vec<u8>, Fail> {
-    let mut bytes = Vec::from_slice(alloc, &WHOLE)?;
+/// A disk with the file of a case.
+fn case_disk(alloc: Global, case: &Case) -> Result<MemoryDisk, NoMemory> {
+    let mut bytes = WHOLE;
     if let Some(byte) = bytes.get_mut(case.place) {
         *byte = case.byte;
     }
-    bytes.truncate(case.length);
-    Ok(bytes)
+    let length = case.length.min(bytes.len());
+    disk_of(alloc, &bytes[..length], Fails::never(alloc))
 }
 
 /// What opening finds on the disk, and the disk again.
@@ -136,15 +138,26 @@ fn find(alloc: Global, disk: MemoryDisk) -> (Found, MemoryDisk) {
     }
 }
 
+/// What opening finds of a case.
+fn find_case(alloc: Global, case: &Case) -> Result<Found, NoMemory> {
+    let (found, _) = find(alloc, case_disk(alloc, case)?);
+    Ok(found)
+}
+
+/// The name of the first case in which something else is found, what that is, and what is wanted.
+fn wrong_case(alloc: Global) -> Result<Option<(&'static str, Found, Found)>, NoMemory> {
+    for case in &CASES {
+        let found = find_case(alloc, case)?;
+        if found != case.found {
+            return Ok(Some((case.name, found, case.found)));
+        }
+    }
+    Ok(None)
+}
+
 #[test]
 fn files_are_recovered_or_damaged(rt: HostRuntime) -> Result<(), Fail> {
-    let alloc = rt.alloc();
-    for case in &CASES {
-        let bytes = file_of(alloc, case)?;
-        let disk = disk_of(alloc, bytes.as_slice(), Fails::never(alloc))?;
-        let (found, _) = find(alloc, disk);
-        assert_eq!(rt; found, case.found, "{}", case.name);
-    }
+    assert_eq!(rt; wrong_case(rt.alloc())?, None);
     Ok(())
 }
 
@@ -159,44 +172,77 @@ fn add<D: Disk>(journal: &mut Journal<D>, body: &[u8]) -> Appended {
     }
 }
 
-/// A body, and what it is answered by a journal with a limit of 64.
-const ANSWERS: [(usize, Appended); 4] = [
-    (22, Appended::Ok),
-    (22, Appended::Ok),
-    (22, Appended::Full(90)),
-    (1_048_577, Appended::TooLong(1_048_577)),
+/// The length of a body, what it is answered, and the length of the journal then.
+type Answer = (usize, Appended, u64);
+
+/// The answers of a journal with a limit of 64.
+const ANSWERS: [Answer; 4] = [
+    (22, Appended::Ok, 36),
+    (22, Appended::Ok, 63),
+    (22, Appended::Full(90), 63),
+    (1_048_577, Appended::TooLong(1_048_577), 63),
 ];
 
-/// The answers to the bodies, and the length of the journal then.
-fn answers(alloc: Global) -> Result<(Vec<Appended>, u64), Fail> {
-    let disk = disk_of(alloc, b"", Fails::never(alloc))?;
-    let Ok((mut journal, _)) = Journal::open(alloc, disk, 0, 64) else {
-        return Err("not opened".into());
-    };
-    let mut answers = Vec::new(alloc);
-    for (length, _) in &ANSWERS {
-        let body = vec![in alloc; 0u8; *length]?;
-        answers.push(add(&mut journal, body.as_slice()))?;
+/// The journal, if it was opened.
+fn opened(alloc: Global, disk: MemoryDisk) -> Option<Journal<MemoryDisk>> {
+    match Journal::open(alloc, disk, 0, 64) {
+        Ok((journal, _bodies)) => Some(journal),
+        Err(_refused) => None,
     }
-    Ok((answers, journal.length()))
 }
 
-/// The file of a journal that was made new, with the one body.
-fn write_one(alloc: Global) -> Result<Vec<u8>, Fail> {
+/// A journal that was made new, with a limit of 64.
+fn new_journal(alloc: Global) -> Result<Journal<MemoryDisk>, Fail> {
     let disk = disk_of(alloc, b"", Fails::never(alloc))?;
-    let Ok((mut journal, _)) = Journal::open(alloc, disk, 0, 64) else {
-        return Err("not opened".into());
-    };
+    match opened(alloc, disk) {
+        Some(journal) => Ok(journal),
+        None => Err("not opened".into()),
+    }
+}
+
+/// The answer to a body of so many zeros.
+fn answer<D: Disk>(
+    alloc: Global,
+    journal: &mut Journal<D>,
+    length: usize,
+) -> Result<Answer, AllocError> {
+    let body = vec![in alloc; 0u8; length]?;
+    let answer = add(journal, body.as_slice());
+    Ok((length, answer, journal.length()))
+}
+
+/// The first answer that is another one than is wanted, and the wanted one.
+fn wrong_answer<D: Disk>(
+    alloc: Global,
+    journal: &mut Journal<D>,
+) -> Result<Option<(Answer, Answer)>, AllocError> {
+    for wanted in &ANSWERS {
+        let came = answer(alloc, journal, wanted.0)?;
+        if came != *wanted {
+            return Ok(Some((came, *wanted)));
+        }
+    }
+    Ok(None)
+}
+
+/// The file of a journal, after the one body was added.
+fn write_one(alloc: Global, mut journal: Journal<MemoryDisk>) -> Result<Vec<u8>, Fail> {
     add(&mut journal, &BODY);
     content(alloc, &mut journal.close(), 0)
 }
 
 #[test]
-fn limits_and_bytes_are_exact(rt: HostRuntime) -> Result<(), Fail> {
-    let (answers, length) = answers(rt.alloc())?;
-    let wanted = ANSWERS.map(|(_, answer)| answer);
-    assert_eq!(rt; (answers.as_slice(), length), (wanted.as_slice(), 63));
-    assert_eq!(rt; write_one(rt.alloc())?.as_slice(), WHOLE.as_slice());
+fn limits_are_exact(rt: HostRuntime) -> Result<(), Fail> {
+    let mut journal = new_journal(rt.alloc())?;
+    assert_eq!(rt; wrong_answer(rt.alloc(), &mut journal)?, None);
+    Ok(())
+}
+
+#[test]
+fn bytes_are_exact(rt: HostRuntime) -> Result<(), Fail> {
+    let journal = new_journal(rt.alloc())?;
+    let came = write_one(rt.alloc(), journal)?;
+    compare(&rt, "a journal of one body", came.as_slice(), &WHOLE);
     Ok(())
 }
 
@@ -248,17 +294,22 @@ fn run(alloc: Global, disk: MemoryDisk) -> Left {
     }
 }
 
-/// How many of the bodies stand on the disk, if it holds just the first ones.
-fn count(alloc: Global, disk: MemoryDisk) -> Option<usize> {
-    let Ok((_, bodies)) = Journal::open(alloc, disk, 0, 1000) else {
-        return None;
-    };
-    for (body, wanted) in bodies.as_slice().iter().zip(&BODIES) {
+/// How many bodies there are, if they are just the first ones of a run.
+fn count_first(bodies: &[Bytes]) -> Option<usize> {
+    for (body, wanted) in bodies.iter().zip(&BODIES) {
         if body.as_slice() != *wanted {
             return None;
         }
     }
     Some(bodies.len())
+}
+
+/// How many of the bodies stand on the disk, if it holds just the first ones.
+fn count(alloc: Global, disk: MemoryDisk) -> Option<usize> {
+    match Journal::open(alloc, disk, 0, 1000) {
+        Ok((_journal, bodies)) => count_first(bodies.as_slice()),
+        Err(_refused) => None,
+    }
 }
 
 fn fails(alloc: Global, call: u64, later: bool) -> Result<Fails, Fail> {
@@ -273,17 +324,29 @@ fn is_kept(alloc: Global, left: &Left, fill: u8) -> Result<bool, Fail> {
     Ok(found == Some(left.kept) || left.unsure && found == left.kept.checked_add(1))
 }
 
+/// The first fill where a crash leaves something else than the run may leave.
+fn lost_after(alloc: Global, left: &Left) -> Result<Option<u8>, Fail> {
+    for fill in [0, 1, 7] {
+        if !is_kept(alloc, left, fill)? {
+            return Ok(Some(fill));
+        }
+    }
+    Ok(None)
+}
+
+/// The first fill where a crash after a run with this fault leaves something else than the run may leave.
+fn lost_by_fault(alloc: Global, call: u64, later: bool) -> Result<Option<u8>, Fail> {
+    let disk = disk_of(alloc, b"", fails(alloc, call, later)?)?;
+    lost_after(alloc, &run(alloc, disk))
+}
+
 /// The first call, whether later calls fail too, and the first fill, where a crash leaves something else than the run
 /// may leave.
 fn lost_in_a_run(alloc: Global) -> Result<Option<(u64, bool, u8)>, Fail> {
     for call in 1..=30u64 {
         for later in [false, true] {
-            let disk = disk_of(alloc, b"", fails(alloc, call, later)?)?;
-            let left = run(alloc, disk);
-            for fill in [0, 1, 7] {
-                if !is_kept(alloc, &left, fill)? {
-                    return Ok(Some((call, later, fill)));
-                }
+            if let Some(fill) = lost_by_fault(alloc, call, later)? {
+                return Ok(Some((call, later, fill)));
             }
         }
     }
@@ -296,17 +359,36 @@ fn is_whole(alloc: Global, disk: &MemoryDisk, fill: u8) -> Result<bool, Fail> {
     Ok(found == Found::Records(1, 36))
 }
 
+/// The worked bytes, and a torn record behind them, on a disk that fails from this call on.
+fn torn_disk(alloc: Global, call: u64) -> Result<MemoryDisk, Fail> {
+    let mut bytes = [0u8; 41];
+    bytes[..36].copy_from_slice(&WHOLE);
+    bytes[36..].copy_from_slice(b"\x01junk");
+    let fails = fails(alloc, call, true)?;
+    Ok(disk_of(alloc, &bytes, fails)?)
+}
+
+/// The first fill where a crash leaves something else than the one record.
+fn broken_after(alloc: Global, disk: &MemoryDisk) -> Result<Option<u8>, Fail> {
+    for fill in [0, 1, 7] {
+        if !is_whole(alloc, disk, fill)? {
+            return Ok(Some(fill));
+        }
+    }
+    Ok(None)
+}
+
+/// The first fill where a crash, after an opening with this fault, leaves something else than the one record.
+fn broken_by_fault(alloc: Global, call: u64) -> Result<Option<u8>, Fail> {
+    let (_, disk) = find(alloc, torn_disk(alloc, call)?);
+    broken_after(alloc, &disk)
+}
+
 /// The first call and fill, where a crash in an opening leaves something else than the one record.
 fn lost_at_opening(alloc: Global) -> Result<Option<(u64, u8)>, Fail> {
-    let mut bytes = Vec::from_slice(alloc, &WHOLE)?;
-    bytes.extend_from_slice(b"\x01junk")?;
     for call in 1..=6u64 {
-        let disk = disk_of(alloc, bytes.as_slice(), fails(alloc, call, true)?)?;
-        let (_, disk) = find(alloc, disk);
-        for fill in [0, 1, 7] {
-            if !is_whole(alloc, &disk, fill)? {
-                return Ok(Some((call, fill)));
-            }
+        if let Some(fill) = broken_by_fault(alloc, call)? {
+            return Ok(Some((call, fill)));
         }
     }
     Ok(None)

@@ -16,3 +16,5 @@ mod folders;
 mod forms;
 #[cfg(test)]
 mod journals;
+#[cfg(test)]
+mod rows;

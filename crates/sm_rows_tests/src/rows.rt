@@ -233,106 +233,108 @@ fn first_difference(alloc: Global, cases: &[Case]) -> Result<String, Fail> {
     Ok(String::new(alloc))
 }
 
+/// Calls on one table, one after the other.
+static CASES: [Case; 22] = [
+    // A name that another one begins with its ARN, made before it.
+    (
+        Call::Add("app-AAAAAA", 1, 0),
+        "added",
+        "app-AAAAAA 0, next 1",
+    ),
+    (
+        Call::Add("app", 0, 0),
+        "added",
+        "app-AAAAAA 0, app 1, next 2",
+    ),
+    (Call::Find("app", 0), "app 1", "app-AAAAAA 0, app 1, next 2"),
+    // The whole ARN of the one is the other's without its last seven characters.
+    (
+        Call::Find("app-AAAAAA", 0),
+        "app 1",
+        "app-AAAAAA 0, app 1, next 2",
+    ),
+    (
+        Call::Find("app-AAAAAA-BBBBBB", 0),
+        "app-AAAAAA 0",
+        "app-AAAAAA 0, app 1, next 2",
+    ),
+    (
+        Call::Find("app-AAAAA", 0),
+        "none",
+        "app-AAAAAA 0, app 1, next 2",
+    ),
+    // By the whole ARN alone the other is not met.
+    (
+        Call::FindArn("app-AAAAAA", 0),
+        "app 1",
+        "app-AAAAAA 0, app 1, next 2",
+    ),
+    (
+        Call::FindArn("app-AAAAAA-BBBBBB", 0),
+        "app-AAAAAA 0",
+        "app-AAAAAA 0, app 1, next 2",
+    ),
+    // Up to its date a secret is there and holds its name, and from then on it is absent and goes.
+    (
+        Call::Schedule(1, 100),
+        "scheduled",
+        "app-AAAAAA 0, app 1, next 2",
+    ),
+    (
+        Call::Find("app", 99),
+        "app 1",
+        "app-AAAAAA 0, app 1, next 2",
+    ),
+    (
+        Call::Find("app", 100),
+        "none",
+        "app-AAAAAA 0, app 1, next 2",
+    ),
+    (
+        Call::Find("app-AAAAAA", 100),
+        "app-AAAAAA 0",
+        "app-AAAAAA 0, app 1, next 2",
+    ),
+    (
+        Call::FindArn("app-AAAAAA", 99),
+        "app 1",
+        "app-AAAAAA 0, app 1, next 2",
+    ),
+    (
+        Call::FindArn("app-AAAAAA", 100),
+        "none",
+        "app-AAAAAA 0, app 1, next 2",
+    ),
+    (Call::Nothing(99), "nothing", "app-AAAAAA 0, app 1, next 2"),
+    (
+        Call::Add("app", 2, 99),
+        "held",
+        "app-AAAAAA 0, app 1, next 2",
+    ),
+    (
+        Call::Add("app", 2, 100),
+        "added",
+        "app-AAAAAA 0, app 2, next 3",
+    ),
+    // No serial is given twice.
+    (Call::Drop(2), "dropped", "app-AAAAAA 0, next 3"),
+    (Call::Drop(2), "no secret", "app-AAAAAA 0, next 3"),
+    (Call::Add("b", 3, 0), "added", "app-AAAAAA 0, b 3, next 4"),
+    (
+        Call::Places,
+        "2 rows: app-AAAAAA 0, b 3, none",
+        "app-AAAAAA 0, b 3, next 4",
+    ),
+    // A name has no colon.
+    (
+        Call::Read("arn:aws"),
+        "no name at 3",
+        "app-AAAAAA 0, b 3, next 4",
+    ),
+];
+
 #[test]
 fn rows_change(rt: HostRuntime) -> Result<(), Fail> {
-    let cases = [
-        // A name that another one begins with its ARN, made before it.
-        (
-            Call::Add("app-AAAAAA", 1, 0),
-            "added",
-            "app-AAAAAA 0, next 1",
-        ),
-        (
-            Call::Add("app", 0, 0),
-            "added",
-            "app-AAAAAA 0, app 1, next 2",
-        ),
-        (Call::Find("app", 0), "app 1", "app-AAAAAA 0, app 1, next 2"),
-        // The whole ARN of the one is the other's without its last seven characters.
-        (
-            Call::Find("app-AAAAAA", 0),
-            "app 1",
-            "app-AAAAAA 0, app 1, next 2",
-        ),
-        (
-            Call::Find("app-AAAAAA-BBBBBB", 0),
-            "app-AAAAAA 0",
-            "app-AAAAAA 0, app 1, next 2",
-        ),
-        (
-            Call::Find("app-AAAAA", 0),
-            "none",
-            "app-AAAAAA 0, app 1, next 2",
-        ),
-        // By the whole ARN alone the other is not met.
-        (
-            Call::FindArn("app-AAAAAA", 0),
-            "app 1",
-            "app-AAAAAA 0, app 1, next 2",
-        ),
-        (
-            Call::FindArn("app-AAAAAA-BBBBBB", 0),
-            "app-AAAAAA 0",
-            "app-AAAAAA 0, app 1, next 2",
-        ),
-        // Up to its date a secret is there and holds its name, and from then on it is absent and goes.
-        (
-            Call::Schedule(1, 100),
-            "scheduled",
-            "app-AAAAAA 0, app 1, next 2",
-        ),
-        (
-            Call::Find("app", 99),
-            "app 1",
-            "app-AAAAAA 0, app 1, next 2",
-        ),
-        (
-            Call::Find("app", 100),
-            "none",
-            "app-AAAAAA 0, app 1, next 2",
-        ),
-        (
-            Call::Find("app-AAAAAA", 100),
-            "app-AAAAAA 0",
-            "app-AAAAAA 0, app 1, next 2",
-        ),
-        (
-            Call::FindArn("app-AAAAAA", 99),
-            "app 1",
-            "app-AAAAAA 0, app 1, next 2",
-        ),
-        (
-            Call::FindArn("app-AAAAAA", 100),
-            "none",
-            "app-AAAAAA 0, app 1, next 2",
-        ),
-        (Call::Nothing(99), "nothing", "app-AAAAAA 0, app 1, next 2"),
-        (
-            Call::Add("app", 2, 99),
-            "held",
-            "app-AAAAAA 0, app 1, next 2",
-        ),
-        (
-            Call::Add("app", 2, 100),
-            "added",
-            "app-AAAAAA 0, app 2, next 3",
-        ),
-        // No serial is given twice.
-        (Call::Drop(2), "dropped", "app-AAAAAA 0, next 3"),
-        (Call::Drop(2), "no secret", "app-AAAAAA 0, next 3"),
-        (Call::Add("b", 3, 0), "added", "app-AAAAAA 0, b 3, next 4"),
-        (
-            Call::Places,
-            "2 rows: app-AAAAAA 0, b 3, none",
-            "app-AAAAAA 0, b 3, next 4",
-        ),
-        // A name has no colon.
-        (
-            Call::Read("arn:aws"),
-            "no name at 3",
-            "app-AAAAAA 0, b 3, next 4",
-        ),
-    ];
-    assert_eq!(rt; first_difference(rt.alloc(), &cases)?.as_str(), "");
+    assert_eq!(rt; first_difference(rt.alloc(), &CASES)?.as_str(), "");
     Ok(())
 }

@@ -297,230 +297,237 @@ fn first_difference(alloc: Global, cases: &[Case]) -> Result<String, Fail> {
     Ok(String::new(alloc))
 }
 
+const CURRENT: &str = "AWSCURRENT";
+
+/// As many labels as a secret may have beside AWSCURRENT.
+const MANY: &str =
+    "a=1 b=1 c=1 d=1 e=1 f=1 g=1 h=1 i=1 j=1 k=1 l=1 m=1 n=1 o=1 p=1 q=1 r=1 s=1 t=1 AWSCURRENT=1";
+
+/// The same with AWSPENDING, which the limit does not count.
+const MORE: &str =
+    "a=1 b=1 c=1 d=1 e=1 f=1 g=1 h=1 i=1 j=1 k=1 l=1 m=1 n=1 o=1 p=1 q=1 r=1 s=1 t=1 AWSCURRENT=1 AWSPENDING=1";
+
+/// Calls on one secret, one after the other.
+static CASES: [Case; 55] = [
+    // A repeat of the token with the same value and with another.
+    (Call::Put(1, "s3cret", CURRENT), "added", "AWSCURRENT=1"),
+    (
+        Call::Put(1, "s3cret", "blue"),
+        "same AWSCURRENT",
+        "AWSCURRENT=1",
+    ),
+    (Call::Put(1, "other", CURRENT), "exists", "AWSCURRENT=1"),
+    // Each new version takes AWSCURRENT, and the one before it keeps AWSPREVIOUS.
+    (
+        Call::Put(2, "b", CURRENT),
+        "added",
+        "AWSCURRENT=2 AWSPREVIOUS=1",
+    ),
+    (
+        Call::Put(3, "c", CURRENT),
+        "added",
+        "AWSCURRENT=3 AWSPREVIOUS=2",
+    ),
+    // AWSCURRENT moves only from its holder, and is not removed.
+    (
+        Call::Move(CURRENT, 0, 3),
+        "keeps current",
+        "AWSCURRENT=3 AWSPREVIOUS=2",
+    ),
+    (
+        Call::Move(CURRENT, 1, 2),
+        "held by 3",
+        "AWSCURRENT=3 AWSPREVIOUS=2",
+    ),
+    (
+        Call::Move(CURRENT, 1, 0),
+        "held by 3",
+        "AWSCURRENT=3 AWSPREVIOUS=2",
+    ),
+    (
+        Call::Move(CURRENT, 1, 3),
+        "ok",
+        "AWSCURRENT=1 AWSPREVIOUS=3",
+    ),
+    // A source is to be there, and to hold the label.
+    (
+        Call::Move("blue", 2, 1),
+        "held by none",
+        "AWSCURRENT=1 AWSPREVIOUS=3",
+    ),
+    (
+        Call::Move("blue", 9, 8),
+        "not there 8",
+        "AWSCURRENT=1 AWSPREVIOUS=3",
+    ),
+    (
+        Call::Move("blue", 9, 1),
+        "not there 9",
+        "AWSCURRENT=1 AWSPREVIOUS=3",
+    ),
+    (
+        Call::Move("blue", 2, 0),
+        "ok",
+        "AWSCURRENT=1 AWSPREVIOUS=3 blue=2",
+    ),
+    (
+        Call::Move("AWSPREVIOUS", 3, 0),
+        "ok",
+        "AWSCURRENT=1 blue=2 AWSPREVIOUS=3",
+    ),
+    (Call::Move("blue", 0, 2), "ok", "AWSCURRENT=1 AWSPREVIOUS=3"),
+    // The first version has the labels in the order in which they first occur, AWSCURRENT last.
+    (Call::Fresh, "fresh", ""),
+    (
+        Call::Put(1, "v", "AWSPENDING AWSCURRENT"),
+        "added",
+        "AWSPENDING=1 AWSCURRENT=1",
+    ),
+    (
+        Call::Put(2, "w", "AWSCURRENT b a b"),
+        "added",
+        "AWSPENDING=1 b=2 a=2 AWSCURRENT=2 AWSPREVIOUS=1",
+    ),
+    (
+        Call::Put(2, "w", ""),
+        "same b a AWSCURRENT",
+        "AWSPENDING=1 b=2 a=2 AWSCURRENT=2 AWSPREVIOUS=1",
+    ),
+    (
+        Call::Put(3, "x", "AWSCURRENT AWSPREVIOUS"),
+        "added",
+        "AWSPENDING=1 b=2 a=2 AWSCURRENT=3 AWSPREVIOUS=2",
+    ),
+    // By id, by label, by both, and by neither.
+    (
+        Call::Find(0, ""),
+        "version 3",
+        "AWSPENDING=1 b=2 a=2 AWSCURRENT=3 AWSPREVIOUS=2",
+    ),
+    (
+        Call::Find(1, ""),
+        "version 1",
+        "AWSPENDING=1 b=2 a=2 AWSCURRENT=3 AWSPREVIOUS=2",
+    ),
+    (
+        Call::Find(0, "b"),
+        "version 2",
+        "AWSPENDING=1 b=2 a=2 AWSCURRENT=3 AWSPREVIOUS=2",
+    ),
+    (
+        Call::Find(2, "a"),
+        "version 2",
+        "AWSPENDING=1 b=2 a=2 AWSCURRENT=3 AWSPREVIOUS=2",
+    ),
+    (
+        Call::Find(1, "a"),
+        "differ",
+        "AWSPENDING=1 b=2 a=2 AWSCURRENT=3 AWSPREVIOUS=2",
+    ),
+    (
+        Call::Find(9, "a"),
+        "none",
+        "AWSPENDING=1 b=2 a=2 AWSCURRENT=3 AWSPREVIOUS=2",
+    ),
+    (
+        Call::Find(1, "c"),
+        "none",
+        "AWSPENDING=1 b=2 a=2 AWSCURRENT=3 AWSPREVIOUS=2",
+    ),
+    // The limits of versions and labels.
+    (Call::Fresh, "fresh", ""),
+    (Call::Fill(999), "filled", "AWSCURRENT=999 AWSPREVIOUS=998"),
+    (
+        Call::Put(1000, "v", "AWSCURRENT"),
+        "added",
+        "AWSCURRENT=1000 AWSPREVIOUS=999",
+    ),
+    (
+        Call::Put(1001, "v", "AWSCURRENT"),
+        "limit of 1000 versions",
+        "AWSCURRENT=1000 AWSPREVIOUS=999",
+    ),
+    (
+        Call::Put(1000, "v", ""),
+        "same AWSCURRENT",
+        "AWSCURRENT=1000 AWSPREVIOUS=999",
+    ),
+    (Call::Fresh, "fresh", ""),
+    (Call::LastSerial, "last", ""),
+    (
+        Call::Put(1, "v", "AWSCURRENT"),
+        "limit of 1000 versions",
+        "",
+    ),
+    (Call::Fresh, "fresh", ""),
+    (
+        Call::Put(1, "v", "AWSCURRENT a b c d e f g h i j k l m n o p q r s t"),
+        "added",
+        MANY,
+    ),
+    (Call::Put(2, "w", "u"), "limit of 20 labels", MANY),
+    (Call::Move("u", 1, 0), "limit of 20 labels", MANY),
+    (Call::Move("AWSPENDING", 1, 0), "ok", MORE),
+    // A rotation under way.
+    (Call::Fresh, "fresh", ""),
+    (Call::Put(1, "v", "AWSCURRENT"), "added", "AWSCURRENT=1"),
+    (Call::Begin(2), "ok", "AWSCURRENT=1 AWSPENDING=2"),
+    (Call::Settle, "Create 3", "AWSCURRENT=1 AWSPENDING=2"),
+    (
+        Call::Move("AWSCURRENT", 2, 1),
+        "empty 2",
+        "AWSCURRENT=1 AWSPENDING=2",
+    ),
+    (
+        Call::Put(2, "w", "AWSPENDING"),
+        "added",
+        "AWSCURRENT=1 AWSPENDING=2",
+    ),
+    (Call::Settle, "Set 1", "AWSCURRENT=1 AWSPENDING=2"),
+    (
+        Call::Move("AWSCURRENT", 2, 1),
+        "ok",
+        "AWSPENDING=2 AWSCURRENT=2 AWSPREVIOUS=1",
+    ),
+    (
+        Call::Settle,
+        "no job",
+        "AWSPENDING=2 AWSCURRENT=2 AWSPREVIOUS=1",
+    ),
+    (
+        Call::Begin(3),
+        "held by 2",
+        "AWSPENDING=2 AWSCURRENT=2 AWSPREVIOUS=1",
+    ),
+    (
+        Call::Settle,
+        "no job",
+        "AWSPENDING=2 AWSCURRENT=2 AWSPREVIOUS=1",
+    ),
+    (
+        Call::Move("AWSPENDING", 0, 2),
+        "ok",
+        "AWSCURRENT=2 AWSPREVIOUS=1",
+    ),
+    (
+        Call::Begin(4),
+        "ok",
+        "AWSCURRENT=2 AWSPREVIOUS=1 AWSPENDING=4",
+    ),
+    (
+        Call::Schedule,
+        "scheduled",
+        "AWSCURRENT=2 AWSPREVIOUS=1 AWSPENDING=4",
+    ),
+    (
+        Call::Settle,
+        "no job",
+        "AWSCURRENT=2 AWSPREVIOUS=1 AWSPENDING=4",
+    ),
+];
+
 #[test]
 fn rows_answer(rt: HostRuntime) -> Result<(), Fail> {
-    let current = "AWSCURRENT";
-    let many =
-        "a=1 b=1 c=1 d=1 e=1 f=1 g=1 h=1 i=1 j=1 k=1 l=1 m=1 n=1 o=1 p=1 q=1 r=1 s=1 t=1 AWSCURRENT=1";
-    let more =
-        "a=1 b=1 c=1 d=1 e=1 f=1 g=1 h=1 i=1 j=1 k=1 l=1 m=1 n=1 o=1 p=1 q=1 r=1 s=1 t=1 AWSCURRENT=1 AWSPENDING=1";
-    let cases = [
-        // A repeat of the token with the same value and with another.
-        (Call::Put(1, "s3cret", current), "added", "AWSCURRENT=1"),
-        (
-            Call::Put(1, "s3cret", "blue"),
-            "same AWSCURRENT",
-            "AWSCURRENT=1",
-        ),
-        (Call::Put(1, "other", current), "exists", "AWSCURRENT=1"),
-        // Each new version takes AWSCURRENT, and the one before it keeps AWSPREVIOUS.
-        (
-            Call::Put(2, "b", current),
-            "added",
-            "AWSCURRENT=2 AWSPREVIOUS=1",
-        ),
-        (
-            Call::Put(3, "c", current),
-            "added",
-            "AWSCURRENT=3 AWSPREVIOUS=2",
-        ),
-        // AWSCURRENT moves only from its holder, and is not removed.
-        (
-            Call::Move(current, 0, 3),
-            "keeps current",
-            "AWSCURRENT=3 AWSPREVIOUS=2",
-        ),
-        (
-            Call::Move(current, 1, 2),
-            "held by 3",
-            "AWSCURRENT=3 AWSPREVIOUS=2",
-        ),
-        (
-            Call::Move(current, 1, 0),
-            "held by 3",
-            "AWSCURRENT=3 AWSPREVIOUS=2",
-        ),
-        (
-            Call::Move(current, 1, 3),
-            "ok",
-            "AWSCURRENT=1 AWSPREVIOUS=3",
-        ),
-        // A source is to be there, and to hold the label.
-        (
-            Call::Move("blue", 2, 1),
-            "held by none",
-            "AWSCURRENT=1 AWSPREVIOUS=3",
-        ),
-        (
-            Call::Move("blue", 9, 8),
-            "not there 8",
-            "AWSCURRENT=1 AWSPREVIOUS=3",
-        ),
-        (
-            Call::Move("blue", 9, 1),
-            "not there 9",
-            "AWSCURRENT=1 AWSPREVIOUS=3",
-        ),
-        (
-            Call::Move("blue", 2, 0),
-            "ok",
-            "AWSCURRENT=1 AWSPREVIOUS=3 blue=2",
-        ),
-        (
-            Call::Move("AWSPREVIOUS", 3, 0),
-            "ok",
-            "AWSCURRENT=1 blue=2 AWSPREVIOUS=3",
-        ),
-        (Call::Move("blue", 0, 2), "ok", "AWSCURRENT=1 AWSPREVIOUS=3"),
-        // The first version has the labels in the order in which they first occur, AWSCURRENT last.
-        (Call::Fresh, "fresh", ""),
-        (
-            Call::Put(1, "v", "AWSPENDING AWSCURRENT"),
-            "added",
-            "AWSPENDING=1 AWSCURRENT=1",
-        ),
-        (
-            Call::Put(2, "w", "AWSCURRENT b a b"),
-            "added",
-            "AWSPENDING=1 b=2 a=2 AWSCURRENT=2 AWSPREVIOUS=1",
-        ),
-        (
-            Call::Put(2, "w", ""),
-            "same b a AWSCURRENT",
-            "AWSPENDING=1 b=2 a=2 AWSCURRENT=2 AWSPREVIOUS=1",
-        ),
-        (
-            Call::Put(3, "x", "AWSCURRENT AWSPREVIOUS"),
-            "added",
-            "AWSPENDING=1 b=2 a=2 AWSCURRENT=3 AWSPREVIOUS=2",
-        ),
-        // By id, by label, by both, and by neither.
-        (
-            Call::Find(0, ""),
-            "version 3",
-            "AWSPENDING=1 b=2 a=2 AWSCURRENT=3 AWSPREVIOUS=2",
-        ),
-        (
-            Call::Find(1, ""),
-            "version 1",
-            "AWSPENDING=1 b=2 a=2 AWSCURRENT=3 AWSPREVIOUS=2",
-        ),
-        (
-            Call::Find(0, "b"),
-            "version 2",
-            "AWSPENDING=1 b=2 a=2 AWSCURRENT=3 AWSPREVIOUS=2",
-        ),
-        (
-            Call::Find(2, "a"),
-            "version 2",
-            "AWSPENDING=1 b=2 a=2 AWSCURRENT=3 AWSPREVIOUS=2",
-        ),
-        (
-            Call::Find(1, "a"),
-            "differ",
-            "AWSPENDING=1 b=2 a=2 AWSCURRENT=3 AWSPREVIOUS=2",
-        ),
-        (
-            Call::Find(9, "a"),
-            "none",
-            "AWSPENDING=1 b=2 a=2 AWSCURRENT=3 AWSPREVIOUS=2",
-        ),
-        (
-            Call::Find(1, "c"),
-            "none",
-            "AWSPENDING=1 b=2 a=2 AWSCURRENT=3 AWSPREVIOUS=2",
-        ),
-        // The limits of versions and labels.
-        (Call::Fresh, "fresh", ""),
-        (Call::Fill(999), "filled", "AWSCURRENT=999 AWSPREVIOUS=998"),
-        (
-            Call::Put(1000, "v", "AWSCURRENT"),
-            "added",
-            "AWSCURRENT=1000 AWSPREVIOUS=999",
-        ),
-        (
-            Call::Put(1001, "v", "AWSCURRENT"),
-            "limit of 1000 versions",
-            "AWSCURRENT=1000 AWSPREVIOUS=999",
-        ),
-        (
-            Call::Put(1000, "v", ""),
-            "same AWSCURRENT",
-            "AWSCURRENT=1000 AWSPREVIOUS=999",
-        ),
-        (Call::Fresh, "fresh", ""),
-        (Call::LastSerial, "last", ""),
-        (
-            Call::Put(1, "v", "AWSCURRENT"),
-            "limit of 1000 versions",
-            "",
-        ),
-        (Call::Fresh, "fresh", ""),
-        (
-            Call::Put(1, "v", "AWSCURRENT a b c d e f g h i j k l m n o p q r s t"),
-            "added",
-            many,
-        ),
-        (Call::Put(2, "w", "u"), "limit of 20 labels", many),
-        (Call::Move("u", 1, 0), "limit of 20 labels", many),
-        (Call::Move("AWSPENDING", 1, 0), "ok", more),
-        // A rotation under way.
-        (Call::Fresh, "fresh", ""),
-        (Call::Put(1, "v", "AWSCURRENT"), "added", "AWSCURRENT=1"),
-        (Call::Begin(2), "ok", "AWSCURRENT=1 AWSPENDING=2"),
-        (Call::Settle, "Create 3", "AWSCURRENT=1 AWSPENDING=2"),
-        (
-            Call::Move("AWSCURRENT", 2, 1),
-            "empty 2",
-            "AWSCURRENT=1 AWSPENDING=2",
-        ),
-        (
-            Call::Put(2, "w", "AWSPENDING"),
-            "added",
-            "AWSCURRENT=1 AWSPENDING=2",
-        ),
-        (Call::Settle, "Set 1", "AWSCURRENT=1 AWSPENDING=2"),
-        (
-            Call::Move("AWSCURRENT", 2, 1),
-            "ok",
-            "AWSPENDING=2 AWSCURRENT=2 AWSPREVIOUS=1",
-        ),
-        (
-            Call::Settle,
-            "no job",
-            "AWSPENDING=2 AWSCURRENT=2 AWSPREVIOUS=1",
-        ),
-        (
-            Call::Begin(3),
-            "held by 2",
-            "AWSPENDING=2 AWSCURRENT=2 AWSPREVIOUS=1",
-        ),
-        (
-            Call::Settle,
-            "no job",
-            "AWSPENDING=2 AWSCURRENT=2 AWSPREVIOUS=1",
-        ),
-        (
-            Call::Move("AWSPENDING", 0, 2),
-            "ok",
-            "AWSCURRENT=2 AWSPREVIOUS=1",
-        ),
-        (
-            Call::Begin(4),
-            "ok",
-            "AWSCURRENT=2 AWSPREVIOUS=1 AWSPENDING=4",
-        ),
-        (
-            Call::Schedule,
-            "scheduled",
-            "AWSCURRENT=2 AWSPREVIOUS=1 AWSPENDING=4",
-        ),
-        (
-            Call::Settle,
-            "no job",
-            "AWSCURRENT=2 AWSPREVIOUS=1 AWSPENDING=4",
-        ),
-    ];
-    assert_eq!(rt; first_difference(rt.alloc(), &cases)?.as_str(), "");
+    assert_eq!(rt; first_difference(rt.alloc(), &CASES)?.as_str(), "");
     Ok(())
 }
