@@ -1,7 +1,7 @@
 //! Tables of requests by three persons: the row's name, who asks, the request, and what is answered. A semicolon stands
 //! between rows.
-use crate::asked::{column, request, secret_id, word};
 use crate::tables::{Secrets, answer_once, difference, no_secrets};
+use sm_core_fixtures::asked::{column, request, secret_id, word};
 use sm_model::{OfSecret, Person, PutResourcePolicy, Request, Text, ValidateResourcePolicy};
 use std::alloc::Global;
 use std::test::Fail;

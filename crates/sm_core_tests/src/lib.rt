@@ -4,12 +4,8 @@
 #[cfg(test)]
 mod access;
 #[cfg(test)]
-mod asked;
-#[cfg(test)]
 mod rotations;
 #[cfg(test)]
 mod rows;
-#[cfg(test)]
-mod shown;
 #[cfg(test)]
 mod tables;

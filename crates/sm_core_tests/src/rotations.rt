@@ -6,11 +6,11 @@ ghost use Rattle.sm_table.specs.Changes.{CanMake, StandsAt};
 ghost use Rattle.sm_table.specs.Sound.{ChangeSound};
 ghost use Rattle.sm_table.specs.Sweep.{sweep};
 
-use crate::asked::{column, count, given, request, secret_id, token, value, word};
-use crate::shown::{number, plain};
 use crate::tables::{answer_there, difference, pairs_text};
 use sm_base::moment::LAST_READING;
 use sm_core::{Replayed, again};
+use sm_core_fixtures::asked::{column, count, given, request, secret_id, token, value, word};
+use sm_core_fixtures::shown::{number, plain};
 use sm_model::{
     Act, Answer, Arn, At, Bytes, Change, Entry, Job, Moment, OfSecret, Request, RotateSecret,
     Rules, SecretRow, Stage, Text, Token, Value, need,

@@ -8,12 +8,12 @@ ghost use Rattle.sm_table.specs.Changes.{CanMake, StandsAt};
 ghost use Rattle.sm_table.specs.Sound.{ChangeSound};
 ghost use Rattle.sm_table.specs.Sweep.{sweep};
 
-use crate::asked::{column, request};
 use crate::rows::{secret, table_of};
-use crate::shown::{number, plain, show_once};
 use sm_base::moment::LAST_READING;
 use sm_core::judging::judge_exactly;
 use sm_core::{Admitted, Judged, admit, forms, judge};
+use sm_core_fixtures::asked::{column, request};
+use sm_core_fixtures::shown::{number, plain, show_once};
 use sm_model::{Change, Moment, Person, Request, SecretRow, Text, Why, need};
 use sm_table::Table;
 use std::alloc::Global;

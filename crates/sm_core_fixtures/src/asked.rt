@@ -9,16 +9,17 @@ use std::test::Fail;
 
 const BEGINNING: &str = "arn:aws:secretsmanager:us-east-1:000000000000:secret:";
 
-/// The column of a row, counted from 0.
+/// The column of a row, counted from 0, between the `|` of the row; empty where there is none.
 pub fn column(row: &str, index: usize) -> &str {
     row.split("|").nth(index).unwrap_or("").trim()
 }
 
-/// The word of a text, counted from 0.
+/// The word of a text, counted from 0; `.` where there is none.
 pub fn word(text: &str, index: usize) -> &str {
     text.split_whitespace().nth(index).unwrap_or(".")
 }
 
+/// The text, or `None` for a `.`, which stands for a member that is absent.
 pub fn given(alloc: Global, text: &str) -> Result<Option<Text>, Fail> {
     if text == "." {
         return Ok(None);
@@ -353,7 +354,8 @@ fn password(alloc: Global, text: &str) -> Result<Request, Fail> {
     }))
 }
 
-/// The request of a text.
+/// The request that a text says: its operation's word, and then its members, in the order that the function of the
+/// operation names.
 pub fn request(alloc: Global, text: &str) -> Result<Request, Fail> {
     match word(text, 0) {
         "batch" => batch(alloc, text),

@@ -10,10 +10,12 @@ use std::test::Fail;
 
 const BEGINNING: &str = "arn:aws:secretsmanager:us-east-1:000000000000:secret:";
 
+/// The text as a line of its own.
 pub fn plain(alloc: Global, text: &str) -> Result<String, Fail> {
     Ok(String::from_str(alloc, text)?)
 }
 
+/// The token without the zeros that it begins with.
 pub fn number(id: &Token) -> &str {
     id.as_text().as_str().trim_start_matches('0')
 }
