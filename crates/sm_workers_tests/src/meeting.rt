@@ -109,28 +109,47 @@ impl<'a> Rotator for Holding<'a> {
     ghost may_fail = { λ arn at current pending. refl };
 }
 
+/// What an edge has to do with a meeting.
+#[derive(Drop)]
+pub enum Part {
+    /// Nothing.
+    Apart,
+    /// It is the second of the two.
+    Second,
+    /// It keeps its door open until both have come: a turner that finds no door open ends, and could come no more.
+    Host,
+}
+
 /// An edge in memory. Where it is the second, it hands out a connection only once the first has come, and comes itself
-/// when the connection was served.
+/// when the connection was served. Where it is the host, it waits for both when a connection was served.
 #[derive(Drop)]
 pub struct Watched<'a> {
     pub rt: &'a HostRuntime,
     pub meeting: &'a Meeting,
-    pub is_second: bool,
+    pub part: Part,
     pub edge: MemoryEdge<ConnEnd>,
 }
 
 impl<'a> Watched<'a> {
     /// Waits for the first, where it is the second.
     fn waits(&self) {
-        if self.is_second {
-            let _ = self.meeting.awaits_first(self.rt);
+        match self.part {
+            Part::Second => {
+                let _ = self.meeting.awaits_first(self.rt);
+            }
+            Part::Apart | Part::Host => {}
         }
     }
 
-    /// Comes, where it is the second.
+    /// Comes, where it is the second, or waits for both, where it is the host.
     fn comes(&self) {
-        if self.is_second {
-            self.meeting.second_comes();
+        match self.part {
+            Part::Second => self.meeting.second_comes(),
+            Part::Host => {
+                let _ = self.meeting.awaits_first(self.rt);
+                let _ = self.meeting.awaits_second(self.rt);
+            }
+            Part::Apart => {}
         }
     }
 }

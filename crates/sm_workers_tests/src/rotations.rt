@@ -2,7 +2,7 @@
 ghost use Rattle.std.specs.Prelude.{◌≡◌, All, IfOk, vec_len};
 ghost use Rattle.sm_workers.specs.Workers.{IsFresh};
 
-use crate::meeting::{Holding, Meeting, Watched};
+use crate::meeting::{Holding, Meeting, Part, Watched};
 use crate::support::{
     MemoryWorker, connection, door, edge, fails, outcome, ran_server, three, turner,
 };
@@ -33,11 +33,11 @@ const ROTATE_SECOND: &str =
 
 const READ: (&str, &str) = ("GetSecretValue", r#"{"SecretId":"db/one"}"#);
 
-/// An edge with one connection, which is the second of a meeting or none of the two.
+/// An edge with one connection, and its part in a meeting.
 fn watched<'a>(
     rt: &'a HostRuntime,
     meeting: &'a Meeting,
-    is_second: bool,
+    part: Part,
     conn: MemoryConn,
 ) -> Result<Watched<'a>, Fail> {
     let mut conns = Vec::new(rt.alloc());
@@ -45,7 +45,7 @@ fn watched<'a>(
     Ok(Watched {
         rt,
         meeting,
-        is_second,
+        part,
         edge: edge(rt.alloc(), conns, None),
     })
 }
@@ -86,8 +86,8 @@ fn testers<'a>(rt: &'a HostRuntime, meeting: &'a Meeting) -> Result<Vec<Over<'a>
     let reads = connection(alloc, &[READ])?;
     three(
         alloc,
-        door(alloc, watched(rt, meeting, false, rotates)?),
-        door(alloc, watched(rt, meeting, true, reads)?),
+        door(alloc, watched(rt, meeting, Part::Apart, rotates)?),
+        door(alloc, watched(rt, meeting, Part::Second, reads)?),
         turner(alloc, holding(rt, meeting, Stage::Test)),
     )
 }
@@ -117,7 +117,8 @@ fn a_value_is_read_while_the_rotator_tests_another(rt: HostRuntime) -> Result<()
     Ok(())
 }
 
-/// A door that makes and rotates two secrets, and two turners whose rotators wait for each other at createSecret.
+/// A door that makes and rotates two secrets, and stays open until both steps were asked, and two turners whose
+/// rotators wait for each other at createSecret.
 fn rotators<'a>(rt: &'a HostRuntime, meeting: &'a Meeting) -> Result<Vec<Over<'a>>, Fail>
     ensures fresh { IfOk result (λ workers. All IsFresh workers.items) }
     ensures many { IfOk result (λ workers. vec_len workers ≡ 3) }
@@ -132,7 +133,7 @@ fn rotators<'a>(rt: &'a HostRuntime, meeting: &'a Meeting) -> Result<Vec<Over<'a
     let rotates = connection(alloc, &messages)?;
     three(
         alloc,
-        door(alloc, watched(rt, meeting, false, rotates)?),
+        door(alloc, watched(rt, meeting, Part::Host, rotates)?),
         turner(alloc, holding(rt, meeting, Stage::Create)),
         turner(alloc, holding(rt, meeting, Stage::Create)),
     )
