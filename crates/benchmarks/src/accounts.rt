@@ -1,7 +1,7 @@
 //! The account of a folder.
 use sm_account::Account;
+use sm_base::limits::JOURNAL_LIMIT;
 use sm_disk::FileDisk;
-use sm_model::limits::JOURNAL_LIMIT;
 use sm_rotator::NoRotator;
 
 /// How many entries the account of a folder has.

@@ -16,7 +16,7 @@ ghost use Rattle.sm_versions.specs.Sound.{IsArnOf};
 
 use crate::pieces::body_length;
 use crate::stores::{copy, count};
-use sm_model::limits::{NO_SERIAL, SECRETS_LIMIT};
+use sm_base::limits::{NO_SERIAL, SECRETS_LIMIT};
 use sm_model::{
     Arn, Change, List, Moment, Name, NoMemory, ReadRefused, Rotation, RowList, SecretRow,
     SharedList,
@@ -168,10 +168,12 @@ fn fresh(alloc: Global, serial: u64, name: Name) -> Result<SecretRow, ReadRefuse
             enabled: false,
             lambda: None,
             days: None,
+            schedule: None,
             next: None,
             last: None,
         },
         policy: None,
+        regions: List::empty(alloc),
         job: None,
     })
 }

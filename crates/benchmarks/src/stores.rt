@@ -1,12 +1,10 @@
 //! Entries on a disk.
+use sm_base::limits::JOURNAL_LIMIT;
 use sm_disk::{Disk, FileDisk};
 use sm_model::{Entry, List};
-use sm_record::{encode, has_spelling};
+use sm_record::{Edition, encode_first, has_spelling};
 use sm_store::{Appended, Store};
 use std::alloc::Global;
-
-/// The greatest length of a journal.
-const LIMIT: u64 = 268_435_456;
 
 /// The greatest length of an entry's spelling.
 const BODY_LIMIT: usize = 1_048_576;
@@ -14,7 +12,7 @@ const BODY_LIMIT: usize = 1_048_576;
 /// The store of a folder, and its entries.
 fn open(rt: &HostRuntime, folder: &str) -> Option<(Store<FileDisk>, List<Entry>)> {
     let disk = FileDisk::open(rt, rt.alloc(), folder).ok()?;
-    Store::open(rt.alloc(), disk, LIMIT).ok()
+    Store::open(rt.alloc(), disk, JOURNAL_LIMIT).ok()
 }
 
 /// How many entries the store of a folder has.
@@ -46,10 +44,10 @@ fn add_all<D: Disk>(alloc: Global, store: &mut Store<D>, entries: &[Entry]) -> b
 
 /// Whether an entry was added.
 fn add<D: Disk>(alloc: Global, store: &mut Store<D>, entry: &Entry) -> bool {
-    if store.is_unsure() || !has_spelling(entry) {
+    if store.is_unsure() || !has_spelling(Edition::First, entry) {
         return false;
     }
-    match encode(alloc, entry) {
+    match encode_first(alloc, entry) {
         Ok(ready) => ready.len() <= BODY_LIMIT && store.append(&ready) == Appended::Ok,
         Err(_) => false,
     }

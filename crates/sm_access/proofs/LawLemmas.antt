@@ -8,11 +8,11 @@ use Rattle.sm_model.specs.declared.person.Person.{Person}
 use Rattle.sm_model.specs.declared.rows.Rows.{Rows}
 use Rattle.sm_model.specs.declared.rows.SecretRow.{SecretRow}
 use Rattle.sm_model.specs.Bounds.{fits}
-use Rattle.sm_policy.specs.declared.policy.Policy.{Policy}
+use Rattle.sm_policy_text.specs.declared.policy.Policy.{Policy}
 use Rattle.sm_policy.specs.declared.question.Decision.{Decision}
 use Rattle.sm_policy.specs.declared.question.Decision.TheVariants.{Allow, Deny, Silent}
 use Rattle.sm_policy.specs.Decisions.{PlainQuestion, denies, allows, first_number, decided, decision, admitted}
-use Rattle.sm_policy.specs.Documents.{Flaw, policy_of, is_policy, is_read_policy, has_policy_length, is_resource_policy}
+use Rattle.sm_policy_text.specs.Documents.{Flaw, policy_of, is_policy, is_read_policy, has_policy_length, is_resource_policy}
 use Rattle.sm_policy.specs.Laws.{may_go}
 use Rattle.sm_policy.proofs.LawLemmas.{decision_admits}
 use Rattle.sm_versions.specs.Sound.{RowSound}

@@ -10,11 +10,11 @@ use Rattle.sm_model.specs.declared.person.Person.{Person}
 use Rattle.sm_model.specs.declared.request.Request.{Request}
 use Rattle.sm_model.specs.declared.rows.Rows.{Rows}
 use Rattle.sm_model.specs.declared.rows.SecretRow.{SecretRow}
-use Rattle.sm_policy.specs.declared.policy.Policy.{Policy}
+use Rattle.sm_policy_text.specs.declared.policy.Policy.{Policy}
 use Rattle.sm_policy.specs.declared.question.Decision.{Decision}
 use Rattle.sm_policy.specs.declared.question.Decision.TheVariants.{Allow, Deny, Silent}
 use Rattle.sm_policy.specs.Decisions.{PlainQuestion, decision}
-use Rattle.sm_policy.specs.Documents.{Flaw, policy_of}
+use Rattle.sm_policy_text.specs.Documents.{Flaw, policy_of}
 use Rattle.sm_table.specs.Found.{found}
 use Rattle.sm_access.specs.declared.admission.Admitted.{Admitted}
 use Rattle.sm_access.specs.declared.admission.Admitted.TheVariants.{Ok as Admits, Denied, Memory}

@@ -6,9 +6,9 @@ use Rattle.sm_base.specs.declared.moment.Moment.{Moment}
 use Rattle.sm_model.specs.declared.person.Person.{Person}
 use Rattle.sm_model.specs.declared.rows.Rows.{Rows}
 use Rattle.sm_model.specs.declared.rows.SecretRow.{SecretRow}
-use Rattle.sm_policy.specs.declared.policy.Policy.{Policy}
+use Rattle.sm_policy_text.specs.declared.policy.Policy.{Policy}
 use Rattle.sm_policy.specs.Decisions.{PlainQuestion, denies, first_number, admitted}
-use Rattle.sm_policy.specs.Documents.{Flaw, policy_of}
+use Rattle.sm_policy_text.specs.Documents.{Flaw, policy_of}
 use Rattle.sm_table.specs.Sound.{Sound}
 use Rattle.sm_access.specs.Admission.{by_policy, question_of, secret_named, admission_of_wish}
 use Rattle.sm_access.specs.Wishes.{PlainWish}

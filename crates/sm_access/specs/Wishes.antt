@@ -7,7 +7,7 @@ use Rattle.sm_model.specs.declared.request.Request.{Request}
 use Rattle.sm_model.specs.declared.request.Request.TheVariants as requests
 use Rattle.sm_model.specs.declared.request.UpdateSecretVersionStage.{UpdateSecretVersionStage}
 use Rattle.sm_model.specs.declared.request.ValidateResourcePolicy.{ValidateResourcePolicy}
-use Rattle.sm_versions.specs.Texts.{aws_current}
+use Rattle.sm_model.specs.Labels.{aws_current}
 use Rattle.sm_access.specs.declared.wishes.Wish.{Wish}
 
 -- an action on a secret, and which version and label of it the request names
@@ -74,8 +74,14 @@ wish_of (requests.ListSecretVersionIds list) =
 wish_of (requests.ListSecrets list) = None
 wish_of (requests.PutResourcePolicy put) = Some (wish_on (codes "secretsmanager:PutResourcePolicy") put.secret_id)
 wish_of (requests.PutSecretValue put) = Some (wish_on (codes "secretsmanager:PutSecretValue") put.secret_id)
+wish_of (requests.RemoveRegionsFromReplication remove) =
+    Some (wish_on (codes "secretsmanager:RemoveRegionsFromReplication") remove.secret_id)
+wish_of (requests.ReplicateSecretToRegions replicate) =
+    Some (wish_on (codes "secretsmanager:ReplicateSecretToRegions") replicate.secret_id)
 wish_of (requests.RestoreSecret restore) = Some (wish_on (codes "secretsmanager:RestoreSecret") restore.secret_id)
 wish_of (requests.RotateSecret rotate) = Some (wish_on (codes "secretsmanager:RotateSecret") rotate.secret_id)
+wish_of (requests.StopReplicationToReplica stop) =
+    Some (wish_on (codes "secretsmanager:StopReplicationToReplica") stop.secret_id)
 wish_of (requests.TagResource tag) = Some (wish_on (codes "secretsmanager:TagResource") tag.secret_id)
 wish_of (requests.UntagResource untag) = Some (wish_on (codes "secretsmanager:UntagResource") untag.secret_id)
 wish_of (requests.UpdateSecret update) = Some (wish_on (codes "secretsmanager:UpdateSecret") update.secret_id)

@@ -3,7 +3,7 @@
 ghost use Rattle.std.specs.Prelude.{◌≡◌, IfOk, Some, option_copied};
 ghost use Rattle.sm_base.specs.Outcomes.{OrMemory};
 ghost use Rattle.sm_policy.specs.Decisions.{plain_question};
-ghost use Rattle.sm_policy.specs.Documents.{policy_of};
+ghost use Rattle.sm_policy_text.specs.Documents.{policy_of};
 ghost use Rattle.sm_access.specs.Admission.{admitted_told, by_person, by_decision, by_reading, by_policy, question_of, on_row, secret_named, admission_of_wish, admission};
 ghost use Rattle.sm_access.specs.Wishes.{plain_wish, get_wish};
 
@@ -11,7 +11,8 @@ use crate::wishes::{Wish, asks_nothing, get_wish, wish_of};
 use sm_model::{
     GetSecretValue, Moment, NoMemory, Person, ReadRefused, Request, SecretId, SecretRow, Text,
 };
-use sm_policy::{Decision, Policy, PolicyRefused, Question};
+use sm_policy::{Decision, Question, decide};
+use sm_policy_text::KeptPolicy;
 use sm_table::Table;
 use std::alloc::Global;
 
@@ -69,7 +70,7 @@ fn admit_wish(
         (admission_of_wish table.now person.now moment (plain_wish wish.now)) }
 {
     match secret_named(alloc, table, moment, wish.secret_id) {
-        Ok(Some(row)) => on_row(alloc, person, row, wish),
+        Ok(Some(row)) => on_row(person, row, wish),
         Ok(None) => by_person(person),
         Err(NoMemory) => Admitted::Memory,
     }
@@ -92,9 +93,9 @@ fn secret_named<'a>(
 }
 
 /// Whether the person may do what is asked of the secret of this row.
-fn on_row<'a>(alloc: Global, person: &'a Person, row: &'a SecretRow, wish: &'a Wish<'a>) -> Admitted
-    ensures { OrMemory (admitted_told result)
-        (by_policy row.now.policy (question_of person.now row.now (plain_wish wish.now))) }
+fn on_row<'a>(person: &'a Person, row: &'a SecretRow, wish: &'a Wish<'a>) -> Admitted
+    ensures { admitted_told result
+        ≡ Some (by_policy row.now.policy (question_of person.now row.now (plain_wish wish.now))) }
 {
     let question = Question {
         person,
@@ -104,27 +105,27 @@ fn on_row<'a>(alloc: Global, person: &'a Person, row: &'a SecretRow, wish: &'a W
         version_id: wish.version_id,
         version_stage: wish.version_stage,
     };
-    by_policy(alloc, &row.policy, &question)
+    by_policy(&row.policy, &question)
 }
 
 /// What a policy says. A secret without one has no statements.
-fn by_policy(alloc: Global, policy: &Option<Text>, question: &Question<'_>) -> Admitted
-    ensures { OrMemory (admitted_told result) (by_policy policy.now (plain_question question.now)) }
+fn by_policy(policy: &Option<KeptPolicy>, question: &Question<'_>) -> Admitted
+    ensures { admitted_told result ≡ Some (by_policy policy.now (plain_question question.now)) }
 {
     match policy {
-        Some(text) => by_text(alloc, text, question),
+        Some(kept) => by_kept(kept, question),
         None => by_person(question.person),
     }
 }
 
-/// What the text of a policy says. One that is no policy, which no secret keeps, would allow nobody anything.
-fn by_text(alloc: Global, text: &Text, question: &Question<'_>) -> Admitted
-    ensures { OrMemory (admitted_told result) (by_reading (policy_of text.now) (plain_question question.now)) }
+/// What a kept policy says. A text that is no policy, which no secret keeps, would allow nobody anything. It was read
+/// before: this takes no memory.
+fn by_kept(kept: &KeptPolicy, question: &Question<'_>) -> Admitted
+    ensures { admitted_told result ≡ Some (by_reading (policy_of kept.now) (plain_question question.now)) }
 {
-    match Policy::read(alloc, text.as_bytes()) {
-        Ok(policy) => by_decision(policy.decide(question), question.person),
-        Err(PolicyRefused::Malformed(_, _)) => Admitted::Denied(None),
-        Err(PolicyRefused::Memory) => Admitted::Memory,
+    match kept.policy() {
+        Some(policy) => by_decision(decide(policy, question), question.person),
+        None => Admitted::Denied(None),
     }
 }
 

@@ -47,12 +47,24 @@ pub(crate) fn wish_of(request: &Request) -> Option<Wish<'_>>
         Request::PutSecretValue(put) => {
             Some(wish_on("secretsmanager:PutSecretValue", &put.secret_id))
         }
+        Request::RemoveRegionsFromReplication(remove) => Some(wish_on(
+            "secretsmanager:RemoveRegionsFromReplication",
+            &remove.secret_id,
+        )),
+        Request::ReplicateSecretToRegions(replicate) => Some(wish_on(
+            "secretsmanager:ReplicateSecretToRegions",
+            &replicate.secret_id,
+        )),
         Request::RestoreSecret(restore) => {
             Some(wish_on("secretsmanager:RestoreSecret", &restore.secret_id))
         }
         Request::RotateSecret(rotate) => {
             Some(wish_on("secretsmanager:RotateSecret", &rotate.secret_id))
         }
+        Request::StopReplicationToReplica(stop) => Some(wish_on(
+            "secretsmanager:StopReplicationToReplica",
+            &stop.secret_id,
+        )),
         Request::TagResource(tag) => Some(wish_on("secretsmanager:TagResource", &tag.secret_id)),
         Request::UntagResource(untag) => {
             Some(wish_on("secretsmanager:UntagResource", &untag.secret_id))
@@ -104,7 +116,7 @@ fn bytes_of(text: &Option<Text>) -> Option<&[u8]>
 }
 
 /// The label that a GetSecretValue asks for: AWSCURRENT where it names neither a version nor a label.
-#[tactic(auto, unfolding(sm_versions::specs::Texts::aws_current))]
+#[tactic(auto, unfolding(sm_model::specs::Labels::aws_current))]
 fn label_asked(get: &GetSecretValue) -> Option<&[u8]>
     ensures { option_map (λ t. t.now) result ≡ label_asked get.now.version_id get.now.version_stage }
 {

@@ -2,7 +2,8 @@
 use sm_base::{Arn, List, Moment, Name, ReadRefused, Text};
 use sm_model::{Person, Rotation, SecretRow, SharedList};
 use sm_policy::question::Question;
-use sm_policy::{Case, Decision, Policy, PolicyRefused, is_match};
+use sm_policy::{Case, Decision, decide, is_match, is_public};
+use sm_policy_text::{Policy, PolicyRefused};
 use std::alloc::Global;
 use std::test::Fail;
 
@@ -31,10 +32,12 @@ fn row(alloc: Global) -> Result<SecretRow, ReadRefused> {
             enabled: false,
             lambda: None,
             days: None,
+            schedule: None,
             next: None,
             last: None,
         },
         policy: None,
+        regions: List::empty(alloc),
         job: None,
     })
 }
@@ -47,14 +50,17 @@ fn said<'a>(
     action: &'a [u8],
     stage: &'a [u8],
 ) -> Decision {
-    policy.decide(&Question {
-        person,
-        action,
-        row,
-        secret_id: action,
-        version_id: None,
-        version_stage: Some(stage),
-    })
+    decide(
+        policy,
+        &Question {
+            person,
+            action,
+            row,
+            secret_id: action,
+            version_id: None,
+            version_stage: Some(stage),
+        },
+    )
 }
 
 /// What the text of a policy says to a guest.
@@ -85,7 +91,7 @@ fn is_refused(alloc: Global, text: &str, number: u32, member: &str) -> bool {
 /// The number of the first public statement, or 0.
 fn public(alloc: Global, text: &str) -> u32 {
     match Policy::read(alloc, text.as_bytes()) {
-        Ok(policy) => policy.is_public().unwrap_or(0),
+        Ok(policy) => is_public(&policy).unwrap_or(0),
         Err(_) => 99,
     }
 }

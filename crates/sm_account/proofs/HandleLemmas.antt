@@ -5,7 +5,7 @@ use Rattle.sm_base.specs.Outcomes.{OrMemory}
 use Rattle.sm_base.specs.declared.moment.Moment.{Moment}
 use Rattle.sm_disk.specs.declared.disk.Disk.{Ghosts}
 use Rattle.sm_model.specs.declared.entry.Entry.{Entry as entries}
-use Rattle.sm_model.specs.declared.limits.TheConstants.{ENTRIES_LIMIT}
+use Rattle.sm_base.specs.declared.limits.TheConstants.{ENTRIES_LIMIT}
 use Rattle.sm_model.specs.declared.reply.Reply.{Reply}
 use Rattle.sm_model.specs.declared.why.What.TheVariants.{Entries, JournalBytes}
 use Rattle.sm_model.specs.declared.why.Why.{Why}

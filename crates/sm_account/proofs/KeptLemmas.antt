@@ -8,12 +8,12 @@ use Rattle.sm_model.specs.declared.entry.Change.{Change}
 use Rattle.sm_model.specs.declared.entry.Entry.{Entry as entries}
 use Rattle.sm_model.specs.declared.entry.Mark.{Mark}
 use Rattle.sm_model.specs.declared.entry.Mark.TheVariants.{Entry, Fault}
-use Rattle.sm_model.specs.declared.limits.TheConstants.{JOURNAL_LIMIT}
+use Rattle.sm_base.specs.declared.limits.TheConstants.{JOURNAL_LIMIT}
 use Rattle.sm_table.specs.Changes.{changed}
 use Rattle.sm_table.specs.Sound.{Sound}
 use Rattle.sm_table.specs.Sweep.{sweep}
 use Rattle.sm_core.specs.Effects.{effect}
-use Rattle.sm_core.specs.Histories.{no_rows, replay, last_moment, LegalAct}
+use Rattle.sm_core.specs.Histories.{no_rows, replay, last_moment, LegalEntry}
 use Rattle.sm_disk.specs.declared.disk.Disk.{Ghosts}
 use Rattle.sm_store.specs.Stores as stores
 use Rattle.sm_account.specs.declared.books.Books.{Books}
@@ -38,10 +38,10 @@ module _ {D : Type 0} {G : Ghosts D} (books : Books D G) (kept : Kept G books) w
 
   -- an entry that is legal at the rows may follow all entries
   pub may_follow : (entry : entries) → books.last.0 ≤ entry.moment.0
-      → LegalAct books.table entry.moment entry.drawn entry.act → MayFollow (all_entries books) entry
+      → LegalEntry books.table entry → MayFollow (all_entries books) entry
   may_follow entry later legal = record {
     later = subst (λ (m : Moment). m.0 ≤ entry.moment.0) last_of_all later;
-    legal = subst (λ rows. LegalAct rows entry.moment entry.drawn entry.act) rows_of_all legal;
+    legal = subst (λ rows. LegalEntry rows entry) rows_of_all legal;
   }
 
 -- a legal list goes on with an entry that may follow

@@ -68,23 +68,30 @@ module _ {D : Type 0} {G : Ghosts D} (books : Books D G) (kept : Kept G books) (
       due_found books.table moment (drawn_token drawn) row kept.sound first in
       record {
         legal = (
-          sixteen,
-          subst (λ (o : Option SecretRow). IsSomeAnd o (λ r. IsTrue (is_due_for r moment (drawn_token drawn))))
-              (sym found) due,
+          refl,
+          (
+            sixteen,
+            subst (λ (o : Option SecretRow). IsSomeAnd o (λ r. IsTrue (is_due_for r moment (drawn_token drawn))))
+                (sym found) due,
+          ),
         );
         later = later;
         bound = bound;
         key = omega arith;
-        act = sixteen;
+        act = record { act = sixteen; whose = refl; by = refl };
       }
 
   -- an answer that holds
   pub report_may : (work : Work) (answer : Answer) → is_fresh (found_arn books.table moment work.arn) work ≡ true
       → MayEnter books (reported_entry moment work answer)
   report_may work answer fresh = record {
-    legal = (refl, may_report books.table moment work (found_arn books.table moment work.arn) refl fresh);
+    legal = (refl, (refl, may_report books.table moment work (found_arn books.table moment work.arn) refl fresh));
     later = later;
     bound = bound;
     key = omega arith;
-    act = step_of books.table moment work answer (found_arn books.table moment work.arn) refl fresh kept.sound;
+    act = record {
+      act = step_of books.table moment work answer (found_arn books.table moment work.arn) refl fresh kept.sound;
+      whose = refl;
+      by = refl;
+    };
   }

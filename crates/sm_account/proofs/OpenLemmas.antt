@@ -9,8 +9,9 @@ use Rattle.sm_journal.specs.Records.{SameList, size}
 use Rattle.sm_journal.specs.declared.answers.OpenRefused.{OpenRefused}
 use Rattle.sm_journal.specs.declared.answers.OpenRefused.TheVariants.{Damaged, Failed, Memory}
 use Rattle.sm_model.specs.declared.entry.Entry.{Entry}
-use Rattle.sm_model.specs.declared.limits.TheConstants.{JOURNAL_LIMIT}
+use Rattle.sm_base.specs.declared.limits.TheConstants.{JOURNAL_LIMIT}
 use Rattle.sm_record.specs.Spelling.{spelling}
+use Rattle.sm_record.specs.declared.edition.Edition.TheVariants.{First}
 use Rattle.sm_rotator.specs.declared.rotator.Rotator.{Ghosts as RotatorGhosts}
 use Rattle.sm_store.specs.Entries.{HasEntries}
 use Rattle.sm_store.specs.Openings as store_openings
@@ -29,7 +30,7 @@ use Rattle.sm_account.specs.Openings.{AreBooksOver, IsOpenedOver, IsRefused, IsS
 use Rattle.sm_account.specs.Replaying.{IsReplayOf}
 use Rattle.sm_account.specs.States.{base_of, sizes_of, state_after, state_at}
 
-sizes_are : (list : List Entry) → size (map spelling list) ≡ sizes_of list
+sizes_are : (list : List Entry) → size (map (spelling First) list) ≡ sizes_of list
 sizes_are [] = refl
 sizes_are (e ∷ list) = omega (arith, sizes_are list)
 

@@ -7,31 +7,34 @@ use Rattle.sm_base.specs.declared.moment.Moment.{Moment}
 use Rattle.sm_base.specs.declared.moment.TheConstants.{LAST_READING}
 use Rattle.sm_model.specs.declared.entry.Entry.{Entry}
 use Rattle.sm_model.specs.declared.rows.Rows.{Rows}
-use Rattle.sm_record.specs.Entries.{entry}
+use Rattle.sm_record.specs.Editions.{mark}
+use Rattle.sm_record.specs.Entries.{entry, head, head_of}
 use Rattle.sm_record.specs.Fields.{moment, long}
 use Rattle.sm_record.specs.Spelling.{has_spelling, HasSpelling}
+use Rattle.sm_record.specs.declared.edition.Edition.TheVariants.{First}
 use Rattle.sm_store.specs.Entries.{AreSpelled}
 use Rattle.sm_table.specs.Sound.{Sound}
 use Rattle.sm_core.specs.Effects.{effect}
-use Rattle.sm_core.specs.Histories.{no_rows, LegalAct}
+use Rattle.sm_core.specs.Histories.{no_rows, LegalEntry}
 use Rattle.sm_account.specs.declared.replaying.Standing.{Standing}
 use Rattle.sm_account.specs.Replaying.{IsNext, IsReplayOf}
 use Rattle.sm_account.specs.States.{first_moment, size_of, sizes_of}
 use Rattle.sm_account.proofs.StateLaws.{replay_joined, last_joined, legal_more, sizes_more}
 
 -- a spelled entry has a moment that a clock reads
-pub spelled_moment : (e : Entry) → HasSpelling e → e.moment.0 ≤ LAST_READING
-unfolding has_spelling entry moment
+pub spelled_moment : (e : Entry) → HasSpelling First e → e.moment.0 ≤ LAST_READING
+unfolding has_spelling entry head mark moment
 spelled_moment e fits =
-    let front = and_parts (moment.fits e.moment) _ fits in
+    let before = and_parts ((head First).fits (head_of e)) _ fits in
+    let front = and_parts (moment.fits e.moment) _ before.0 in
     let early = and_parts (nat_le e.moment.0 LAST_READING) (long.fits e.moment.0) front.0 in
     grind (arith, nat_tests, early.0)
 
 -- each of spelled entries is spelled, and so is each front of them
 pub spelled_at : (list : List Entry) (k : ℕ) (e : Entry) → AreSpelled list → k < length list → e ≡ get_or list k e
-    → HasSpelling e
+    → HasSpelling First e
 spelled_at [] k e all lt is = absurd (omega arith)
-spelled_at (d ∷ list) zero e all lt is = subst HasSpelling (sym is) all.0
+spelled_at (d ∷ list) zero e all lt is = subst (HasSpelling First) (sym is) all.0
 spelled_at (d ∷ list) (suc k) e all lt is = spelled_at list k e all.1 (omega arith) is
 
 pub spelled_take : (list : List Entry) (k : ℕ) → AreSpelled list → AreSpelled (take k list)
@@ -82,7 +85,7 @@ module _ (list : List Entry) (e : Entry) (s t : Standing) (made : IsReplayOf lis
     last = last ∙ sym (last_joined first_moment list (e ∷ []));
     legal = legal_more no_rows first_moment list e made.legal
         (subst (λ (m : Moment). m.0 ≤ e.moment.0) made.last next.later)
-        (subst (λ rows. LegalAct rows e.moment e.drawn e.act) made.rows next.legal);
+        (subst (λ rows. LegalEntry rows e) made.rows next.legal);
     sound = sound;
     bound = subst (λ (m : Moment). m.0 ≤ LAST_READING) (sym last) bound;
   }

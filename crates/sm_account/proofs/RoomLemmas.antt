@@ -10,7 +10,7 @@ use Rattle.sm_table.specs.Changes.{CanMake, StandsAt}
 use Rattle.sm_table.specs.Sound.{ChangeSound}
 use Rattle.sm_table.specs.Sweep.{sweep}
 use Rattle.sm_core.specs.Effects.{Makes}
-use Rattle.sm_core.specs.Histories.{LegalAct}
+use Rattle.sm_core.specs.Histories.{LegalEntry}
 use Rattle.sm_store.specs.Entries.{Spells}
 use Rattle.sm_store.specs.Stores as stores
 use Rattle.sm_account.specs.declared.books.Books.{Books}
@@ -64,7 +64,7 @@ module _ {D : Type 0} {G : Ghosts D} (old mid : Books D G) (room : SameButRoom o
 
     pub limits_aside : CanMake old.table change → StandsAt old.table entry.moment change → Makes old.table entry change
         → ChangeSound (sweep old.table entry.moment) change
-        → LegalAct old.table entry.moment entry.drawn entry.act → old.last.0 ≤ entry.moment.0
+        → LegalEntry old.table entry → old.last.0 ≤ entry.moment.0
         → entry.moment.0 ≤ LAST_READING
         → LimitsAside mid due
     limits_aside can stands makes sound legal later bound = record {
@@ -75,7 +75,7 @@ module _ {D : Type 0} {G : Ghosts D} (old mid : Books D G) (room : SameButRoom o
       stands = at (λ t e c. StandsAt t e.moment c) stands;
       makes = at (λ t e c. Makes t e c) makes;
       sound = at (λ t e c. ChangeSound (sweep t e.moment) c) sound;
-      legal = at (λ t e c. LegalAct t e.moment e.drawn e.act) legal;
+      legal = at (λ t e c. LegalEntry t e) legal;
       later =
           subst (λ (m : Moment). m.0 ≤ due.entry.moment.0) (sym (ap (λ (b : Books D G). b.last) room.rest))
           (subst (λ (e : Entry). old.last.0 ≤ e.moment.0) (sym grown.entry_is) later);

@@ -7,7 +7,7 @@ use Rattle.sm_model.specs.declared.entry.Mark.{Mark}
 use Rattle.sm_model.specs.declared.entry.Mark.TheVariants.{Entry, Claim, Fault}
 use Rattle.sm_model.specs.declared.rows.Rows.{Rows}
 use Rattle.sm_core.specs.Effects.{effect}
-use Rattle.sm_core.specs.Histories.{replay, last_moment, Legal, LegalAct}
+use Rattle.sm_core.specs.Histories.{replay, last_moment, Legal, LegalEntry}
 use Rattle.sm_account.specs.History.{entry_then, entries_in, fault_count, faults_in}
 use Rattle.sm_account.specs.States.{size_of, sizes_of, Base, state_after, state_at, state_with}
 
@@ -72,7 +72,7 @@ state_claimed base history seat arn at moment =
 
 -- a legal list with one entry more that may follow
 pub legal_more : (rows : Rows) (before : Moment) (a : List entries) (entry : entries) → Legal rows before a
-    → (last_moment before a).0 ≤ entry.moment.0 → LegalAct (replay rows a) entry.moment entry.drawn entry.act
+    → (last_moment before a).0 ≤ entry.moment.0 → LegalEntry (replay rows a) entry
     → Legal rows before (a ++ entry ∷ [])
 legal_more rows before [] entry legal later act = (later, act, tt)
 legal_more rows before (e ∷ a) entry legal later act =

@@ -9,7 +9,7 @@ use Rattle.sm_model.specs.declared.rows.Rows.{Rows}
 use Rattle.sm_rotation.specs.Vouched.{Replies}
 use Rattle.sm_table.specs.Sound.{Sound}
 use Rattle.sm_core.specs.Effects.{effect}
-use Rattle.sm_core.specs.Histories.{InTime, Legal, LegalAct, last_moment, no_rows, replay}
+use Rattle.sm_core.specs.Histories.{InTime, Legal, LegalEntry, last_moment, no_rows, replay}
 use Rattle.sm_core.specs.Vouching.{EachAllowed, Vouched}
 use Rattle.sm_core.proofs.HistoryLemmas.{legal_keeps}
 use Rattle.sm_core.proofs.VouchedLemmas.{act_vouched, legal_vouched}
@@ -99,9 +99,9 @@ module _ {D : Type 0} {G : Ghosts D} (replies : Replies) (books : Books D G) (ke
         → IfSome failed (λ entry. Vouched replies (effect books.table entry))
     next_vouched None follows allowed vouched = tt
     next_vouched (Some entry) follows allowed vouched =
-        act_vouched replies books.table entry.moment entry.drawn entry.act kept.sound
-        (subst (λ rows. LegalAct rows entry.moment entry.drawn entry.act)
-        (sym (rows_of_all books kept)) follows.legal) allowed vouched
+        let legal : LegalEntry books.table entry =
+        subst (λ rows. LegalEntry rows entry) (sym (rows_of_all books kept)) follows.legal in
+        act_vouched replies books.table entry.moment entry.drawn entry.act kept.sound legal.1 allowed vouched
 
     stay_vouched : MayFollowIf (all_entries books) books.failed.value → EntriesAllowed replies books
         → StayVouched replies books

@@ -4,12 +4,12 @@ use Rattle.sm_base.specs.declared.moment.TheConstants.{LAST_READING}
 use Rattle.sm_model.specs.declared.entry.Change.{Change}
 use Rattle.sm_model.specs.declared.entry.Entry.{Entry}
 use Rattle.sm_model.specs.declared.entry.Mark.{Mark}
-use Rattle.sm_model.specs.declared.limits.TheConstants.{ENTRIES_LIMIT, JOURNAL_LIMIT}
+use Rattle.sm_base.specs.declared.limits.TheConstants.{ENTRIES_LIMIT, JOURNAL_LIMIT}
 use Rattle.sm_table.specs.Changes.{CanMake, StandsAt}
 use Rattle.sm_table.specs.Sound.{Sound, ChangeSound}
 use Rattle.sm_table.specs.Sweep.{sweep}
 use Rattle.sm_core.specs.Effects.{Makes}
-use Rattle.sm_core.specs.Histories.{no_rows, replay, last_moment, Legal, LegalAct}
+use Rattle.sm_core.specs.Histories.{no_rows, replay, last_moment, Legal, LegalEntry}
 use Rattle.sm_disk.specs.declared.disk.Disk.{Ghosts}
 use Rattle.sm_journal.specs.Records.{body_limit}
 use Rattle.sm_store.specs.Entries.{Spells}
@@ -30,7 +30,7 @@ IsLegal entries = Legal no_rows first_moment entries
 -- the entry may follow these, at its moment and at their rows
 pub record MayFollow (entries : List Entry) (entry : Entry) : Type 0 where
   pub later : (last_moment first_moment entries).0 ≤ entry.moment.0
-  pub legal : LegalAct (replay no_rows entries) entry.moment entry.drawn entry.act
+  pub legal : LegalEntry (replay no_rows entries) entry
 
 -- the entry, if there is one, may follow these
 abbrev pub MayFollowIf : List Entry → Option Entry → Type 0
@@ -108,6 +108,6 @@ pub record IsDueAt {D : Type 0} {G : Ghosts D} (books : Books D G) (entry : Entr
   pub stands : StandsAt books.table entry.moment change
   pub makes : Makes books.table entry change
   pub sound : ChangeSound (sweep books.table entry.moment) change
-  pub legal : LegalAct books.table entry.moment entry.drawn entry.act
+  pub legal : LegalEntry books.table entry
   pub later : books.last.0 ≤ entry.moment.0
   pub bound : entry.moment.0 ≤ LAST_READING

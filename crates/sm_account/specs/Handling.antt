@@ -3,12 +3,13 @@ use Rattle.std.specs.Prelude.{◌≡◌, ℕ, ◌≤◌, length, Some, None, ⊤
 use Rattle.sm_base.specs.declared.moment.TheConstants.{LAST_READING}
 use Rattle.sm_disk.specs.declared.disk.Disk.{Ghosts}
 use Rattle.sm_journal.specs.Records.{body_limit}
+use Rattle.sm_base.specs.declared.limits.TheConstants.{CALLER_LIMIT}
 use Rattle.sm_model.specs.declared.entry.Entry.{Entry}
 use Rattle.sm_table.specs.Changes.{CanMake, StandsAt}
 use Rattle.sm_table.specs.Sound.{ChangeSound}
 use Rattle.sm_table.specs.Sweep.{sweep}
 use Rattle.sm_core.specs.Effects.{Makes}
-use Rattle.sm_core.specs.Histories.{LegalAct}
+use Rattle.sm_core.specs.Histories.{LegalEntry}
 use Rattle.sm_sizes.specs.Spellable.{IsSpellable}
 use Rattle.sm_store.specs.Entries.{Spells}
 use Rattle.sm_account.specs.declared.books.Books.{Books}
@@ -22,11 +23,11 @@ use Rattle.sm_account.specs.Outcome.{Outcome, Refuses, Replies}
 
 -- An entry that is legal at the books' rows and has a spelling that is not too long for a record.
 pub record MayEnter {D : Type 0} {G : Ghosts D} (books : Books D G) (entry : Entry) : Type 0 where
-  pub legal : LegalAct books.table entry.moment entry.drawn entry.act
+  pub legal : LegalEntry books.table entry
   pub later : books.last.0 ≤ entry.moment.0
   pub bound : entry.moment.0 ≤ LAST_READING
-  pub key : length entry.caller ≤ 256
-  pub act : IsSpellable entry.drawn entry.act
+  pub key : length entry.caller ≤ CALLER_LIMIT
+  pub act : IsSpellable entry
 
 -- An entry is due at the books, limits aside, and all its memory is there.
 pub record LimitsAside {D : Type 0} {G : Ghosts D} (books : Books D G) (due : Due) : Type 0 where
@@ -37,7 +38,7 @@ pub record LimitsAside {D : Type 0} {G : Ghosts D} (books : Books D G) (due : Du
   pub stands : StandsAt books.table due.entry.moment due.prepared.change
   pub makes : Makes books.table due.entry due.prepared.change
   pub sound : ChangeSound (sweep books.table due.entry.moment) due.prepared.change
-  pub legal : LegalAct books.table due.entry.moment due.entry.drawn due.entry.act
+  pub legal : LegalEntry books.table due.entry
   pub later : books.last.0 ≤ due.entry.moment.0
   pub bound : due.entry.moment.0 ≤ LAST_READING
 

@@ -3,7 +3,7 @@
 use Rattle.std.specs.Prelude.{◌≡◌, ⊤, ◌+◌, nat_le, nat_lt, if◌then◌else◌, Option, Some, None, Result, Ok, Err}
 use Rattle.sm_base.specs.declared.memory.NoMemory.{NoMemory}
 use Rattle.sm_model.specs.declared.entry.Entry.{Entry}
-use Rattle.sm_model.specs.declared.limits.TheConstants.{ENTRIES_LIMIT}
+use Rattle.sm_base.specs.declared.limits.TheConstants.{ENTRIES_LIMIT}
 use Rattle.sm_model.specs.declared.why.What.TheVariants.{Entries, JournalBytes}
 use Rattle.sm_model.specs.declared.why.Why.{Why}
 use Rattle.sm_model.specs.declared.why.Why.TheVariants as whys

@@ -4,7 +4,7 @@ use Rattle.std.specs.Prelude.{ℕ, ◌+◌, nat_le, nat_lt, if◌then◌else◌,
 use Rattle.sm_base.specs.declared.moment.Moment.{Moment}
 use Rattle.sm_model.specs.declared.entry.Change.{Change}
 use Rattle.sm_model.specs.declared.entry.Entry.{Entry}
-use Rattle.sm_model.specs.declared.limits.TheConstants.{ENTRIES_LIMIT}
+use Rattle.sm_base.specs.declared.limits.TheConstants.{ENTRIES_LIMIT}
 use Rattle.sm_model.specs.declared.person.Person.{Person}
 use Rattle.sm_model.specs.declared.reply.Reply.{Reply}
 use Rattle.sm_model.specs.declared.request.Request.{Request}

@@ -3,7 +3,7 @@ use Rattle.std.specs.Prelude.{◌≡◌, ⊤, ℕ, ◌<◌, ◌≤◌, ◌∷◌
 use Rattle.sm_base.specs.declared.moment.TheConstants.{LAST_READING}
 use Rattle.sm_model.specs.declared.entry.Entry.{Entry}
 use Rattle.sm_table.specs.Sound.{Sound}
-use Rattle.sm_core.specs.Histories.{no_rows, replay, last_moment, LegalAct}
+use Rattle.sm_core.specs.Histories.{no_rows, replay, last_moment, LegalEntry}
 use Rattle.sm_account.specs.Books.{IsLegal, MayFollow}
 use Rattle.sm_account.specs.States.{first_moment}
 use Rattle.sm_account.specs.declared.replaying.Refusal.{Refusal}
@@ -15,7 +15,7 @@ use Rattle.sm_account.specs.declared.replaying.Stopped.TheVariants.{Illegal, Mem
 -- the entry is legal at the rows, and not before the last moment
 pub record IsNext (standing : Standing) (entry : Entry) : Type 0 where
   pub later : standing.last.0 ≤ entry.moment.0
-  pub legal : LegalAct standing.table entry.moment entry.drawn entry.act
+  pub legal : LegalEntry standing.table entry
 
 -- a fact where an entry was refused for what it is
 abbrev pub OnRefused : Result Unit Refusal → Type 0 → Type 0

@@ -34,8 +34,10 @@ abbrev pub reported_entry : Moment → Work → Answer → Entry
 reported_entry moment work answer = record {
   moment = moment;
   caller = [];
+  by = [];
   drawn = [];
   act = acts.Reported work.arn work.at (entered_answer answer);
+  prunes = false;
 }
 
 -- whether a verdict on the work holds of the secret that was found

@@ -7,11 +7,12 @@ use Rattle.sm_model.specs.declared.rows.Rows.{Rows}
 use Rattle.sm_core.specs.Effects.{effect}
 use Rattle.sm_core.specs.Histories.{no_rows, replay, last_moment}
 use Rattle.sm_record.specs.Spelling.{spelling}
+use Rattle.sm_record.specs.declared.edition.Edition.TheVariants.{First}
 use Rattle.sm_account.specs.History.{entries_in}
 
 -- how many bytes of a journal an entry takes
 abbrev pub size_of : Entry → ℕ
-size_of entry = 5 + length (spelling entry)
+size_of entry = 5 + length (spelling First entry)
 
 abbrev pub sizes_of : List Entry → ℕ
 sizes_of [] = 0

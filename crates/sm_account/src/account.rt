@@ -1,5 +1,6 @@
 //! The account.
 ghost use Rattle.sm_account.specs.Allowed.{EntriesAllowed, StayVouched};
+ghost use Rattle.sm_base.specs.declared.limits.TheConstants.{CALLER_LIMIT};
 ghost use Rattle.sm_account.specs.Books.{Kept};
 ghost use Rattle.sm_account.specs.KeptOnce.{Kept-prop};
 
@@ -95,7 +96,7 @@ impl<D: Disk, R: Rotator> Account<D, R> {
     ) -> Handled
         requires bound { now.0 ≤ LAST_READING }
         requires drawn { length drawn.now ≡ needed request.now }
-        requires key { length person.now.key ≤ 256 }
+        requires key { length person.now.key ≤ CALLER_LIMIT }
 
         // The answer is that at the history, and the history goes on by its mark.
         ensures handled { HandledAs result (outcome (state self.old)

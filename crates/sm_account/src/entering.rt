@@ -11,9 +11,9 @@ use crate::books::Books;
 use crate::due::Due;
 use crate::growing::grow;
 use crate::making::make;
+use sm_base::limits::ENTRIES_LIMIT;
 use sm_core::{Replayed, again};
 use sm_disk::{Disk, DiskFailed};
-use sm_model::limits::ENTRIES_LIMIT;
 use sm_model::{Entry, NoMemory, What};
 
 /// A limit that an entry would pass.

@@ -1,5 +1,6 @@
 //! All the memory that an entry needs.
 ghost use Rattle.std.specs.Prelude.{◌≡◌, ◌≤◌, ◌<◌, length, vec_len, vec_capacity, IfOk, OnOk, None, false};
+ghost use Rattle.sm_base.specs.declared.limits.TheConstants.{CALLER_LIMIT};
 ghost use Rattle.sm_base.specs.declared.moment.TheConstants.{LAST_READING};
 ghost use Rattle.sm_core.specs.Effects.{entry_of};
 ghost use Rattle.sm_core.specs.Judging.{is_reading};
@@ -13,7 +14,7 @@ ghost use Rattle.sm_account.specs.Growing.{IsGrown, SameButRoom};
 use crate::books::Books;
 use crate::due::Due;
 use sm_disk::Disk;
-use sm_model::{Act, Bytes, Change, Copied, Entry, Moment, NoMemory, Person, Request};
+use sm_model::{Act, Bytes, Change, Copied, Entry, Moment, NoMemory, Person, Request, Text};
 use sm_sizes::spell;
 use std::alloc::Global;
 
@@ -29,7 +30,7 @@ pub fn grow_request<D: Disk>(
 ) -> Result<Due, NoMemory>
     requires can { CanMake books.old.table change }
     requires bound { moment.0 ≤ LAST_READING }
-    requires key { length person.now.key ≤ 256 }
+    requires key { length person.now.key ≤ CALLER_LIMIT }
     requires drawn { length drawn.now ≡ needed request.now }
     requires forms { forms_of request.now ≡ None }
     requires changes { is_reading request.now ≡ false }
@@ -48,8 +49,8 @@ pub fn grow_request<D: Disk>(
 pub fn grow<D: Disk>(books: &mut Books<D>, entry: Entry, change: Change) -> Result<Due, NoMemory>
     requires can { CanMake books.old.table change }
     requires bound { entry.moment.0 ≤ LAST_READING }
-    requires key { length entry.caller ≤ 256 }
-    requires act { IsSpellable entry.drawn entry.act }
+    requires key { length entry.caller ≤ CALLER_LIMIT }
+    requires act { IsSpellable entry }
     ensures grown { IfOk result (λ due. IsGrown books.old entry change due) }
     ensures room { OnOk result (vec_len books.new.marks < vec_capacity books.new.marks) }
     ensures same { SameButRoom books.old books.new }
@@ -80,7 +81,9 @@ fn make_entry(
     Ok(Entry {
         moment,
         caller,
+        by: Text::fixed(""),
         drawn,
         act: Act::Asked(request),
+        prunes: false,
     })
 }

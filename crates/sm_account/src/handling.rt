@@ -1,5 +1,6 @@
 //! Handling a request at the books.
 ghost use Rattle.std.specs.Prelude.{◌≡◌, ◌<◌, ◌≤◌, length, vec_len, vec_capacity};
+ghost use Rattle.sm_base.specs.declared.limits.TheConstants.{CALLER_LIMIT};
 ghost use Rattle.sm_base.specs.declared.moment.TheConstants.{LAST_READING};
 ghost use Rattle.sm_model.specs.Needed.{needed};
 ghost use Rattle.sm_account.specs.Books.{Kept, state_in};
@@ -28,7 +29,7 @@ pub fn handle<D: Disk>(
     requires kept { Kept D.Disk books.old }
     requires bound { now.0 ≤ LAST_READING }
     requires drawn { length drawn.now ≡ needed request.now }
-    requires key { length person.now.key ≤ 256 }
+    requires key { length person.now.key ≤ CALLER_LIMIT }
     ensures kept { Kept D.Disk books.new }
     ensures handles { Handles D.Disk books.old books.new seat result (outcome (state_in books.old) (record {
       person = person.now;

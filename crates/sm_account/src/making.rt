@@ -1,6 +1,6 @@
 //! Making an entry: on the disk, in the rows and in the history.
 ghost use Rattle.std.specs.Prelude.{◌≡◌, ◌⊎◌, ◌+◌, ◌<◌, ◌≤◌, ◌++◌, ◌∷◌, [], None, Some, vec_len, vec_capacity, OnErr, IsOk};
-ghost use Rattle.sm_model.specs.declared.limits.TheConstants.{ENTRIES_LIMIT};
+ghost use Rattle.sm_base.specs.declared.limits.TheConstants.{ENTRIES_LIMIT};
 ghost use Rattle.sm_table.specs.Changes.{changed, StandsAt};
 ghost use Rattle.sm_table.specs.Sound.{ChangeSound, Sound};
 ghost use Rattle.sm_table.specs.Sweep.{sweep};

@@ -1,6 +1,6 @@
 //! Opening an account over a disk.
 ghost use Rattle.std.specs.Prelude.{◌≡◌, ◌≤◌, ◌<◌, ◌+◌, ◌^◌, None, length, take, IfOk, IfErr};
-ghost use Rattle.sm_model.specs.declared.limits.TheConstants.{JOURNAL_LIMIT};
+ghost use Rattle.sm_base.specs.declared.limits.TheConstants.{JOURNAL_LIMIT};
 ghost use Rattle.sm_disk.specs.OneFile.{Leaves};
 ghost use Rattle.sm_journal.specs.Openings.{ReadsAs};
 ghost use Rattle.sm_journal.specs.Records.{SameList};
@@ -19,7 +19,7 @@ use crate::replaying::{Standing, Stopped, replay_all};
 use sm_disk::Disk;
 use sm_journal::{Damage, OpenRefused};
 use sm_model::{Entry, List, NoMemory};
-use sm_record::encode;
+use sm_record::encode_first;
 use sm_rotator::Rotator;
 use sm_store::Store;
 use std::alloc::Global;
@@ -130,7 +130,7 @@ fn place_of(alloc: Global, entries: &[Entry]) -> Result<u64, NoMemory>
 {
     let mut place: u64 = 8;
     for entry in entries {
-        let spelled = encode(alloc, entry)?;
+        let spelled = encode_first(alloc, entry)?;
         place += 5 + spelled.len() as u64;
     }
     Ok(place)

@@ -11,9 +11,9 @@ ghost use Rattle.sm_account.specs.Report.{IsHeldAs, ReportsAs, entered_answer, r
 
 use crate::books::Books;
 use crate::entering::{Entered, enter};
+use sm_base::limits::VALUE_LIMIT;
 use sm_claims::{is_fresh, step_of};
 use sm_disk::Disk;
-use sm_model::limits::VALUE_LIMIT;
 use sm_model::{Act, Answer, At, Bytes, Copied, Entry, Moment, NoMemory, Text};
 use sm_rotator::Work;
 use sm_table::Table;
@@ -142,8 +142,10 @@ fn reported_entry(
     Ok(Entry {
         moment,
         caller: Text::fixed(""),
+        by: Text::fixed(""),
         drawn: Bytes::empty(alloc),
         act: Act::Reported(arn, at, answer),
+        prunes: false,
     })
 }
 

@@ -115,8 +115,10 @@ fn start_for(
     let entry = Entry {
         moment,
         caller: Text::fixed(""),
+        by: Text::fixed(""),
         drawn: Bytes::from_slice(alloc, drawn)?,
         act: Act::Begun(row.arn.copy(alloc)?),
+        prunes: false,
     };
     Ok(DueStart { arn, entry })
 }

@@ -2,8 +2,8 @@
 use sm_account::{Account, Handled};
 use sm_disk::MemoryDisk;
 use sm_model::{
-    CreateSecret, Label, Moment, Person, PutSecretValue, Request, SecretId, Text, Value, What, Why,
-    need,
+    CreateSecret, Label, List, Moment, Person, PutSecretValue, Request, SecretId, Text, Value,
+    What, Why, need,
 };
 use sm_rotator::NoRotator;
 use std::alloc::Global;
@@ -26,8 +26,9 @@ pub enum Answer {
 }
 
 /// CreateSecret of `db/app` with a value and the first token.
-fn creation(value: &'static str) -> Request {
+fn creation(alloc: Global, value: &'static str) -> Request {
     Request::CreateSecret(CreateSecret {
+        regions: List::empty(alloc),
         client_request_token: Some(Text::fixed("11111111-1111-4111-8111-111111111111")),
         description: None,
         kms_key_id: None,
@@ -73,8 +74,8 @@ fn ask(account: &mut Kept, request: &Request) -> Answer {
 }
 
 /// What the account answers to a creation with this value.
-pub fn create(account: &mut Kept, value: &'static str) -> Answer {
-    ask(account, &creation(value))
+pub fn create(alloc: Global, account: &mut Kept, value: &'static str) -> Answer {
+    ask(account, &creation(alloc, value))
 }
 
 /// What the account answers to a new value.

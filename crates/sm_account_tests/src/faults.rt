@@ -23,26 +23,26 @@ enum Step {
     Put,
 }
 
-fn ask(account: &mut Kept, step: Step) -> Answer {
+fn ask(alloc: Global, account: &mut Kept, step: Step) -> Answer {
     match step {
-        Step::Create => create(account, "s3cret"),
+        Step::Create => create(alloc, account, "s3cret"),
         Step::Put => put(account),
     }
 }
 
 /// Asks, and asks once more where the disk fails.
-fn ask_twice(account: &mut Kept, step: Step) -> Answer {
-    match ask(account, step) {
-        Answer::DiskFault => ask(account, step),
+fn ask_twice(alloc: Global, account: &mut Kept, step: Step) -> Answer {
+    match ask(alloc, account, step) {
+        Answer::DiskFault => ask(alloc, account, step),
         answer => answer,
     }
 }
 
 /// A creation and a new value, up to the first that the disk fails twice, and whether that came.
-fn ask_both(account: &mut Kept) -> bool {
-    let created = ask_twice(account, Step::Create);
+fn ask_both(alloc: Global, account: &mut Kept) -> bool {
+    let created = ask_twice(alloc, account, Step::Create);
     if created == Answer::Reply {
-        return ask_twice(account, Step::Put) == Answer::DiskFault;
+        return ask_twice(alloc, account, Step::Put) == Answer::DiskFault;
     }
     created == Answer::DiskFault
 }
@@ -51,7 +51,7 @@ fn run(alloc: Global, disk: MemoryDisk, before: u64) -> Left {
     let opened: Result<Kept, _> = Account::open(alloc, disk, 1, 1000);
     match opened {
         Ok(mut account) => {
-            let unsure = ask_both(&mut account);
+            let unsure = ask_both(alloc, &mut account);
             let kept = account.entries();
             let disk = account.close();
             Left { disk, kept, unsure }

@@ -1,6 +1,6 @@
 //! What an opening finds, and what requests are answered then.
 ghost use Rattle.std.specs.Prelude.{◌≤◌};
-ghost use Rattle.sm_model.specs.declared.limits.TheConstants.{JOURNAL_LIMIT};
+ghost use Rattle.sm_base.specs.declared.limits.TheConstants.{JOURNAL_LIMIT};
 
 use crate::asked::{Answer, Kept, create, current, put};
 use crate::journals::{CANCELLED, CREATED, PUT, PUT_EARLIER, disk_of, file_of};
@@ -115,9 +115,9 @@ fn answers(alloc: Global, limit: u64) -> Result<([Answer; 4], u64), Fail>
     let Ok(mut account) = opened else {
         return Err("not opened".into());
     };
-    let created = create(&mut account, "s3cret");
-    let again = create(&mut account, "s3cret");
-    let other = create(&mut account, "other");
+    let created = create(alloc, &mut account, "s3cret");
+    let again = create(alloc, &mut account, "s3cret");
+    let other = create(alloc, &mut account, "other");
     let put = put(&mut account);
     Ok(([created, again, other, put], account.entries()))
 }

@@ -54,8 +54,9 @@ pub struct Run<R: Rotator> {
     pub works: Vec<Work>,
 }
 
-fn creation() -> Request {
+fn creation(alloc: Global) -> Request {
     Request::CreateSecret(CreateSecret {
+        regions: List::empty(alloc),
         client_request_token: Some(Text::fixed(FIRST)),
         description: None,
         kms_key_id: None,
@@ -73,7 +74,10 @@ fn rotation(token: &'static str) -> Request {
         client_request_token: Some(Text::fixed(token)),
         rotate_immediately: true,
         rotation_lambda_arn: None,
-        rotation_rules: Some(Rules { days: Some(30) }),
+        rotation_rules: Some(Rules {
+            days: Some(30),
+            schedule: None,
+        }),
         secret_id: Text::fixed("app/db"),
     })
 }
@@ -227,7 +231,7 @@ fn make_step<R: Rotator>(
     requires { moment.0 ≤ LAST_READING }
 {
     match step {
-        Step::Create => ask(alloc, run, moment, &creation()),
+        Step::Create => ask(alloc, run, moment, &creation(alloc)),
         Step::Rotate(token) => ask(alloc, run, moment, &rotation(token)),
         Step::Fill => ask(alloc, run, moment, &filling(alloc)?),
         Step::DropPending => ask(alloc, run, moment, &dropping()),

@@ -6,6 +6,7 @@ pub mod FaultCounts
 pub mod FaultLemmas
 pub mod LabelLemmas
 pub mod PartLemmas
+pub mod PersonArnLemmas
 pub mod RunLemmas
 pub mod SecretIdLemmas
 pub mod SharedLemmas

@@ -3,10 +3,12 @@ pub mod Drawn
 pub mod Fails
 pub mod Faults
 pub mod FirstFault
-pub mod Links
+pub mod Octets
 pub mod Outcomes
 pub mod Parts
+pub mod PersonArn
 pub mod Reading
 pub mod SecretId
 pub mod Spelling
+pub mod Sums
 pub mod Texts

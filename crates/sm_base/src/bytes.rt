@@ -1,22 +1,40 @@
 //! Bytes.
-ghost use Rattle.std.specs.Prelude.{◌≡◌, ℕ, ◌↔◌, [], IsTrue, IfOk, length};
+ghost use Rattle.std.specs.Prelude.{◌≡◌, ℕ, ◌↔◌, ◌++◌, [], IsTrue, IfOk, OnOk, OnErr, length};
 
 use crate::memory::{Copied, NoMemory};
 use std::alloc::Global;
 use std::marker::Model;
+use std::sync::ArcSlice;
 
-/// Bytes, which contracts see as their list.
+/// Where bytes lie.
 #[derive(Drop)]
+enum Kept {
+    Owned(Vec<u8>),
+    /// With their copies.
+    Shared(ArcSlice<u8>),
+}
+
+/// Bytes, which contracts see as their list. Copies of a copy share its bytes, so that only the first copy of bytes
+/// copies each of them.
 pub struct Bytes {
-    vec: Vec<u8>,
+    kept: Kept,
+}
+
+/// Where bytes lie is looked at here alone: who lets them go makes one call.
+impl Drop for Bytes {
+    fn drop(self) {
+        let Bytes { kept } = self;
+        drop(kept);
+    }
 }
 
 impl Model for Bytes {
     ghost use Rattle.std.specs.Prelude.{List, ℕ};
+    ghost use Rattle.sm_base.specs.Octets.{octets};
 
     ghost Value = { List ℕ };
 
-    ghost view = { λ b. b.vec.items };
+    ghost view = { λ b. octets b.kept };
 }
 
 impl Bytes {
@@ -24,16 +42,16 @@ impl Bytes {
     pub fn empty(alloc: Global) -> Bytes
         ensures { result ≡ [] }
     {
-        Bytes {
-            vec: Vec::new(alloc),
-        }
+        Bytes::new(Vec::new(alloc))
     }
 
     /// The bytes of a vector. It takes no memory.
     pub fn new(vec: Vec<u8>) -> Bytes
         ensures { result ≡ vec.items }
     {
-        Bytes { vec }
+        Bytes {
+            kept: Kept::Owned(vec),
+        }
     }
 
     /// A copy of a slice.
@@ -43,30 +61,41 @@ impl Bytes {
         Ok(Bytes::new(Vec::from_slice(alloc, bytes)?))
     }
 
-    /// The vector again. It takes no memory.
-    pub fn into_vec(self) -> Vec<u8>
-        ensures { result.items ≡ self }
+    /// Adds bytes at the end. Those that are shared are copied first. Without memory the bytes stay.
+    pub fn extend_from_slice(&mut self, alloc: Global, bytes: &[u8]) -> Result<(), NoMemory>
+        ensures ok { OnOk result (self.new ≡ self.old ++ bytes.now) }
+        ensures err { OnErr result (self.new ≡ self.old) }
     {
-        let Bytes { vec } = self;
-        vec
+        match &mut self.kept {
+            Kept::Owned(vec) => vec.extend_from_slice(bytes)?,
+            Kept::Shared(shared) => {
+                let mut vec = Vec::from_slice(alloc, shared.as_slice())?;
+                vec.extend_from_slice(bytes)?;
+                self.kept = Kept::Owned(vec);
+            }
+        }
+        Ok(())
     }
 
     pub fn as_slice(&self) -> &[u8]
         ensures { result.now ≡ self.now }
     {
-        self.vec.as_slice()
+        match &self.kept {
+            Kept::Owned(vec) => vec.as_slice(),
+            Kept::Shared(shared) => shared.as_slice(),
+        }
     }
 
     pub fn len(&self) -> usize
         ensures { result ≡ length self.now }
     {
-        self.vec.len()
+        self.as_slice().len()
     }
 
     pub fn is_empty(&self) -> bool
         ensures { IsTrue result ↔ (length self.now ≡ 0) }
     {
-        self.vec.is_empty()
+        self.len() == 0
     }
 
     /// Whether both have the same bytes.
@@ -79,7 +108,13 @@ impl Bytes {
 
 impl Copied for Bytes {
     fn copy(&self, alloc: Global) -> Result<Bytes, NoMemory> {
-        Bytes::from_slice(alloc, self.as_slice())
+        let shared = match &self.kept {
+            Kept::Owned(vec) => ArcSlice::from_slice(alloc, vec.as_slice())?,
+            Kept::Shared(shared) => shared.clone()?,
+        };
+        Ok(Bytes {
+            kept: Kept::Shared(shared),
+        })
     }
 }
 

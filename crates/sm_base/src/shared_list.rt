@@ -1,13 +1,12 @@
 //! Lists whose copies share their items.
-ghost use Rattle.std.specs.Prelude.{◌≡◌, ℕ, ◌+◌, ◌-◌, ◌<◌, ◌++◌, ◌∷◌, [], IfOk, OnOk, OnErr, length, map, reverse, slice_get, option_copied, nat_eq};
+ghost use Rattle.std.specs.Prelude.{◌≡◌, ℕ, ◌<◌, ◌++◌, ◌∷◌, [], IfOk, OnOk, OnErr, length, map, filter, slice_get, slice_set, option_copied, nat_eq};
 ghost use Rattle.std.specs.Cmp.Lexicographic.{pointwise};
-ghost use Rattle.std.specs.List.{find};
-ghost use Rattle.sm_base.specs.Links.{newest, mixed, sum_of};
+ghost use Rattle.std.specs.List.{find, position};
+ghost use Rattle.sm_base.specs.Sums.{mixed, sum_of};
 
 use crate::memory::{Copied, NoMemory};
 use std::alloc::Global;
 use std::marker::Model;
-use std::mem;
 use std::sync::Arc;
 
 /// What is found by a key.
@@ -21,58 +20,88 @@ pub trait Keyed {
         ensures { result.now ≡ key self.now };
 }
 
-/// The items up to one, or none.
-#[cycle(links)]
-enum Upto<T> {
-    Nothing,
-    Item(Arc<Link<T>>),
+/// What picks the items that stay in a list.
+pub trait Picks<T> {
+    ghost use Rattle.std.specs.Prelude.{Bool};
+
+    /// Whether an item is picked.
+    ghost picked: { Self → T → Bool };
+
+    fn picks(&self, item: &T) -> bool
+        ensures { result ≡ picked self.now item.now };
 }
 
-/// An item with those before it.
+/// An item that copies share, with the number of its key, which contracts see as the item.
 #[derive(Drop)]
-#[cycle(links)]
-struct Link<T> {
-    item: T,
-    before: Upto<T>,
+struct Entry<T: Keyed> {
+    /// Equal keys have equal ones.
+    sum: u32,
+    item: Arc<T>,
 }
 
-/// So that a long list does not run out of stack.
-impl<T: Drop> Drop for Upto<T> {
-    fn drop(mut self) {
-        loop {
-            match self {
-                Upto::Nothing => return,
-                Upto::Item(link) => match Arc::into_inner(link) {
-                    Some(link) => {
-                        let Link { item, before } = link;
-                        drop(item);
-                        self = before;
-                    }
-                    None => return,
-                },
-            }
-        }
+impl<T: Keyed> Model for Entry<T> {
+    ghost use Rattle.std.specs.Prelude.{◌≡◌};
+    ghost use Rattle.std.specs.Arc.{arc_value};
+    ghost use Rattle.sm_base.specs.Sums.{sum_of};
+
+    ghost Value = { T };
+
+    ghost view = { λ e. arc_value e.item };
+
+    ghost invariant = { λ e. e.sum ≡ sum_of (T.key (arc_value e.item)) };
+}
+
+impl<T: Keyed> Entry<T> {
+    fn item(&self) -> &T
+        ensures { result.now ≡ self.now }
+    {
+        &self.item
+    }
+
+    /// The same item, shared.
+    fn shared(&self) -> Result<Entry<T>, NoMemory>
+        ensures { IfOk result (λ entry. entry ≡ self.now) }
+    {
+        let item = Arc::try_clone(&self.item)?;
+        Ok(Entry {
+            sum: self.sum,
+            item,
+        })
+    }
+
+    /// Whether the item has the key with this number. An item with another number is not looked at.
+    #[tactic(auto, using(crate::proofs::SharedLemmas::other_key))]
+    fn has_key(&self, sum: u32, key: &[u8]) -> bool
+        requires { sum ≡ sum_of key.now }
+        ensures { result ≡ pointwise nat_eq (T.key self.now) key.now }
+    {
+        self.sum == sum && self.item.key() == key
     }
 }
 
-/// A list of items in order, to which items are added at the end, and which contracts see as the list itself. A copy
-/// shares the items of its original, and costs a number an item.
+impl<T: Keyed + Drop> Entry<T> {
+    fn new(alloc: Global, item: T) -> Result<Entry<T>, NoMemory>
+        ensures { IfOk result (λ entry. entry ≡ item) }
+    {
+        let sum = sum_of(item.key());
+        let item = Arc::new(alloc, item)?;
+        Ok(Entry { sum, item })
+    }
+}
+
+/// A list of items in order, which contracts see as the list itself. A copy shares the items of its original, and costs
+/// a count an item. The numbers of the keys spare most looks at the keys.
 #[derive(Drop)]
 pub struct SharedList<T: Keyed> {
-    last: Upto<T>,
-    /// A number for the key of each item: equal keys have equal ones.
-    sums: Vec<u32>,
+    entries: Vec<Entry<T>>,
 }
 
 impl<T: Keyed> Model for SharedList<T> {
-    ghost use Rattle.std.specs.Prelude.{◌≡◌, List, map, reverse};
-    ghost use Rattle.sm_base.specs.Links.{newest, sum_of};
+    ghost use Rattle.std.specs.Prelude.{List};
 
     ghost Value = { List T };
 
-    ghost view = { λ l. reverse (newest l.last) };
-
-    ghost invariant = { λ l. l.sums.items ≡ map (λ item. sum_of (T.key item)) (reverse (newest l.last)) };
+    ghost view = { λ l. l.entries.items };
 }
 
 impl<T: Keyed> SharedList<T> {
@@ -81,46 +110,63 @@ impl<T: Keyed> SharedList<T> {
         ensures { result ≡ [] }
     {
         SharedList {
-            last: Upto::Nothing,
-            sums: Vec::new(alloc),
+            entries: Vec::new(alloc),
         }
     }
 
     pub fn len(&self) -> usize
         ensures { result ≡ length self.now }
     {
-        self.sums.len()
+        self.entries.len()
+    }
+
+    /// The item at a place, counted from 0.
+    pub fn get(&self, place: usize) -> Option<&T>
+        ensures { option_copied result ≡ slice_get self.now place }
+    {
+        match self.entries.get(place) {
+            Some(entry) => Some(entry.item()),
+            None => None,
+        }
     }
 
     /// The items in order. It takes memory for their addresses alone.
     pub fn items<'a>(&'a self, alloc: Global) -> Result<Vec<&'a T>, NoMemory>
         ensures { IfOk result (λ vec. map (λ item. item.now) vec.items ≡ self.now) }
     {
-        let mut vec = Vec::with_capacity(alloc, self.sums.len())?;
-        let mut upto = &self.last;
-        while let Upto::Item(link) = upto {
-            vec.push(&link.item)?;
-            upto = &link.before;
+        let entries = self.entries.as_slice();
+        let mut vec = Vec::with_capacity(alloc, entries.len())?;
+        for entry in entries {
+            vec.push(entry.item())?;
         }
-        Ok(reversed(vec))
+        Ok(vec)
     }
 
-    /// The first item with the key. An item with another key is looked at only where both have the same number.
-    pub fn find(&self, key: &[u8]) -> Option<&T>
-        ensures { option_copied result ≡ find (λ item. pointwise nat_eq (T.key item) key.now) self.now }
+    /// The place of the first item with the key, and nothing where no item has it. An item with another key is looked
+    /// at only where both have the same number.
+    #[tactic(auto, using(crate::proofs::SharedLemmas::none_upto, crate::proofs::SharedLemmas::first_at))]
+    pub fn position(&self, key: &[u8]) -> Option<usize>
+        ensures { result ≡ position (λ item. pointwise nat_eq (T.key item) key.now) self.now }
     {
         let sum = sum_of(key);
-        let sums = self.sums.as_slice();
-        for at in 0..sums.len() {
-            if sums[at] == sum {
-                if let Some(item) = item_before(&self.last, sums.len() - 1 - at) {
-                    if has_key(item, key) {
-                        return Some(item);
-                    }
-                }
+        let entries = self.entries.as_slice();
+        for at in 0..entries.len() {
+            if entries[at].has_key(sum, key) {
+                return Some(at);
             }
         }
         None
+    }
+
+    /// The first item with the key.
+    #[tactic(auto, using(crate::proofs::SharedLemmas::item_at_position, crate::proofs::SharedLemmas::no_item))]
+    pub fn find(&self, key: &[u8]) -> Option<&T>
+        ensures { option_copied result ≡ find (λ item. pointwise nat_eq (T.key item) key.now) self.now }
+    {
+        match self.position(key) {
+            Some(place) => self.get(place),
+            None => None,
+        }
     }
 }
 
@@ -130,31 +176,39 @@ impl<T: Keyed + Drop> SharedList<T> {
         ensures ok { OnOk result (self.new ≡ self.old ++ item ∷ []) }
         ensures err { OnErr result (self.new ≡ self.old) }
     {
-        self.sums.reserve(1)?;
-        let sum = sum_of(item.key());
-        let before = mem::replace(&mut self.last, Upto::Nothing);
-        match Arc::new(alloc, Link { item, before }) {
-            Ok(link) => {
-                self.last = Upto::Item(link);
-                self.sums.push_reserved(sum);
-                Ok(())
-            }
-            Err(failed) => {
-                self.last = failed.value.before;
-                Err(NoMemory)
-            }
-        }
+        let entry = Entry::new(alloc, item)?;
+        self.entries.push(entry)?;
+        Ok(())
+    }
+
+    /// Puts an item at a place. The one that stood there stays in the copies. Without memory the list stays, and the
+    /// item is dropped.
+    pub fn replace(&mut self, alloc: Global, place: usize, item: T) -> Result<(), NoMemory>
+        requires { place < length self.old }
+        ensures ok { OnOk result (self.new ≡ slice_set self.old place item) }
+        ensures err { OnErr result (self.new ≡ self.old) }
+    {
+        let entry = Entry::new(alloc, item)?;
+        self.entries[place] = entry;
+        Ok(())
+    }
+
+    /// Takes out the items that are not picked. The others stay in their order. It takes no memory.
+    pub fn retain<P: Picks<T>>(&mut self, picks: &P)
+        ensures { self.new ≡ filter (P.picked picks.now) self.old }
+    {
+        self.entries.retain(|entry| picks.picks(entry.item()));
     }
 
     /// The list of the items of a vector.
     pub fn from_vec(alloc: Global, vec: Vec<T>) -> Result<SharedList<T>, NoMemory>
         ensures { IfOk result (λ list. list ≡ vec.items) }
     {
-        let mut list = SharedList::empty(alloc);
+        let mut entries = Vec::with_capacity(alloc, vec.len())?;
         for item in vec {
-            list.push(alloc, item)?;
+            entries.push(Entry::new(alloc, item)?)?;
         }
-        Ok(list)
+        Ok(SharedList { entries })
     }
 }
 
@@ -163,58 +217,25 @@ impl<T: Keyed + Copied> SharedList<T> {
     pub fn to_vec(&self, alloc: Global) -> Result<Vec<T>, NoMemory>
         ensures { IfOk result (λ vec. vec.items ≡ self.now) }
     {
-        let mut vec = Vec::with_capacity(alloc, self.sums.len())?;
-        let mut upto = &self.last;
-        while let Upto::Item(link) = upto {
-            vec.push(link.item.copy(alloc)?)?;
-            upto = &link.before;
+        let entries = self.entries.as_slice();
+        let mut vec = Vec::with_capacity(alloc, entries.len())?;
+        for entry in entries {
+            vec.push(entry.item().copy(alloc)?)?;
         }
-        Ok(reversed(vec))
+        Ok(vec)
     }
 }
 
 impl<T: Keyed + Drop> Copied for SharedList<T> {
     fn copy(&self, alloc: Global) -> Result<SharedList<T>, NoMemory> {
-        let last = match &self.last {
-            Upto::Nothing => Upto::Nothing,
-            Upto::Item(link) => Upto::Item(Arc::try_clone(link)?),
-        };
+        let old = self.entries.as_slice();
         // (with room for one more)
-        let mut sums = Vec::with_capacity(alloc, self.sums.len() + 1)?;
-        sums.extend_from_slice(self.sums.as_slice())?;
-        Ok(SharedList { last, sums })
-    }
-}
-
-/// The items in the other order.
-fn reversed<T>(mut vec: Vec<T>) -> Vec<T>
-    ensures { result.items ≡ reverse vec.items }
-{
-    vec.as_mut_slice().reverse();
-    vec
-}
-
-/// The item so many before the last.
-fn item_before<T>(last: &Upto<T>, count: usize) -> Option<&T>
-    ensures { option_copied result ≡ slice_get (newest last.now) count }
-{
-    let mut upto = last;
-    let mut left = count;
-    while let Upto::Item(link) = upto {
-        if left == 0 {
-            return Some(&link.item);
+        let mut entries = Vec::with_capacity(alloc, old.len() + 1)?;
+        for entry in old {
+            entries.push(entry.shared()?)?;
         }
-        left -= 1;
-        upto = &link.before;
+        Ok(SharedList { entries })
     }
-    None
-}
-
-/// Whether the item has the key.
-fn has_key<T: Keyed>(item: &T, key: &[u8]) -> bool
-    ensures { result ≡ pointwise nat_eq (T.key item.now) key.now }
-{
-    item.key() == key
 }
 
 /// The number of a key.
@@ -225,7 +246,7 @@ fn sum_of(key: &[u8]) -> u32
 }
 
 /// The number with another byte.
-#[tactic(auto, unfolding(crate::specs::Links::mixed))]
+#[tactic(auto, unfolding(crate::specs::Sums::mixed))]
 fn mixed(sum: u32, byte: u8) -> u32
     ensures { result ≡ mixed sum byte }
 {

@@ -12,7 +12,7 @@ fn are_name_bytes(text: &[u8]) -> bool
     text.iter().all(|byte| is_name_byte(*byte))
 }
 
-fn are_token_bytes(text: &[u8]) -> bool
+pub(crate) fn are_token_bytes(text: &[u8]) -> bool
     ensures { result ≡ list_all is_token_byte text.now }
 {
     text.iter().all(|byte| is_token_byte(*byte))

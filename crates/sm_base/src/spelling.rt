@@ -141,16 +141,14 @@ impl Token {
         Ok(Token { text })
     }
 
-    /// The version 4 UUID of 16 random bytes, in lower-case hexadecimal digits with hyphens.
+    /// The version 4 UUID of 16 random bytes, in lower-case hexadecimal digits with hyphens. Copies share its text.
     #[tactic(auto, using(crate::proofs::DrawnLemmas::hyphenated_is_token))]
     pub fn drawn(alloc: Global, bytes: &[u8; 16]) -> Result<Token, NoMemory>
         ensures { IfOk result (λ token. token ≡ drawn_token bytes.now) }
     {
         let uuid = Builder::from_random_bytes(*bytes).into_uuid();
-        let text = uuid.hyphenated().to_string(alloc)?;
-        Ok(Token {
-            text: Text::new(text),
-        })
+        let text = Text::shared(uuid.hyphenated().to_string(alloc)?)?;
+        Ok(Token { text })
     }
 
     pub fn as_text(&self) -> &Text
@@ -263,15 +261,13 @@ impl Arn {
         Ok(Arn { text })
     }
 
-    /// The ARN of a new secret with this name: it ends in the characters of six random bytes.
+    /// The ARN of a new secret with this name: it ends in the characters of six random bytes. Copies share its text.
     #[tactic(auto, using(crate::proofs::DrawnLemmas::drawn_arn_is_arn))]
     pub fn drawn(alloc: Global, name: &Name, six: &[u8; 6]) -> Result<Arn, NoMemory>
         ensures { IfOk result (λ arn. arn ≡ drawn_arn name.now six.now) }
     {
-        let text = drawn_arn_text(alloc, name.as_text(), six)?;
-        Ok(Arn {
-            text: Text::new(text),
-        })
+        let text = Text::shared(drawn_arn_text(alloc, name.as_text(), six)?)?;
+        Ok(Arn { text })
     }
 
     pub fn as_text(&self) -> &Text

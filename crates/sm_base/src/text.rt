@@ -1,6 +1,7 @@
 //! Texts.
 ghost use Rattle.std.specs.Prelude.{◌≡◌, ℕ, ◌↔◌, IsTrue, IfOk, IsUtf8, length, string_bytes};
-ghost use Rattle.std.specs.Str.{is_utf8};
+ghost use Rattle.std.specs.Str.{chars, is_utf8};
+ghost use Rattle.sm_base.specs.Texts.{same_text, has_at_most};
 
 use crate::memory::{Copied, NoMemory};
 use std::alloc::Global;
@@ -20,7 +21,7 @@ enum Kept {
 
 /// UTF-8 text, which contracts see as the list of its bytes. A text that the program itself has, such as the
 /// name of a member, takes no memory. Copies of a copy share its bytes, so that only the first copy of a text is one of
-/// its bytes.
+/// its bytes, and none of a text that is shared from the start.
 pub struct Text {
     kept: Kept,
 }
@@ -59,6 +60,16 @@ impl Text {
         Text {
             kept: Kept::Fixed(text),
         }
+    }
+
+    /// The text of a string, which its copies share from the first one on. It takes memory for their count alone.
+    pub fn shared(string: String) -> Result<Text, NoMemory>
+        ensures { IfOk result (λ t. t ≡ string_bytes string) }
+    {
+        let text = ArcStr::from_string(string)?;
+        Ok(Text {
+            kept: Kept::Shared(text),
+        })
     }
 
     /// A text with these characters.
@@ -153,4 +164,26 @@ impl PartialEq for Text {
     fn eq(&self, other: &Text) -> bool {
         self.as_str() == other.as_str()
     }
+}
+
+/// Whether both texts have the same bytes.
+#[tactic(auto, unfolding(crate::specs::Texts::same_text))]
+pub fn same_text(one: &[u8], other: &[u8]) -> bool
+    ensures { result ≡ same_text one.now other.now }
+{
+    one == other
+}
+
+/// How many characters a text has.
+pub fn characters(text: &Text) -> usize
+    ensures { result ≡ length (chars text.now) }
+{
+    text.as_str().chars().count()
+}
+
+/// Whether a text has at most so many characters.
+pub fn has_at_most(text: &Text, limit: usize) -> bool
+    ensures { result ≡ has_at_most limit text.now }
+{
+    characters(text) <= limit
 }

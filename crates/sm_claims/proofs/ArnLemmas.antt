@@ -4,12 +4,14 @@ use Rattle.std.proofs.lemmas.Bool.{and_parts}
 use Rattle.sm_base.specs.declared.moment.Moment.{Moment}
 use Rattle.sm_model.specs.declared.rows.Rows.{Rows}
 use Rattle.sm_model.specs.declared.rows.SecretRow.{SecretRow}
-use Rattle.sm_versions.specs.Due.{is_reached, is_free_or_held_by, is_due, is_due_for}
-use Rattle.sm_versions.specs.Labels.{holder}
+use Rattle.sm_versions.specs.Due.{is_due, is_due_for}
+use Rattle.sm_model.specs.Due.{is_reached, is_free_or_held_by}
+use Rattle.sm_model.specs.Labels.{holder, aws_current, aws_pending}
 use Rattle.sm_versions.specs.Put.{is_full}
 use Rattle.sm_versions.specs.Sound.{RowSound}
-use Rattle.sm_versions.specs.Texts.{is_among, once, same_text, aws_current, aws_pending}
-use Rattle.sm_versions.specs.Versions.{has_version}
+use Rattle.sm_versions.specs.Texts.{is_among, once}
+use Rattle.sm_base.specs.Texts.{same_text}
+use Rattle.sm_model.specs.Versions.{has_version}
 use Rattle.sm_versions.proofs.TextLemmas.{same_text_itself, same_text_tells}
 use Rattle.sm_table.specs.Found.{found_arn, row_with_arn, short_arn}
 use Rattle.sm_table.specs.Index.{name_in}

@@ -13,11 +13,11 @@ use Rattle.sm_model.specs.declared.rows.Stage.TheVariants.{Create, Set, Test, Fi
 use Rattle.sm_model.specs.declared.rows.VersionRow.{VersionRow}
 use Rattle.sm_model.specs.declared.value.Value.{Value}
 use Rattle.sm_versions.specs.Kept.{JobKept}
-use Rattle.sm_versions.specs.Labels.{holder, is_held_by}
+use Rattle.sm_model.specs.Labels.{holder, is_held_by, aws_current, aws_pending}
 use Rattle.sm_versions.specs.Settle.{is_create, is_live}
 use Rattle.sm_versions.specs.Sound.{RowSound}
-use Rattle.sm_versions.specs.Texts.{aws_current, aws_pending}
-use Rattle.sm_versions.specs.Versions.{has_value, has_version, same_value, value_of, version_of}
+use Rattle.sm_versions.specs.Versions.{has_value, same_value, value_of, version_of}
+use Rattle.sm_model.specs.Versions.{has_version}
 use Rattle.sm_versions.proofs.VersionLemmas.{same_value_decides, value_of_is}
 use Rattle.sm_table.specs.Found.{found_arn}
 use Rattle.sm_table.specs.Sound.{Sound}

@@ -8,11 +8,11 @@ use Rattle.sm_model.specs.declared.rows.Stage.TheVariants.{Create, Set, Test, Fi
 use Rattle.sm_model.specs.declared.rows.VersionRow.{VersionRow}
 use Rattle.sm_model.specs.declared.value.Value.{Value}
 use Rattle.sm_versions.specs.Kept.{JobKept, has_none, has_current_value, holder_has_value}
-use Rattle.sm_versions.specs.Labels.{holder, is_held_by}
+use Rattle.sm_model.specs.Labels.{holder, is_held_by, aws_current, aws_pending}
 use Rattle.sm_versions.specs.Settle.{is_create}
 use Rattle.sm_versions.specs.Sound.{RowSound}
-use Rattle.sm_versions.specs.Texts.{aws_current, aws_pending}
-use Rattle.sm_versions.specs.Versions.{has_version, value_of, version_of}
+use Rattle.sm_versions.specs.Versions.{value_of, version_of}
+use Rattle.sm_model.specs.Versions.{has_version}
 use Rattle.sm_versions.proofs.VersionLemmas.{has_version_is_some}
 use Rattle.sm_rotator.specs.Steps.{needs_current, needs_pending}
 use Rattle.sm_claims.specs.Works.{current_value, value_held, value_if}

@@ -8,7 +8,7 @@ use Rattle.sm_model.specs.declared.entry.At.{At}
 use Rattle.sm_model.specs.declared.entry.Mark.{Mark}
 use Rattle.sm_model.specs.declared.entry.Mark.TheVariants.{Entry, Claim, Fault}
 use Rattle.sm_model.specs.declared.rows.Job.{Job}
-use Rattle.sm_versions.specs.Texts.{same_text}
+use Rattle.sm_base.specs.Texts.{same_text}
 use Rattle.sm_rotation.specs.Step.{is_at}
 use Rattle.sm_claims.specs.declared.claims.TheConstants.{CLAIM_SECONDS}
 

@@ -5,8 +5,7 @@ use Rattle.sm_model.specs.declared.rows.Job.{Job}
 use Rattle.sm_model.specs.declared.rows.SecretRow.{SecretRow}
 use Rattle.sm_model.specs.declared.rows.VersionRow.{VersionRow}
 use Rattle.sm_model.specs.declared.value.Value.{Value}
-use Rattle.sm_versions.specs.Texts.{aws_current}
-use Rattle.sm_versions.specs.Labels.{holder}
+use Rattle.sm_model.specs.Labels.{aws_current, holder}
 use Rattle.sm_versions.specs.Versions.{value_of, version_of}
 use Rattle.sm_rotation.specs.Step.{at_of}
 use Rattle.sm_rotator.specs.Steps.{needs_current, needs_pending}

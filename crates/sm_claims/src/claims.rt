@@ -1,6 +1,6 @@
 //! Claims of steps (AWS Secrets Manager User Guide, "Lambda rotation functions").
 ghost use Rattle.std.specs.Prelude.{◌≡◌};
-ghost use Rattle.sm_versions.specs.Texts.{same_text};
+ghost use Rattle.sm_base.specs.Texts.{same_text};
 ghost use Rattle.sm_claims.specs.Claims.{is_open, is_claim_of, is_claimed};
 
 use sm_model::{Arn, Job, Mark, Moment};

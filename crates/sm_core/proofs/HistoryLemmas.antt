@@ -38,4 +38,4 @@ pub legal_keeps : (rows : Rows) → (before : Moment) → (entries : List Entry)
 legal_keeps rows before [] sound legal early = sound
 legal_keeps rows before (entry ∷ entries) sound legal early =
     legal_keeps (effect rows entry) entry.moment entries
-    (act_keeps rows entry.moment entry.drawn entry.act sound early.0 legal.1) legal.2 early.1
+    (act_keeps rows entry.moment entry.drawn entry.act sound early.0 legal.1.1) legal.2 early.1

@@ -62,6 +62,9 @@ is_refused question rows moment drawn (requests.GetSecretValue get) = get_refuse
 is_refused question rows moment drawn (requests.ListSecretVersionIds list) = versions_refuses rows moment list
 is_refused question rows moment drawn (requests.ListSecrets list) = list_refuses rows moment list
 is_refused question rows moment drawn (requests.PutSecretValue put) = put_refuses rows moment drawn put
+is_refused question rows moment drawn (requests.RemoveRegionsFromReplication remove) = refl
+is_refused question rows moment drawn (requests.ReplicateSecretToRegions replicate) = refl
+is_refused question rows moment drawn (requests.StopReplicationToReplica stop) = refl
 is_refused question rows moment drawn (requests.RestoreSecret restore) = restore_refuses rows moment restore
 is_refused question rows moment drawn (requests.TagResource tag) = tag_refuses rows moment tag
 is_refused question rows moment drawn (requests.UntagResource untag) = untag_refuses rows moment untag
@@ -94,6 +97,9 @@ is_unchanged question rows moment drawn (requests.GetSecretValue get) = get_read
 is_unchanged question rows moment drawn (requests.ListSecretVersionIds list) = versions_reads rows moment list
 is_unchanged question rows moment drawn (requests.ListSecrets list) = list_reads rows moment list
 is_unchanged question rows moment drawn (requests.PutSecretValue put) = put_repeats rows moment drawn put
+is_unchanged question rows moment drawn (requests.RemoveRegionsFromReplication remove) = tt
+is_unchanged question rows moment drawn (requests.ReplicateSecretToRegions replicate) = tt
+is_unchanged question rows moment drawn (requests.StopReplicationToReplica stop) = tt
 is_unchanged question rows moment drawn (requests.RestoreSecret restore) = restore_changes rows moment restore
 is_unchanged question rows moment drawn (requests.TagResource tag) = tag_changes rows moment tag
 is_unchanged question rows moment drawn (requests.UntagResource untag) = untag_changes rows moment untag
@@ -137,6 +143,11 @@ change_is_entry question rows moment key drawn (requests.ListSecretVersionIds li
 change_is_entry question rows moment key drawn (requests.ListSecrets list) sound early forms room = tt
 change_is_entry question rows moment key drawn (requests.PutSecretValue put) sound early forms room =
     put_change rows moment drawn put sound (is_kept_date moment early) forms
+change_is_entry question rows moment key drawn (requests.RemoveRegionsFromReplication remove) sound early forms room =
+    tt
+change_is_entry question rows moment key drawn (requests.ReplicateSecretToRegions replicate) sound early forms room =
+    tt
+change_is_entry question rows moment key drawn (requests.StopReplicationToReplica stop) sound early forms room = tt
 change_is_entry question rows moment key drawn (requests.RestoreSecret restore) sound early forms room =
     restore_change rows moment restore sound (is_kept_date moment early)
 change_is_entry question rows moment key drawn (requests.TagResource tag) sound early forms room =

@@ -1,5 +1,5 @@
 -- An entry that is judged again: it is accepted exactly where it is legal, and its change is the entry's.
-use Rattle.std.proofs.Common.{◌≡◌, ℕ, ◌≤◌, Bool, true, false, cond, nat_eq, List, [], length, Option, Some, None, IsSome, refl, sym, subst, arith}
+use Rattle.std.proofs.Common.{◌≡◌, ℕ, ◌≤◌, Bool, true, false, cond, nat_eq, List, [], length, Option, Some, None, IsSome, refl, sym, subst, arith, IsTrue}
 use Rattle.std.proofs.lemmas.Bool.Decides.{nat_tests}
 use Rattle.sm_base.specs.declared.moment.Moment.{Moment}
 use Rattle.sm_base.specs.declared.moment.TheConstants.{LAST_READING}
@@ -28,7 +28,7 @@ use Rattle.sm_rotations.proofs.ReportedLemmas.{reported_agrees}
 use Rattle.sm_core.specs.declared.replaying.Replayed.{Replayed}
 use Rattle.sm_core.specs.declared.replaying.Replayed.TheVariants.{Accept, Refuse, Memory}
 use Rattle.sm_core.specs.Effects.{act_effect, effect}
-use Rattle.sm_core.specs.Histories.{IsDue, LegalAct}
+use Rattle.sm_core.specs.Histories.{IsDue, LegalAct, LegalEntry, may_stand}
 use Rattle.sm_core.specs.Judging.{judgement, is_batch}
 use Rattle.sm_core.specs.Replaying.{again_told, IfReplayed, AsLegal, change_of, change_unless, replayed_act, replayed}
 use Rattle.sm_core.proofs.JudgingLemmas.{is_kept_date, change_is_entry}
@@ -67,22 +67,29 @@ act_agrees rows moment drawn (Reported arn at answer) sound early =
     (reported_change rows moment arn at answer) refl
     (reported_agrees rows moment arn at answer sound early (is_kept_date moment early))
 
+-- and only where it may be by who stands with it
+guard_agrees : (may : Bool) (L : Type 0) (P : Change → Type 0) (change : Option Change) → Agrees L P change
+    → Agrees (IsTrue may × L) P (cond may change None)
+guard_agrees true L P None h = λ legal. h legal.1
+guard_agrees true L P (Some change) h = ((refl, h.0), h.1)
+guard_agrees false L P change h = λ legal. absurd (let f : false ≡ true = legal.0 in cc)
+
 -- all that is said of an entry that is judged again
 pub record IsReplayed (rows : Rows) (entry : Entry) (result : Replayed) : Type 0 where
-  pub legal : AsLegal result (LegalAct rows entry.moment entry.drawn entry.act)
+  pub legal : AsLegal result (LegalEntry rows entry)
   pub change : IfReplayed result (IsChange rows entry.moment (effect rows entry))
 
 by_change : (rows : Rows) (entry : Entry) (result : Replayed) (change : Option Change)
     → OrMemory (again_told result) change
-    → Agrees (LegalAct rows entry.moment entry.drawn entry.act) (IsChange rows entry.moment (effect rows entry)) change
+    → Agrees (LegalEntry rows entry) (IsChange rows entry.moment (effect rows entry)) change
     → IsReplayed rows entry result
 by_change rows entry (Accept made) change e agrees =
-    let is = subst (Agrees (LegalAct rows entry.moment entry.drawn entry.act)
+    let is = subst (Agrees (LegalEntry rows entry)
     (IsChange rows entry.moment (effect rows entry))) (sym e) agrees in
     record { legal = is.0; change = is.1 }
 by_change rows entry Refuse change e agrees =
     record {
-      legal = subst (Agrees (LegalAct rows entry.moment entry.drawn entry.act)
+      legal = subst (Agrees (LegalEntry rows entry)
           (IsChange rows entry.moment (effect rows entry))) (sym e) agrees;
       change = tt;
     }
@@ -91,7 +98,10 @@ by_change rows entry Memory change e agrees = record { legal = tt; change = tt }
 pub replays : (rows : Rows) (entry : Entry) (result : Replayed) → Sound rows → entry.moment.0 ≤ LAST_READING
     → OrMemory (again_told result) (replayed rows entry) → IsReplayed rows entry result
 replays rows entry result sound early e =
-    by_change rows entry result (replayed rows entry) e (act_agrees rows entry.moment entry.drawn entry.act sound early)
+    by_change rows entry result (replayed rows entry) e
+    (guard_agrees (may_stand entry) (LegalAct rows entry.moment entry.drawn entry.act)
+    (IsChange rows entry.moment (effect rows entry)) (replayed_act rows entry.moment entry.drawn entry.act)
+    (act_agrees rows entry.moment entry.drawn entry.act sound early))
 
 -- a batch makes no entry
 pub batch_unchanged : (rows : Rows) (moment : Moment) (drawn : List ℕ) (request : Request) → is_batch request ≡ true

@@ -21,7 +21,7 @@ use Rattle.sm_model.specs.declared.rows.Rows.{Rows}
 use Rattle.sm_model.specs.declared.rows.SecretRow.{SecretRow}
 use Rattle.sm_versions.specs.declared.values.PutDone.{PutDone}
 use Rattle.sm_versions.specs.declared.values.PutDone.TheVariants as puts
-use Rattle.sm_versions.specs.Texts.{aws_current}
+use Rattle.sm_model.specs.Labels.{aws_current}
 use Rattle.sm_versions.specs.Put.{put_answer, put_row}
 use Rattle.sm_versions.specs.Kept.{CurrentKept}
 use Rattle.sm_dates.specs.Days.{days_after}
@@ -232,6 +232,12 @@ request_vouched replies rows moment drawn (requests.UntagResource untag) sound d
 request_vouched replies rows moment drawn (requests.UpdateSecretVersionStage update) sound due vouched =
     others_vouched replies rows moment (secret_id update.secret_id) (move_in (move_call update))
     (λ row. record { arn = refl; versions = refl; job = refl }) vouched
+request_vouched replies rows moment drawn (requests.RemoveRegionsFromReplication r) sound due vouched =
+    stay_vouched replies rows moment vouched
+request_vouched replies rows moment drawn (requests.ReplicateSecretToRegions r) sound due vouched =
+    stay_vouched replies rows moment vouched
+request_vouched replies rows moment drawn (requests.StopReplicationToReplica r) sound due vouched =
+    stay_vouched replies rows moment vouched
 request_vouched replies rows moment drawn (requests.BatchGetSecretValue r) sound due vouched =
     stay_vouched replies rows moment vouched
 request_vouched replies rows moment drawn (requests.DeleteResourcePolicy delete) sound due vouched =
@@ -290,5 +296,5 @@ pub legal_vouched : (replies : Replies) → (rows : Rows) → (before : Moment) 
 legal_vouched replies rows before [] sound legal early allowed vouched = vouched
 legal_vouched replies rows before (entry ∷ entries) sound legal early allowed vouched =
     legal_vouched replies (effect rows entry) entry.moment entries
-    (act_keeps rows entry.moment entry.drawn entry.act sound early.0 legal.1) legal.2 early.1 allowed.1
-    (act_vouched replies rows entry.moment entry.drawn entry.act sound legal.1 allowed.0 vouched)
+    (act_keeps rows entry.moment entry.drawn entry.act sound early.0 legal.1.1) legal.2 early.1 allowed.1
+    (act_vouched replies rows entry.moment entry.drawn entry.act sound legal.1.1 allowed.0 vouched)

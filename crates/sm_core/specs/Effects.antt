@@ -1,5 +1,5 @@
 -- What an entry does to the rows.
-use Rattle.std.specs.Prelude.{◌≡◌, ℕ, List}
+use Rattle.std.specs.Prelude.{◌≡◌, ℕ, List, [], false}
 use Rattle.sm_base.specs.declared.moment.Moment.{Moment}
 use Rattle.sm_model.specs.declared.entry.Act.{Act}
 use Rattle.sm_model.specs.declared.entry.Act.TheVariants.{Asked, Begun, Reported}
@@ -46,6 +46,9 @@ request_effect rows moment drawn (requests.GetResourcePolicy r) = rows
 request_effect rows moment drawn (requests.GetSecretValue r) = rows
 request_effect rows moment drawn (requests.ListSecretVersionIds r) = rows
 request_effect rows moment drawn (requests.ListSecrets r) = rows
+request_effect rows moment drawn (requests.RemoveRegionsFromReplication r) = rows
+request_effect rows moment drawn (requests.ReplicateSecretToRegions r) = rows
+request_effect rows moment drawn (requests.StopReplicationToReplica r) = rows
 request_effect rows moment drawn (requests.RotateSecret rotate) = rotate_effect rows moment drawn rotate
 request_effect rows moment drawn (requests.ValidateResourcePolicy r) = rows
 
@@ -58,9 +61,10 @@ act_effect rows moment drawn (Reported arn at answer) = reported_effect rows mom
 abbrev pub effect : Rows → Entry → Rows
 effect rows entry = settled (act_effect (sweep rows entry.moment) entry.moment entry.drawn entry.act)
 
--- the entry of an accepted request of the person with this key
+-- the entry of an accepted request of the person with this key; it names no ARN, and no version is dropped with it
 abbrev pub entry_of : Moment → List ℕ → List ℕ → Request → Entry
-entry_of moment key drawn request = record { moment = moment; caller = key; drawn = drawn; act = Asked request }
+entry_of moment key drawn request =
+    record { moment = moment; caller = key; by = []; drawn = drawn; act = Asked request; prunes = false }
 
 -- a change makes the rows of the entry
 abbrev pub Makes : Rows → Entry → Change → Type 0

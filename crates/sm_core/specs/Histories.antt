@@ -1,5 +1,5 @@
 -- Histories: the accepted changes of an account in order, and the rows that they make.
-use Rattle.std.specs.Prelude.{◌≡◌, ℕ, ◌≤◌, max, List, [], ◌∷◌, length, None, IsSome}
+use Rattle.std.specs.Prelude.{◌≡◌, ℕ, ◌≤◌, max, Bool, true, not, ◌&&◌, nat_eq, List, [], ◌∷◌, length, None, IsSome, IsTrue}
 use Rattle.sm_base.specs.declared.moment.Moment.{Moment}
 use Rattle.sm_base.specs.declared.moment.TheConstants.{LAST_READING}
 use Rattle.sm_model.specs.declared.entry.Act.{Act}
@@ -53,12 +53,25 @@ LegalAct rows moment drawn (Asked request) =
 LegalAct rows moment drawn (Begun arn) = MayBegin rows moment drawn arn
 LegalAct rows moment drawn (Reported arn at answer) = (length drawn ≡ 0) × MayReport rows moment arn at
 
+-- nobody asks for the start of a due rotation, or answers to a step: neither a key nor an ARN stands with them
+abbrev pub may_be_by : List ℕ → List ℕ → Act → Bool
+may_be_by caller by (Asked request) = true
+may_be_by caller by (Begun arn) = nat_eq (length caller) 0 && nat_eq (length by) 0
+may_be_by caller by (Reported arn at answer) = nat_eq (length caller) 0 && nat_eq (length by) 0
+
+-- what stands beside an act: nobody with what nobody asks for, and no version is dropped with it yet
+abbrev pub may_stand : Entry → Bool
+may_stand entry = not entry.prunes && may_be_by entry.caller entry.by entry.act
+
+-- an entry is legal at rows where its act is, and where what stands beside that may
+abbrev pub LegalEntry : Rows → Entry → Type 0
+LegalEntry rows entry = IsTrue (may_stand entry) × LegalAct rows entry.moment entry.drawn entry.act
+
 -- each entry's moment is at least that of the one before it, and each is legal at the rows of those before it
 abbrev pub Legal : Rows → Moment → List Entry → Type 0
 Legal rows before [] = Unit {0}
 Legal rows before (entry ∷ entries) =
-    (before.0 ≤ entry.moment.0) × LegalAct rows entry.moment entry.drawn entry.act
-    × Legal (effect rows entry) entry.moment entries
+    (before.0 ≤ entry.moment.0) × LegalEntry rows entry × Legal (effect rows entry) entry.moment entries
 
 -- a clock can give each entry's moment
 abbrev pub InTime : List Entry → Type 0

@@ -7,6 +7,7 @@ use Rattle.sm_model.specs.declared.request.Request.{Request}
 use Rattle.sm_model.specs.declared.request.Request.TheVariants as requests
 use Rattle.sm_model.specs.declared.rows.Rows.{Rows}
 use Rattle.sm_model.specs.declared.why.Why.{Why}
+use Rattle.sm_model.specs.declared.why.Why.TheVariants.{UnknownOperation}
 use Rattle.sm_judging.specs.declared.judged.Judged.{Judged}
 use Rattle.sm_judging.specs.declared.judged.Judged.TheVariants.{Refuse}
 use Rattle.sm_values.specs.CreateSecret.{create_judgement, create_refusal, create_repeat}
@@ -48,8 +49,11 @@ judgement_asking question rows moment drawn (requests.ListSecretVersionIds list)
 judgement_asking question rows moment drawn (requests.ListSecrets list) = list_judgement rows moment list
 judgement_asking question rows moment drawn (requests.PutResourcePolicy put) = put_policy_judgement rows moment put
 judgement_asking question rows moment drawn (requests.PutSecretValue put) = put_judgement rows moment drawn put
+judgement_asking question rows moment drawn (requests.RemoveRegionsFromReplication remove) = Refuse UnknownOperation
+judgement_asking question rows moment drawn (requests.ReplicateSecretToRegions replicate) = Refuse UnknownOperation
 judgement_asking question rows moment drawn (requests.RestoreSecret restore) = restore_judgement rows moment restore
 judgement_asking question rows moment drawn (requests.RotateSecret rotate) = rotate_judgement rows moment drawn rotate
+judgement_asking question rows moment drawn (requests.StopReplicationToReplica stop) = Refuse UnknownOperation
 judgement_asking question rows moment drawn (requests.TagResource tag) = tag_judgement rows moment tag
 judgement_asking question rows moment drawn (requests.UntagResource untag) = untag_judgement rows moment untag
 judgement_asking question rows moment drawn (requests.UpdateSecret update) = update_judgement rows moment drawn update
@@ -87,8 +91,11 @@ refusal rows moment drawn (requests.ListSecretVersionIds list) = versions_refusa
 refusal rows moment drawn (requests.ListSecrets list) = list_refusal rows moment list
 refusal rows moment drawn (requests.PutResourcePolicy put) = put_policy_refusal rows moment put
 refusal rows moment drawn (requests.PutSecretValue put) = put_refusal rows moment drawn put
+refusal rows moment drawn (requests.RemoveRegionsFromReplication remove) = Some UnknownOperation
+refusal rows moment drawn (requests.ReplicateSecretToRegions replicate) = Some UnknownOperation
 refusal rows moment drawn (requests.RestoreSecret restore) = restore_refusal rows moment restore
 refusal rows moment drawn (requests.RotateSecret rotate) = rotate_refusal rows moment drawn rotate
+refusal rows moment drawn (requests.StopReplicationToReplica stop) = Some UnknownOperation
 refusal rows moment drawn (requests.TagResource tag) = tag_refusal rows moment tag
 refusal rows moment drawn (requests.UntagResource untag) = untag_refusal rows moment untag
 refusal rows moment drawn (requests.UpdateSecret update) = update_refusal rows moment drawn update
@@ -111,8 +118,11 @@ repeat rows moment drawn (requests.GetSecretValue r) = false
 repeat rows moment drawn (requests.ListSecretVersionIds r) = false
 repeat rows moment drawn (requests.ListSecrets r) = false
 repeat rows moment drawn (requests.PutResourcePolicy r) = false
+repeat rows moment drawn (requests.RemoveRegionsFromReplication r) = false
+repeat rows moment drawn (requests.ReplicateSecretToRegions r) = false
 repeat rows moment drawn (requests.RestoreSecret r) = false
 repeat rows moment drawn (requests.RotateSecret rotate) = rotate_repeat rows moment drawn rotate
+repeat rows moment drawn (requests.StopReplicationToReplica r) = false
 repeat rows moment drawn (requests.TagResource r) = false
 repeat rows moment drawn (requests.UntagResource r) = false
 repeat rows moment drawn (requests.UpdateSecretVersionStage r) = false
@@ -133,8 +143,11 @@ is_reading (requests.ListSecretVersionIds r) = true
 is_reading (requests.ListSecrets r) = true
 is_reading (requests.PutResourcePolicy r) = false
 is_reading (requests.PutSecretValue r) = false
+is_reading (requests.RemoveRegionsFromReplication r) = false
+is_reading (requests.ReplicateSecretToRegions r) = false
 is_reading (requests.RestoreSecret r) = false
 is_reading (requests.RotateSecret r) = false
+is_reading (requests.StopReplicationToReplica r) = false
 is_reading (requests.TagResource r) = false
 is_reading (requests.UntagResource r) = false
 is_reading (requests.UpdateSecret r) = false

@@ -16,6 +16,7 @@ use Rattle.sm_rotations.specs.Begun.{begun_change}
 use Rattle.sm_rotations.specs.Reported.{reported_change}
 use Rattle.sm_core.specs.declared.replaying.Replayed.{Replayed}
 use Rattle.sm_core.specs.declared.replaying.Replayed.TheVariants.{Accept, Refuse, Memory}
+use Rattle.sm_core.specs.Histories.{may_stand}
 use Rattle.sm_core.specs.Judging.{judgement}
 
 -- the change, or that there is none; none of either where memory is wanted
@@ -62,4 +63,5 @@ replayed_act rows moment drawn (Reported arn at answer) =
 
 -- the change of an entry, where it is legal at the rows
 abbrev pub replayed : Rows → Entry → Option Change
-replayed rows entry = replayed_act rows entry.moment entry.drawn entry.act
+replayed rows entry =
+    if may_stand entry then replayed_act rows entry.moment entry.drawn entry.act else None

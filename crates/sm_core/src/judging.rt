@@ -136,6 +136,9 @@ pub(crate) fn judge_alone(
         Request::ListSecrets(list) => judge_list(alloc, table, moment, list),
         Request::PutResourcePolicy(put) => judge_put_policy(alloc, table, moment, put),
         Request::PutSecretValue(put) => judge_put(alloc, table, moment, drawn, put),
+        Request::RemoveRegionsFromReplication(_)
+        | Request::ReplicateSecretToRegions(_)
+        | Request::StopReplicationToReplica(_) => unreachable!(),
         Request::RestoreSecret(restore) => judge_restore(alloc, table, moment, restore),
         Request::RotateSecret(rotate) => judge_rotate(alloc, table, moment, drawn, rotate),
         Request::TagResource(tag) => judge_tag(alloc, table, moment, tag),

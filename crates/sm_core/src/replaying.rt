@@ -3,9 +3,9 @@ ghost use Rattle.std.specs.Prelude.{◌≡◌, ◌≤◌, None, length};
 ghost use Rattle.sm_base.specs.Outcomes.{OrMemory};
 ghost use Rattle.sm_base.specs.declared.moment.TheConstants.{LAST_READING};
 ghost use Rattle.sm_core.specs.Effects.{Makes};
-ghost use Rattle.sm_core.specs.Histories.{LegalAct};
+ghost use Rattle.sm_core.specs.Histories.{LegalEntry, may_be_by, may_stand};
 ghost use Rattle.sm_core.specs.Judging.{judgement};
-ghost use Rattle.sm_core.specs.Replaying.{again_told, IfReplayed, AsLegal, change_of, replayed_request, replayed};
+ghost use Rattle.sm_core.specs.Replaying.{again_told, IfReplayed, AsLegal, change_of, replayed_request, replayed_act, replayed};
 ghost use Rattle.sm_forms.specs.Forms.{forms_of};
 ghost use Rattle.sm_model.specs.Needed.{needed};
 ghost use Rattle.sm_rotations.specs.Begun.{begun_change};
@@ -39,7 +39,7 @@ pub fn again(alloc: Global, table: &Table, entry: &Entry) -> Replayed
 
     // It is accepted exactly where it is legal.
     ensures replayed { OrMemory (again_told result) (replayed table.now entry.now) }
-    ensures legal { AsLegal result (LegalAct table.now entry.now.moment entry.now.drawn entry.now.act) }
+    ensures legal { AsLegal result (LegalEntry table.now entry.now) }
 
     // The change makes the rows of the entry, meets what the table asks of a change, and leaves the rows sound.
     ensures makes { IfReplayed result (Makes table.now entry.now) }
@@ -55,6 +55,37 @@ fn replay_entry(alloc: Global, table: &Table, entry: &Entry) -> Replayed
     requires sound { Sound table.now }
     requires moment { entry.now.moment.0 ≤ LAST_READING }
     ensures { OrMemory (again_told result) (replayed table.now entry.now) }
+{
+    if may_stand(entry) {
+        replay_act(alloc, table, entry)
+    } else {
+        Replayed::Refuse
+    }
+}
+
+/// Whether what stands beside the entry's act may: who asked for it, and that it prunes, which none does yet.
+fn may_stand(entry: &Entry) -> bool
+    ensures { result ≡ may_stand entry.now }
+{
+    !entry.prunes && may_be_by(entry)
+}
+
+/// Whether the entry's act may be by who stands with it: nobody starts a due rotation or answers to a step.
+fn may_be_by(entry: &Entry) -> bool
+    ensures { result ≡ may_be_by entry.now.caller entry.now.by entry.now.act }
+{
+    match &entry.act {
+        Act::Asked(_) => true,
+        Act::Begun(_) | Act::Reported(_, _, _) => entry.caller.len() == 0 && entry.by.len() == 0,
+    }
+}
+
+/// Judges the act of an entry again.
+fn replay_act(alloc: Global, table: &Table, entry: &Entry) -> Replayed
+    requires sound { Sound table.now }
+    requires moment { entry.now.moment.0 ≤ LAST_READING }
+    ensures { OrMemory (again_told result)
+        (replayed_act table.now entry.now.moment entry.now.drawn entry.now.act) }
 {
     match &entry.act {
         Act::Asked(request) => {

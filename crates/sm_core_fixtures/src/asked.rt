@@ -139,6 +139,7 @@ fn create(alloc: Global, text: &str) -> Result<Request, Fail> {
     let description = value(alloc, word(text, 4))?;
     let tags = tags(alloc, word(text, 6))?;
     Ok(Request::CreateSecret(CreateSecret {
+        regions: List::empty(alloc),
         client_request_token: token(alloc, word(text, 3))?,
         description,
         kms_key_id: value(alloc, word(text, 5))?,

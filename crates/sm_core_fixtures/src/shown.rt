@@ -1,9 +1,9 @@
 //! What a request is answered, as a line says it.
 use sm_core::Judged;
 use sm_model::{
-    BatchError, Change, DeletedSecret, Described, GotSecret, Label, List, Moment, NamedSecret,
-    PolicyOfSecret, PolicyValidation, PutValue, Reply, SecretBatch, SecretPage, Text, Token,
-    VersionItem, VersionPage, VersionedSecret, Why,
+    BatchError, Change, CreatedSecret, DeletedSecret, Described, GotSecret, Label, List, Moment,
+    NamedSecret, PolicyOfSecret, PolicyValidation, PutValue, Reply, SecretBatch, SecretPage, Text,
+    Token, VersionItem, VersionPage, VersionedSecret, Why,
 };
 use std::alloc::Global;
 use std::test::Fail;
@@ -55,7 +55,6 @@ fn why_text(alloc: Global, why: &Why) -> Result<String, Fail> {
             Ok(format!(in alloc; "limit of {most} {what:?}")?)
         }
         Why::BadToken => plain(alloc, "bad token"),
-        Why::NotBuilt => plain(alloc, "not built"),
         _ => plain(alloc, why.message(alloc)?.as_str()),
     }
 }
@@ -84,12 +83,26 @@ fn push_number(shown: &mut String, id: &Token) -> Result<(), Fail> {
     Ok(())
 }
 
-fn created_text(alloc: Global, reply: &VersionedSecret) -> Result<String, Fail> {
-    let mut shown = secret_text(alloc, &reply.arn, &reply.name)?;
-    if let Some(id) = &reply.version_id {
+/// A reply that names the secret, and its version where there is one.
+fn versioned_text(
+    alloc: Global,
+    arn: &Text,
+    name: &Text,
+    version_id: &Option<Token>,
+) -> Result<String, Fail> {
+    let mut shown = secret_text(alloc, arn, name)?;
+    if let Some(id) = version_id {
         push_number(&mut shown, id)?;
     }
     Ok(shown)
+}
+
+fn created_text(alloc: Global, reply: &CreatedSecret) -> Result<String, Fail> {
+    versioned_text(alloc, &reply.arn, &reply.name, &reply.version_id)
+}
+
+fn changed_text(alloc: Global, reply: &VersionedSecret) -> Result<String, Fail> {
+    versioned_text(alloc, &reply.arn, &reply.name, &reply.version_id)
 }
 
 fn got_text(alloc: Global, reply: &GotSecret) -> Result<String, Fail> {
@@ -302,7 +315,7 @@ fn batch_text(alloc: Global, reply: &SecretBatch) -> Result<String, Fail> {
 fn reply_text(alloc: Global, reply: &Reply) -> Result<String, Fail> {
     match reply {
         Reply::BatchGetSecretValue(reply) => batch_text(alloc, reply),
-        Reply::CancelRotateSecret(reply) => created_text(alloc, reply),
+        Reply::CancelRotateSecret(reply) => changed_text(alloc, reply),
         Reply::CreateSecret(reply) => created_text(alloc, reply),
         Reply::DeleteResourcePolicy(reply) => named_text(alloc, reply),
         Reply::DeleteSecret(reply) => deleted_text(alloc, reply),
@@ -314,11 +327,14 @@ fn reply_text(alloc: Global, reply: &Reply) -> Result<String, Fail> {
         Reply::ListSecrets(reply) => page_text(alloc, reply),
         Reply::PutResourcePolicy(reply) => named_text(alloc, reply),
         Reply::PutSecretValue(reply) => put_text(alloc, reply),
+        Reply::RemoveRegionsFromReplication(_)
+        | Reply::ReplicateSecretToRegions(_)
+        | Reply::StopReplicationToReplica(_) => plain(alloc, "replicated"),
         Reply::RestoreSecret(reply) => named_text(alloc, reply),
-        Reply::RotateSecret(reply) => created_text(alloc, reply),
+        Reply::RotateSecret(reply) => changed_text(alloc, reply),
         Reply::TagResource => plain(alloc, "tagged"),
         Reply::UntagResource => plain(alloc, "untagged"),
-        Reply::UpdateSecret(reply) => created_text(alloc, reply),
+        Reply::UpdateSecret(reply) => changed_text(alloc, reply),
         Reply::UpdateSecretVersionStage(reply) => named_text(alloc, reply),
         Reply::ValidateResourcePolicy(reply) => validation_text(alloc, reply),
     }

@@ -204,7 +204,10 @@ an answer then | 1468806 | report app-ABCDEF 00010203-0405-4607-8809-0a0b0c0d0e0
 fn rules(text: &str) -> Option<Rules> {
     match text {
         "." => None,
-        _ => Some(Rules { days: count(text) }),
+        _ => Some(Rules {
+            days: count(text),
+            schedule: None,
+        }),
     }
 }
 
@@ -297,8 +300,10 @@ fn entry(alloc: Global, moment: Moment, text: &str) -> Result<Entry, Fail> {
     Ok(Entry {
         moment,
         caller: Text::fixed(""),
+        by: Text::fixed(""),
         drawn: Bytes::from_slice(alloc, bytes)?,
         act,
+        prunes: false,
     })
 }
 

@@ -59,6 +59,7 @@ fn no_rotation() -> Rotation {
         enabled: false,
         lambda: None,
         days: None,
+        schedule: None,
         next: None,
         last: None,
     }
@@ -84,6 +85,7 @@ fn fresh(alloc: Global, name: Name, six: &[u8; 6]) -> Result<SecretRow, Fail>
         deletion: None,
         rotation: no_rotation(),
         policy: None,
+        regions: List::empty(alloc),
         job: None,
     })
 }

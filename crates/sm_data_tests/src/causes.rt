@@ -1,5 +1,5 @@
 //! The error's name, the status and the message of each cause of a refusal.
-use sm_model::{BadKind, Copied, Moment, NoMemory, Text, Token, What, Why};
+use sm_model::{BadKind, Copied, Moment, NoMemory, Part, Text, Token, What, Why};
 use std::alloc::Global;
 use std::process::Abort;
 use std::test::Fail;
@@ -14,7 +14,8 @@ fn cause(alloc: Global, number: usize) -> Result<Why, NoMemory> {
         2 | 5 | 8 | 12 | 14 | 15 => Ok(cause_of_version(token(alloc)?, number)),
         0..=15 => Ok(cause_in_the_account(number)),
         16..=27 => Ok(cause_in_the_request(number)),
-        _ => Ok(cause_of_the_server(number)),
+        28..=40 => Ok(cause_of_the_server(number)),
+        _ => Ok(cause_of_signatures_and_replicas(number)),
     }
 }
 
@@ -74,13 +75,25 @@ fn cause_of_the_server(number: usize) -> Why {
         36 => Why::Limit(1_000, What::Versions),
         37 => Why::Limit(20, What::Labels),
         38 => Why::Limit(1_000_000, What::Entries),
-        39 => Why::Limit(268_435_456, What::JournalBytes),
-        _ => Why::NotBuilt,
+        39 => Why::Limit(536_870_912, What::JournalBytes),
+        _ => Why::Limit(20, What::Regions),
+    }
+}
+
+/// The causes of replicas, and of signatures.
+fn cause_of_signatures_and_replicas(number: usize) -> Why {
+    match number {
+        41 => Why::NotReplica,
+        42 => Why::ReadOnly,
+        43 => Why::BadSignature(Part::Authorization),
+        44 => Why::BadSignature(Part::SignedHeaders),
+        45 => Why::BadSignature(Part::Date),
+        _ => Why::BadSignature(Part::Signature),
     }
 }
 
 /// What each cause says: its status, its error's name and its message.
-static CAUSES: [&str; 41] = [
+static CAUSES: [&str; 47] = [
     "400 InvalidParameterException: Name is not in its form",
     "400 InvalidParameterException: RotationRules is not in its form",
     "400 InvalidParameterException: label is held by 11111111-1111-4111-9111-111111111111",
@@ -120,8 +133,14 @@ static CAUSES: [&str; 41] = [
     "400 LimitExceededException: limit of 1000 versions",
     "400 LimitExceededException: limit of 20 labels",
     "400 LimitExceededException: limit of 1000000 entries",
-    "400 LimitExceededException: limit of 268435456 journal bytes",
-    "400 SerializationException: not built",
+    "400 LimitExceededException: limit of 536870912 journal bytes",
+    "400 LimitExceededException: limit of 20 regions",
+    "400 InvalidRequestException: secret is not a replica",
+    "400 InvalidRequestException: replica is read-only",
+    "400 AccessDeniedException: signature: Authorization",
+    "400 AccessDeniedException: signature: SignedHeaders",
+    "400 AccessDeniedException: signature: Date",
+    "400 AccessDeniedException: signature: Signature",
 ];
 
 /// What a copy of the cause says.

@@ -2,10 +2,11 @@
 use crate::requests::{OPERATIONS, bytes, copy_once, one, request, tag};
 use crate::rows::token;
 use sm_model::{
-    Act, Answer, Arn, At, BatchError, Copied, DeletedSecret, Described, Entry, GotSecret, Label,
-    List, Mark, Moment, Name, NamedSecret, NoMemory, Person, PolicyOfSecret, PolicyValidation,
-    PutValue, RandomPassword, ReadRefused, Reply, RulesShown, SecretBatch, SecretPage, Stage,
-    Staged, Text, ValidationError, Value, VersionItem, VersionPage, VersionedSecret,
+    Act, Answer, Arn, At, BatchError, Copied, CreatedSecret, DeletedSecret, Described, Entry,
+    GotSecret, Label, List, Mark, Moment, Name, NamedSecret, NoMemory, Person, PolicyOfSecret,
+    PolicyValidation, PromotedSecret, PutValue, RandomPassword, ReadRefused, ReplicatedSecret,
+    ReplicationStatus, Reply, RulesShown, SecretBatch, SecretPage, Stage, Staged, Text,
+    ValidationError, Value, VersionItem, VersionPage, VersionedSecret,
 };
 use std::alloc::Global;
 use std::process::Abort;
@@ -25,6 +26,39 @@ fn versioned(alloc: Global) -> Result<VersionedSecret, NoMemory> {
         name: Text::fixed("n"),
         version_id: Some(id),
     })
+}
+
+fn replicas(alloc: Global) -> Result<List<ReplicationStatus>, NoMemory> {
+    let status = ReplicationStatus {
+        region: Text::fixed("eu-west-1"),
+        status: Text::fixed("InSync"),
+    };
+    one(alloc, status)
+}
+
+fn created(alloc: Global) -> Result<Reply, NoMemory> {
+    let replicas = replicas(alloc)?;
+    let id = token(alloc)?;
+    Ok(Reply::CreateSecret(CreatedSecret {
+        arn: Text::fixed("arn"),
+        name: Text::fixed("n"),
+        replication_status: Some(replicas),
+        version_id: Some(id),
+    }))
+}
+
+fn replicated(alloc: Global) -> Result<ReplicatedSecret, NoMemory> {
+    let replication_status = replicas(alloc)?;
+    Ok(ReplicatedSecret {
+        arn: Text::fixed("arn"),
+        replication_status,
+    })
+}
+
+fn promoted() -> PromotedSecret {
+    PromotedSecret {
+        arn: Text::fixed("arn"),
+    }
 }
 
 fn labels(alloc: Global) -> Result<List<Label>, ReadRefused> {
@@ -54,9 +88,17 @@ fn staged(alloc: Global) -> Result<List<Staged>, ReadRefused> {
     Ok(one(alloc, staged)?)
 }
 
+fn rules() -> RulesShown {
+    RulesShown {
+        days: Some(30),
+        schedule: Some(Text::fixed("rate(30 days)")),
+    }
+}
+
 fn described(alloc: Global) -> Result<Described, ReadRefused> {
     let staged = staged(alloc)?;
     let tags = one(alloc, tag())?;
+    let replicas = replicas(alloc)?;
     Ok(Described {
         arn: Text::fixed("arn"),
         created_date: Moment(1),
@@ -67,9 +109,10 @@ fn described(alloc: Global) -> Result<Described, ReadRefused> {
         last_rotated_date: Some(Moment(4)),
         name: Text::fixed("n"),
         next_rotation_date: Some(Moment(5)),
+        replication_status: Some(replicas),
         rotation_enabled: true,
         rotation_lambda_arn: Some(Text::fixed("l")),
-        rotation_rules: Some(RulesShown { days: Some(30) }),
+        rotation_rules: Some(rules()),
         tags,
         version_ids_to_stages: staged,
     })
@@ -160,7 +203,7 @@ fn page(alloc: Global) -> Result<Reply, ReadRefused> {
 fn reply(alloc: Global, number: usize) -> Result<Reply, ReadRefused> {
     match number {
         0..=6 => first_reply(alloc, number),
-        7..=13 => middle_reply(alloc, number),
+        7..=14 => middle_reply(alloc, number),
         _ => last_reply(alloc, number),
     }
 }
@@ -168,6 +211,7 @@ fn reply(alloc: Global, number: usize) -> Result<Reply, ReadRefused> {
 fn first_reply(alloc: Global, number: usize) -> Result<Reply, ReadRefused> {
     match number {
         0 => batch(alloc),
+        2 => Ok(created(alloc)?),
         3 => Ok(Reply::DeleteResourcePolicy(named())),
         4 => Ok(Reply::DeleteSecret(deleted())),
         5 => Ok(Reply::DescribeSecret(described(alloc)?)),
@@ -186,16 +230,19 @@ fn middle_reply(alloc: Global, number: usize) -> Result<Reply, ReadRefused> {
         10 => page(alloc),
         11 => Ok(Reply::PutResourcePolicy(named())),
         12 => put(alloc),
-        _ => Ok(Reply::RestoreSecret(named())),
+        13 => Ok(Reply::RemoveRegionsFromReplication(replicated(alloc)?)),
+        _ => Ok(Reply::ReplicateSecretToRegions(replicated(alloc)?)),
     }
 }
 
 fn last_reply(alloc: Global, number: usize) -> Result<Reply, ReadRefused> {
     match number {
-        15 => Ok(Reply::TagResource),
-        16 => Ok(Reply::UntagResource),
-        18 => Ok(Reply::UpdateSecretVersionStage(named())),
-        19 => Ok(validation(alloc)?),
+        15 => Ok(Reply::RestoreSecret(named())),
+        17 => Ok(Reply::StopReplicationToReplica(promoted())),
+        18 => Ok(Reply::TagResource),
+        19 => Ok(Reply::UntagResource),
+        21 => Ok(Reply::UpdateSecretVersionStage(named())),
+        22 => Ok(validation(alloc)?),
         _ => Ok(reply_of_version(versioned(alloc)?, number)),
     }
 }
@@ -204,8 +251,7 @@ fn last_reply(alloc: Global, number: usize) -> Result<Reply, ReadRefused> {
 fn reply_of_version(versioned: VersionedSecret, number: usize) -> Reply {
     match number {
         1 => Reply::CancelRotateSecret(versioned),
-        2 => Reply::CreateSecret(versioned),
-        14 => Reply::RotateSecret(versioned),
+        16 => Reply::RotateSecret(versioned),
         _ => Reply::UpdateSecret(versioned),
     }
 }
@@ -268,8 +314,10 @@ fn entry(alloc: Global, number: usize) -> Result<Mark, ReadRefused> {
     Ok(Mark::Entry(Entry {
         moment: Moment(8),
         caller: Text::fixed("ADA"),
+        by: Text::fixed("arn:aws:iam::000000000000:user/ada"),
         drawn,
         act,
+        prunes: true,
     }))
 }
 

@@ -2,8 +2,8 @@
 use sm_model::{
     BatchGetSecretValue, Bytes, Copied, CreateSecret, DeleteSecret, Filter, GetRandomPassword,
     GetSecretValue, List, ListSecretVersionIds, ListSecrets, NoMemory, OfSecret, PutResourcePolicy,
-    PutSecretValue, Request, RotateSecret, Rules, Tag, TagResource, Text, UntagResource,
-    UpdateSecret, UpdateSecretVersionStage, ValidateResourcePolicy, need,
+    PutSecretValue, RegionsOfSecret, Request, RotateSecret, Rules, Tag, TagResource, Text,
+    UntagResource, UpdateSecret, UpdateSecretVersionStage, ValidateResourcePolicy, need,
 };
 use std::alloc::Global;
 use std::process::Abort;
@@ -45,6 +45,14 @@ fn of_secret() -> OfSecret {
     }
 }
 
+fn regions_of_secret(alloc: Global) -> Result<RegionsOfSecret, NoMemory> {
+    let regions = one(alloc, Text::fixed("eu-west-1"))?;
+    Ok(RegionsOfSecret {
+        regions,
+        secret_id: Text::fixed("secret_id"),
+    })
+}
+
 fn batch_get_secret_value(alloc: Global) -> Result<Request, NoMemory> {
     let filters = filters(alloc)?;
     let secret_id_list = one(alloc, Text::fixed("secret_id_list"))?;
@@ -59,7 +67,9 @@ fn batch_get_secret_value(alloc: Global) -> Result<Request, NoMemory> {
 fn create_secret(alloc: Global) -> Result<Request, NoMemory> {
     let secret_binary = bytes(alloc)?;
     let tags = one(alloc, tag())?;
+    let regions = one(alloc, Text::fixed("eu-west-1"))?;
     Ok(Request::CreateSecret(CreateSecret {
+        regions,
         client_request_token: Some(Text::fixed("client_request_token")),
         description: Some(Text::fixed("description")),
         kms_key_id: Some(Text::fixed("kms_key_id")),
@@ -144,7 +154,10 @@ fn rotate_secret(alloc: Global) -> Result<Request, NoMemory> {
         client_request_token: Some(Text::fixed("client_request_token")),
         rotate_immediately: true,
         rotation_lambda_arn: Some(Text::fixed("rotation_lambda_arn")),
-        rotation_rules: Some(Rules { days: Some(30) }),
+        rotation_rules: Some(Rules {
+            days: Some(30),
+            schedule: Some(Text::fixed("rate(30 days)")),
+        }),
         secret_id: Text::fixed("secret_id"),
     }))
 }
@@ -197,7 +210,7 @@ fn validate_resource_policy(alloc: Global) -> Result<Request, NoMemory> {
 pub fn request(alloc: Global, number: usize) -> Result<Request, NoMemory> {
     match number {
         0..=6 => first_request(alloc, number),
-        7..=13 => middle_request(alloc, number),
+        7..=14 => middle_request(alloc, number),
         _ => last_request(alloc, number),
     }
 }
@@ -222,23 +235,26 @@ fn middle_request(alloc: Global, number: usize) -> Result<Request, NoMemory> {
         10 => list_secrets(alloc),
         11 => put_resource_policy(alloc),
         12 => put_secret_value(alloc),
-        _ => Ok(Request::RestoreSecret(of_secret())),
+        13 => Ok(Request::RemoveRegionsFromReplication(regions_of_secret(alloc)?)),
+        _ => Ok(Request::ReplicateSecretToRegions(regions_of_secret(alloc)?)),
     }
 }
 
 fn last_request(alloc: Global, number: usize) -> Result<Request, NoMemory> {
     match number {
-        14 => rotate_secret(alloc),
-        15 => tag_resource(alloc),
-        16 => untag_resource(alloc),
-        17 => update_secret(alloc),
-        18 => update_secret_version_stage(alloc),
+        15 => Ok(Request::RestoreSecret(of_secret())),
+        16 => rotate_secret(alloc),
+        17 => Ok(Request::StopReplicationToReplica(of_secret())),
+        18 => tag_resource(alloc),
+        19 => untag_resource(alloc),
+        20 => update_secret(alloc),
+        21 => update_secret_version_stage(alloc),
         _ => validate_resource_policy(alloc),
     }
 }
 
 /// How many operations there are.
-pub const OPERATIONS: usize = 20;
+pub const OPERATIONS: usize = 23;
 
 /// Copies a thing, and lets both go.
 pub fn copy_once<T: Copied>(alloc: Global, item: T) -> Result<(), NoMemory> {
@@ -262,6 +278,7 @@ fn case_request(alloc: Global, case: &Case) -> Result<Request, NoMemory> {
     let value = immediate.then_some(Bytes::empty(alloc));
     match *operation {
         Operation::Create => Ok(Request::CreateSecret(CreateSecret {
+            regions: List::empty(alloc),
             client_request_token: token,
             description: None,
             kms_key_id: None,

@@ -1,8 +1,9 @@
 //! Copies of rows and of changes.
 use crate::requests::{one, tag};
 use sm_model::{
-    Arn, Bytes, Change, Copied, Job, Label, List, Moment, Name, NoMemory, Pair, ReadRefused,
-    Rotation, RowList, Rows, SecretRow, SharedList, Stage, Tag, Text, Token, Value, VersionRow,
+    Arn, Bytes, Change, Copied, Job, KeptPolicy, Label, List, Moment, Name, NoMemory, Pair,
+    ReadRefused, Rotation, RowList, Rows, SecretRow, SharedList, Stage, Tag, Text, Token, Value,
+    VersionRow,
 };
 use std::alloc::Global;
 use std::process::Abort;
@@ -46,6 +47,7 @@ fn rotation() -> Rotation {
         enabled: true,
         lambda: Some(Text::fixed("l")),
         days: Some(30),
+        schedule: Some(Text::fixed("rate(30 days)")),
         next: Some(Moment(5)),
         last: Some(Moment(4)),
     }
@@ -62,6 +64,7 @@ struct RowLists {
     tags: List<Tag>,
     versions: SharedList<VersionRow>,
     labels: List<Pair>,
+    regions: List<Text>,
 }
 
 fn row_lists(alloc: Global) -> Result<RowLists, ReadRefused> {
@@ -70,10 +73,12 @@ fn row_lists(alloc: Global) -> Result<RowLists, ReadRefused> {
     versions.push(alloc, version(alloc)?)?;
     let pair = pair(alloc)?;
     let labels = one(alloc, pair)?;
+    let regions = one(alloc, Text::fixed("eu-west-1"))?;
     Ok(RowLists {
         tags,
         versions,
         labels,
+        regions,
     })
 }
 
@@ -84,7 +89,9 @@ fn full_row(alloc: Global) -> Result<SecretRow, ReadRefused> {
         tags,
         versions,
         labels,
+        regions,
     } = row_lists(alloc)?;
+    let policy = KeptPolicy::of(alloc, Text::fixed("{}"))?;
     let job = job(alloc)?;
     Ok(SecretRow {
         serial: 4,
@@ -100,7 +107,8 @@ fn full_row(alloc: Global) -> Result<SecretRow, ReadRefused> {
         labels,
         deletion: Some(Moment(9)),
         rotation: rotation(),
-        policy: Some(Text::fixed("{}")),
+        policy: Some(policy),
+        regions,
         job: Some(job),
     })
 }

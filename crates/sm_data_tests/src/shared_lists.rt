@@ -1,4 +1,7 @@
 //! Lists whose copies share their items.
+ghost use Rattle.std.specs.Prelude.{nat_lt};
+
+use sm_base::Picks;
 use sm_model::{Copied, Moment, NoMemory, ReadRefused, SharedList, Token, VersionRow};
 use std::alloc::Global;
 use std::test::Fail;
@@ -101,5 +104,79 @@ fn vectors_and_back(rt: HostRuntime) -> Result<(), Fail> {
     let all = reversed(rt.alloc())?;
     assert_eq!(rt; serials(rt.alloc(), &all)?, 3210);
     assert_eq!(rt; found(&all, 0), 2);
+    Ok(())
+}
+
+/// Versions with a serial below a bound.
+struct Below {
+    bound: u64,
+}
+
+impl Picks<VersionRow> for Below {
+    ghost picked = { λ below version. nat_lt version.serial below.bound };
+
+    fn picks(&self, item: &VersionRow) -> bool {
+        item.serial < self.bound
+    }
+}
+
+/// The serial of the version at a place, or 9.
+fn serial_at(all: &SharedList<VersionRow>, place: usize) -> u64 {
+    match all.get(place) {
+        Some(version) => version.serial,
+        None => 9,
+    }
+}
+
+/// The place of the first version with the token of this place, or 9.
+fn place_of(all: &SharedList<VersionRow>, place: usize) -> u64 {
+    match all.position(TOKENS[place % TOKENS.len()].as_bytes()) {
+        Some(at) => at as u64,
+        None => 9,
+    }
+}
+
+/// What stands where in a list: its serials, those at places 0 and 2, and the places of the first and last token.
+fn places(alloc: Global, all: &SharedList<VersionRow>) -> Result<[u64; 5], NoMemory> {
+    let shown = serials(alloc, all)?;
+    Ok([
+        shown,
+        serial_at(all, 0),
+        serial_at(all, 2),
+        place_of(all, 0),
+        place_of(all, 3),
+    ])
+}
+
+/// Puts a version at the front, where there is one.
+fn replace_front(
+    alloc: Global,
+    all: &mut SharedList<VersionRow>,
+    serial: usize,
+) -> Result<(), ReadRefused> {
+    if 0 < all.len() {
+        all.replace(alloc, 0, version(alloc, serial)?)?;
+    }
+    Ok(())
+}
+
+/// A list of four after its first version was replaced, then after those from serial 3 on were taken out, and its copy
+/// from before.
+fn edited(alloc: Global) -> Result<[[u64; 5]; 3], ReadRefused> {
+    let mut all = versions(alloc, 4)?;
+    let copy = all.copy(alloc)?;
+    replace_front(alloc, &mut all, 7)?;
+    let replaced = places(alloc, &all)?;
+    all.retain(&Below { bound: 3 });
+    let left = places(alloc, &all)?;
+    Ok([replaced, left, places(alloc, &copy)?])
+}
+
+#[test]
+fn items_are_replaced_and_taken_out_alone(rt: HostRuntime) -> Result<(), Fail> {
+    assert_eq!(rt;
+        edited(rt.alloc())?,
+        [[7123, 7, 2, 2, 0], [12, 1, 9, 1, 9], [123, 0, 2, 0, 3]]
+    );
     Ok(())
 }

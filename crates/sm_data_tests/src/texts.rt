@@ -125,13 +125,20 @@ fn texts_are_kept(rt: HostRuntime) -> Result<(), Fail> {
     Ok(())
 }
 
+/// Bytes, a copy of their copy, and their copy once it has grown.
+fn bytes_kept(alloc: Global) -> Result<(Bytes, Bytes, Bytes), NoMemory> {
+    let bytes = Bytes::from_slice(alloc, b"s3c")?;
+    let mut copy = bytes.copy(alloc)?;
+    let again = copy.copy(alloc)?;
+    copy.extend_from_slice(alloc, b"ret")?;
+    Ok((bytes, again, copy))
+}
+
 #[test]
 fn bytes_are_kept(rt: HostRuntime) -> Result<(), Fail> {
-    let bytes = Bytes::from_slice(rt.alloc(), b"s3cret")?;
-    let copy = bytes.copy(rt.alloc())?;
-    let again = Bytes::new(bytes.into_vec());
-    assert!(rt; again.equals(&copy) && again.as_slice() == b"s3cret".as_slice());
-    assert!(rt; again.len() == 6 && !again.is_empty());
+    let (bytes, again, grown) = bytes_kept(rt.alloc())?;
+    assert!(rt; bytes.equals(&again) && again.as_slice() == b"s3c".as_slice());
+    assert!(rt; grown.len() == 6 && grown.as_slice() == b"s3cret".as_slice());
     Ok(())
 }
 

@@ -1,7 +1,7 @@
 //! Moments so many days on, and the dates of moments.
 ghost use Rattle.std.specs.Prelude.{◌≡◌, ◌≤◌, ◌/◌, pos, IfOk, List, ℕ};
 ghost use Rattle.sm_base.specs.declared.moment.TheConstants.{LAST_READING};
-ghost use Rattle.sm_model.specs.declared.limits.TheConstants.{DAYS_LIMIT, LAST_DATE};
+ghost use Rattle.sm_base.specs.declared.limits.TheConstants.{DAYS_LIMIT, LAST_DATE};
 ghost use Rattle.jiff.specs.Words.{epoch_day};
 ghost use Rattle.sm_dates.specs.Days.{days_after, rotation_after, IsDateOf};
 

@@ -4,7 +4,7 @@ use Rattle.std.specs.Prelude.{IsTrue}
 use Rattle.sm_listing.specs.declared.tokens.TheConstants.{SECRETS}
 use Rattle.sm_model.specs.declared.request.BatchGetSecretValue.{BatchGetSecretValue}
 use Rattle.sm_model.specs.Bounds.{fits}
-use Rattle.sm_forms.specs.declared.paging.TheConstants.{BATCH_LIMIT}
+use Rattle.sm_base.specs.declared.limits.TheConstants.{BATCH_LIMIT}
 use Rattle.sm_forms.specs.Paging.{is_count, are_filters, is_page_token}
 use Rattle.sm_forms.specs.BatchGetSecretValue.{batch_forms}
 use Rattle.sm_forms.proofs.MemberLemmas.{none_first, passes}

@@ -1,7 +1,7 @@
 -- What the forms of a GetRandomPassword say of it.
 use Rattle.std.proofs.Common.{◌≡◌, ℤ, pos, negsuc, ◌*◌, true, false, not, ◌==◌, length, Option, Some, None, refl, ap}
 use Rattle.std.specs.Prelude.{IsTrue}
-use Rattle.sm_model.specs.declared.limits.TheConstants.{PASSWORD_LIMIT}
+use Rattle.sm_base.specs.declared.limits.TheConstants.{PASSWORD_LIMIT}
 use Rattle.sm_model.specs.declared.request.GetRandomPassword.{GetRandomPassword}
 use Rattle.sm_model.specs.Bounds.{fits}
 use Rattle.sm_model.specs.Needed.{password_bytes}

@@ -5,7 +5,7 @@ use Rattle.sm_listing.specs.declared.tokens.TheConstants.{VERSIONS}
 use Rattle.sm_model.specs.declared.request.ListSecretVersionIds.{ListSecretVersionIds}
 use Rattle.sm_model.specs.Bounds.{fits}
 use Rattle.sm_base.specs.Spelling.{is_secret_id}
-use Rattle.sm_forms.specs.declared.paging.TheConstants.{PAGE_LIMIT}
+use Rattle.sm_base.specs.declared.limits.TheConstants.{PAGE_LIMIT}
 use Rattle.sm_forms.specs.Paging.{is_count, is_page_token}
 use Rattle.sm_forms.specs.ListSecretVersionIds.{list_versions_forms}
 use Rattle.sm_forms.proofs.MemberLemmas.{none_first, passes}

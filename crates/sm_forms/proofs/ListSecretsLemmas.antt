@@ -4,7 +4,7 @@ use Rattle.std.specs.Prelude.{IsTrue}
 use Rattle.sm_listing.specs.declared.tokens.TheConstants.{SECRETS}
 use Rattle.sm_model.specs.declared.request.ListSecrets.{ListSecrets}
 use Rattle.sm_model.specs.Bounds.{fits}
-use Rattle.sm_forms.specs.declared.paging.TheConstants.{PAGE_LIMIT}
+use Rattle.sm_base.specs.declared.limits.TheConstants.{PAGE_LIMIT}
 use Rattle.sm_forms.specs.Paging.{is_count, are_filters, is_page_token}
 use Rattle.sm_forms.specs.ListSecrets.{list_forms}
 use Rattle.sm_forms.proofs.MemberLemmas.{none_first, passes}

@@ -4,8 +4,8 @@ use Rattle.std.specs.Prelude.{IsTrue}
 use Rattle.std.proofs.lemmas.Bool.{and_from}
 use Rattle.sm_model.specs.declared.why.Why.{Why}
 use Rattle.sm_model.specs.declared.why.Why.TheVariants.{Memory}
-use Rattle.sm_policy.specs.declared.policy.Policy.{Policy}
-use Rattle.sm_policy.specs.Documents.{Flaw, policy_of, is_policy, is_read_policy, has_policy_length, is_resource_policy}
+use Rattle.sm_policy_text.specs.declared.policy.Policy.{Policy}
+use Rattle.sm_policy_text.specs.Documents.{Flaw, policy_of, is_policy, is_read_policy, has_policy_length, is_resource_policy}
 use Rattle.sm_forms.specs.Policies.{policy_form, flaw_in, policy_flaw, OrNoMemory}
 use Rattle.sm_forms.proofs.MemberLemmas.{passes}
 

@@ -3,7 +3,7 @@ use Rattle.std.proofs.Common.{◌≡◌, None}
 use Rattle.std.specs.Prelude.{IsTrue}
 use Rattle.sm_model.specs.declared.request.PutResourcePolicy.{PutResourcePolicy}
 use Rattle.sm_base.specs.Spelling.{is_secret_id}
-use Rattle.sm_policy.specs.Documents.{is_resource_policy}
+use Rattle.sm_policy_text.specs.Documents.{is_resource_policy}
 use Rattle.sm_forms.specs.PutResourcePolicy.{put_policy_forms}
 use Rattle.sm_forms.proofs.MemberLemmas.{none_first, passes}
 use Rattle.sm_forms.proofs.PolicyLemmas.{policy_passes}

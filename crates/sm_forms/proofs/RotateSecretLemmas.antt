@@ -6,17 +6,22 @@ use Rattle.sm_model.specs.declared.request.Rules.{Rules}
 use Rattle.sm_model.specs.Bounds.{fits, is_description}
 use Rattle.sm_base.specs.Spelling.{is_token, is_secret_id}
 use Rattle.sm_forms.specs.RotateSecret.{is_period, rules_form, rotate_forms}
-use Rattle.sm_forms.proofs.MemberLemmas.{none_first, passes, all_pass}
+use Rattle.sm_forms.proofs.MemberLemmas.{none_first, none_left, passes, all_pass}
 
 rules_pass : (rules : Option Rules) → rules_form rules ≡ None → IfSome rules (λ r. IsTrue (fits is_period r.days))
 rules_pass None h = tt
-rules_pass (Some rules) h = passes (fits is_period rules.days) _ h
+rules_pass (Some rules) h = passes (fits is_period rules.days) _ (none_first _ _ h).1
+
+no_schedule : (rules : Option Rules) → rules_form rules ≡ None → IfSome rules (λ r. r.schedule ≡ None)
+no_schedule None h = tt
+no_schedule (Some rules) h = none_left rules.schedule _ (none_first _ _ h).0
 
 -- each of the members
 record Parts (rotate : RotateSecret) : Type 0 where
   token : IfSome rotate.client_request_token (λ t. IsTrue (is_token t))
   lambda : IfSome rotate.rotation_lambda_arn (λ t. IsTrue (is_description t))
   rules : IfSome rotate.rotation_rules (λ r. IsTrue (fits is_period r.days))
+  unscheduled : IfSome rotate.rotation_rules (λ r. r.schedule ≡ None)
   id : IsTrue (is_secret_id rotate.secret_id)
 
 parts : (rotate : RotateSecret) → rotate_forms rotate ≡ None → Parts rotate
@@ -28,6 +33,7 @@ parts rotate h =
       token = all_pass is_token _ rotate.client_request_token lambda.0;
       lambda = all_pass is_description _ rotate.rotation_lambda_arn rules.0;
       rules = rules_pass rotate.rotation_rules id.0;
+      unscheduled = no_schedule rotate.rotation_rules id.0;
       id = passes (is_secret_id rotate.secret_id) _ id.1;
     }
 
@@ -42,6 +48,10 @@ rotate_lambda rotate h = (parts rotate h).lambda
 pub rotate_rules : (rotate : RotateSecret) → rotate_forms rotate ≡ None
     → IfSome rotate.rotation_rules (λ r. IsTrue (fits is_period r.days))
 rotate_rules rotate h = (parts rotate h).rules
+
+pub rotate_schedule : (rotate : RotateSecret) → rotate_forms rotate ≡ None
+    → IfSome rotate.rotation_rules (λ r. r.schedule ≡ None)
+rotate_schedule rotate h = (parts rotate h).unscheduled
 
 pub rotate_id : (rotate : RotateSecret) → rotate_forms rotate ≡ None → IsTrue (is_secret_id rotate.secret_id)
 rotate_id rotate h = (parts rotate h).id

@@ -6,7 +6,8 @@ use Rattle.std.proofs.lemmas.Bool.{and_parts}
 use Rattle.std.proofs.lemmas.List.{take_rest}
 use Rattle.sm_model.specs.declared.value.Tag.{Tag}
 use Rattle.sm_model.specs.Bounds.{is_tag}
-use Rattle.sm_versions.specs.Texts.{same_text, is_among, once}
+use Rattle.sm_versions.specs.Texts.{is_among, once}
+use Rattle.sm_base.specs.Texts.{same_text}
 use Rattle.sm_versions.specs.Sound.{tag_keys, each_tag}
 use Rattle.sm_forms.specs.Members.{are_tags, tags_form}
 use Rattle.sm_forms.proofs.MemberLemmas.{passes}

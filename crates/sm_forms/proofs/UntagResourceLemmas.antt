@@ -4,7 +4,7 @@ use Rattle.std.specs.Prelude.{IsTrue}
 use Rattle.std.specs.List.{list_all}
 use Rattle.std.proofs.lemmas.Bool.{and_parts}
 use Rattle.std.proofs.lemmas.Bool.Decides.{nat_tests}
-use Rattle.sm_model.specs.declared.limits.TheConstants.{TAGS_LIMIT}
+use Rattle.sm_base.specs.declared.limits.TheConstants.{TAGS_LIMIT}
 use Rattle.sm_model.specs.declared.request.UntagResource.{UntagResource}
 use Rattle.sm_base.specs.Spelling.{is_secret_id}
 use Rattle.sm_forms.specs.UntagResource.{is_untag_key, are_untag_keys, untag_forms}

@@ -5,7 +5,7 @@ use Rattle.sm_model.specs.declared.request.BatchGetSecretValue.{BatchGetSecretVa
 use Rattle.sm_model.specs.declared.request.Filter.{Filter}
 use Rattle.sm_model.specs.declared.why.Why.{Why}
 use Rattle.sm_model.specs.Bounds.{fits}
-use Rattle.sm_forms.specs.declared.paging.TheConstants.{BATCH_LIMIT}
+use Rattle.sm_base.specs.declared.limits.TheConstants.{BATCH_LIMIT}
 use Rattle.sm_forms.specs.Members.{first_why, form_unless}
 use Rattle.sm_forms.specs.Paging.{filters_form, max_form, next_form}
 

@@ -3,7 +3,7 @@ use Rattle.std.specs.Prelude.{ℤ, pos, negsuc, Bool, false, not, ◌&&◌, nat_
 use Rattle.sm_model.specs.declared.request.DeleteSecret.{DeleteSecret}
 use Rattle.sm_model.specs.declared.why.Why.{Why}
 use Rattle.sm_base.specs.Spelling.{is_secret_id}
-use Rattle.sm_forms.specs.declared.delete_secret.TheConstants.{SHORTEST_WINDOW, LONGEST_WINDOW}
+use Rattle.sm_base.specs.declared.limits.TheConstants.{SHORTEST_WINDOW, LONGEST_WINDOW}
 use Rattle.sm_forms.specs.Members.{first_why, form_unless}
 
 -- a window has 7 to 30 days

@@ -1,14 +1,14 @@
 -- The forms of GetRandomPassword: AWS Secrets Manager API Reference, GetRandomPassword.
 use Rattle.std.specs.Prelude.{ℕ, ℤ, pos, negsuc, Bool, not, ◌==◌, nat_le, List, [], length, Option, Some, None, IsTrue, codes}
 use Rattle.std.specs.List.{concat}
-use Rattle.sm_model.specs.declared.limits.TheConstants.{PASSWORD_LENGTH, PASSWORD_LIMIT}
+use Rattle.sm_base.specs.declared.limits.TheConstants.{PASSWORD_LENGTH, PASSWORD_LIMIT, EXCLUDED_LIMIT}
 use Rattle.sm_model.specs.declared.request.GetRandomPassword.{GetRandomPassword}
 use Rattle.sm_model.specs.declared.why.Why.{Why}
-use Rattle.sm_model.specs.Bounds.{fits, has_at_most}
+use Rattle.sm_model.specs.Bounds.{fits}
+use Rattle.sm_base.specs.Texts.{has_at_most}
 use Rattle.sm_password.specs.declared.ask.PasswordAsk.{PasswordAsk}
 use Rattle.sm_password.specs.Classes.{classes}
 use Rattle.sm_password.specs.Passwords.{required, is_length}
-use Rattle.sm_forms.specs.declared.get_random_password.TheConstants.{EXCLUDED_LIMIT}
 use Rattle.sm_forms.specs.Members.{first_why, form_unless, form_of}
 use Rattle.sm_forms.specs.Paging.{is_count}
 

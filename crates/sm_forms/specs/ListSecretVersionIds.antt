@@ -4,7 +4,7 @@ use Rattle.sm_listing.specs.declared.tokens.TheConstants.{VERSIONS}
 use Rattle.sm_model.specs.declared.request.ListSecretVersionIds.{ListSecretVersionIds}
 use Rattle.sm_model.specs.declared.why.Why.{Why}
 use Rattle.sm_base.specs.Spelling.{is_secret_id}
-use Rattle.sm_forms.specs.declared.paging.TheConstants.{PAGE_LIMIT}
+use Rattle.sm_base.specs.declared.limits.TheConstants.{PAGE_LIMIT}
 use Rattle.sm_forms.specs.Members.{first_why, form_unless}
 use Rattle.sm_forms.specs.Paging.{max_form, next_form}
 

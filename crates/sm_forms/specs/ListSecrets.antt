@@ -3,8 +3,8 @@ use Rattle.std.specs.Prelude.{ℕ, Bool, ◌||◌, List, Option, codes}
 use Rattle.sm_listing.specs.declared.tokens.TheConstants.{SECRETS}
 use Rattle.sm_model.specs.declared.request.ListSecrets.{ListSecrets}
 use Rattle.sm_model.specs.declared.why.Why.{Why}
-use Rattle.sm_versions.specs.Texts.{same_text}
-use Rattle.sm_forms.specs.declared.paging.TheConstants.{PAGE_LIMIT}
+use Rattle.sm_base.specs.Texts.{same_text}
+use Rattle.sm_base.specs.declared.limits.TheConstants.{PAGE_LIMIT}
 use Rattle.sm_forms.specs.Members.{first_why, form_of}
 use Rattle.sm_forms.specs.Paging.{filters_form, max_form, next_form}
 

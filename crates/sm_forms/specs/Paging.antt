@@ -8,7 +8,7 @@ use Rattle.sm_model.specs.declared.why.Why.TheVariants.{BadToken}
 use Rattle.sm_model.specs.Bounds.{fits}
 use Rattle.sm_listing.specs.Filters.{is_filter}
 use Rattle.sm_listing.specs.PageTokens.{serial_of}
-use Rattle.sm_forms.specs.declared.paging.TheConstants.{FILTERS_LIMIT}
+use Rattle.sm_base.specs.declared.limits.TheConstants.{FILTERS_LIMIT}
 use Rattle.sm_forms.specs.Members.{form_unless}
 
 -- a number from 1 to the most that may be asked for

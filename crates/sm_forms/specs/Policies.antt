@@ -3,8 +3,8 @@
 use Rattle.std.specs.Prelude.{◌≡◌, ◌⊎◌, ℕ, List, Option, Some, None, Result, Ok, Err, codes}
 use Rattle.sm_model.specs.declared.why.Why.{Why}
 use Rattle.sm_model.specs.declared.why.Why.TheVariants.{Malformed, Memory}
-use Rattle.sm_policy.specs.declared.policy.Policy.{Policy}
-use Rattle.sm_policy.specs.Documents.{Flaw, policy_of, has_policy_length}
+use Rattle.sm_policy_text.specs.declared.policy.Policy.{Policy}
+use Rattle.sm_policy_text.specs.Documents.{Flaw, policy_of, has_policy_length}
 use Rattle.sm_forms.specs.Members.{form_unless}
 
 -- 1 to 20,480 characters

@@ -2,10 +2,10 @@
 use Rattle.std.specs.Prelude.{ℕ, Bool, ◌&&◌, nat_le, List, length, Option, codes}
 use Rattle.std.specs.List.{list_all}
 use Rattle.std.specs.Str.{chars}
-use Rattle.sm_model.specs.declared.limits.TheConstants.{TAG_KEY_LIMIT, TAGS_LIMIT}
+use Rattle.sm_base.specs.declared.limits.TheConstants.{TAG_KEY_LIMIT, TAGS_LIMIT}
 use Rattle.sm_model.specs.declared.request.UntagResource.{UntagResource}
 use Rattle.sm_model.specs.declared.why.Why.{Why}
-use Rattle.sm_model.specs.Bounds.{has_at_most}
+use Rattle.sm_base.specs.Texts.{has_at_most}
 use Rattle.sm_base.specs.Spelling.{is_secret_id}
 use Rattle.sm_forms.specs.Members.{first_why, form_unless}
 

@@ -5,7 +5,8 @@ ghost use Rattle.sm_forms.specs.BatchGetSecretValue.{are_ids, has_ids_or_filters
 ghost use Rattle.sm_model.specs.Bounds.{fits};
 
 use crate::members::{first, form_unless};
-use crate::paging::{BATCH_LIMIT, filters_form, max_form, next_form};
+use crate::paging::{filters_form, max_form, next_form};
+use sm_base::limits::BATCH_LIMIT;
 use sm_listing::SECRETS;
 use sm_model::{BatchGetSecretValue, List, Text, Why};
 

@@ -3,25 +3,28 @@ ghost use Rattle.std.specs.Prelude.{◌≡◌};
 ghost use Rattle.sm_forms.specs.CreateSecret.{create_value, create_forms};
 
 use crate::members::{
-    bytes_form, description_form, first, form_unless, has_both, token_form, value_form,
+    bytes_form, description_form, first, form_unless, has_both, left_unless, token_form, value_form,
 };
 use crate::tags::tags_form;
 use sm_base::spelled::is_name;
 use sm_model::{CreateSecret, Why};
 
-/// The first form or joint test that fails.
+/// The first form or joint test that fails. Replica regions are left out.
 pub fn create_forms(create: &CreateSecret) -> Option<Why>
     ensures { result ≡ create_forms create.now }
 {
     first(
-        token_form(&create.client_request_token, "ClientRequestToken"),
+        left_unless(create.regions.len() == 0, "AddReplicaRegions"),
         first(
-            description_form(&create.description, "Description"),
+            token_form(&create.client_request_token, "ClientRequestToken"),
             first(
-                description_form(&create.kms_key_id, "KmsKeyId"),
+                description_form(&create.description, "Description"),
                 first(
-                    form_unless(is_name(create.name.as_bytes()), "Name"),
-                    create_value(create),
+                    description_form(&create.kms_key_id, "KmsKeyId"),
+                    first(
+                        form_unless(is_name(create.name.as_bytes()), "Name"),
+                        create_value(create),
+                    ),
                 ),
             ),
         ),

@@ -3,14 +3,9 @@ ghost use Rattle.std.specs.Prelude.{◌≡◌};
 ghost use Rattle.sm_forms.specs.DeleteSecret.{is_window, window_form, is_forced_with_window, delete_forms};
 
 use crate::members::{first, form_unless};
+use sm_base::limits::{LONGEST_WINDOW, SHORTEST_WINDOW};
 use sm_base::spelled::is_secret_id;
 use sm_model::{DeleteSecret, Why};
-
-/// The fewest days of a recovery window.
-pub const SHORTEST_WINDOW: u32 = 7;
-
-/// The most days of a recovery window.
-pub const LONGEST_WINDOW: u32 = 30;
 
 /// The first form or joint test that fails.
 pub fn delete_forms(delete: &DeleteSecret) -> Option<Why>

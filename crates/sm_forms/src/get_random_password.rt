@@ -3,18 +3,17 @@ ghost use Rattle.std.specs.Prelude.{◌≡◌, codes, length};
 ghost use Rattle.sm_forms.specs.Members.{form_unless, form_of};
 ghost use Rattle.sm_forms.specs.Paging.{is_count};
 ghost use Rattle.sm_forms.specs.GetRandomPassword.{length_asked, password_ask, is_long_enough, password_joint, password_forms};
-ghost use Rattle.sm_model.specs.Bounds.{fits, has_at_most};
-ghost use Rattle.sm_model.specs.declared.limits.TheConstants.{PASSWORD_LIMIT};
+ghost use Rattle.sm_model.specs.Bounds.{fits};
+ghost use Rattle.sm_base.specs.Texts.{has_at_most};
+ghost use Rattle.sm_base.specs.declared.limits.TheConstants.{PASSWORD_LIMIT};
 ghost use Rattle.sm_password.specs.Classes.{classes};
 
-use crate::members::{first, form_unless, has_at_most};
+use crate::members::{first, form_unless};
 use crate::paging::is_count;
-use sm_model::limits::{PASSWORD_LENGTH, PASSWORD_LIMIT};
+use sm_base::limits::{EXCLUDED_LIMIT, PASSWORD_LENGTH, PASSWORD_LIMIT};
+use sm_base::text::has_at_most;
 use sm_model::{GetRandomPassword, Text, Why};
 use sm_password::{Asked, class_count};
-
-/// The most characters of ExcludeCharacters.
-pub const EXCLUDED_LIMIT: usize = 4_096;
 
 /// The first form or joint test that fails.
 pub fn password_forms(get: &GetRandomPassword) -> Option<Why>

@@ -3,7 +3,8 @@ ghost use Rattle.std.specs.Prelude.{◌≡◌};
 ghost use Rattle.sm_forms.specs.ListSecretVersionIds.{list_versions_forms};
 
 use crate::members::{first, form_unless};
-use crate::paging::{PAGE_LIMIT, max_form, next_form};
+use crate::paging::{max_form, next_form};
+use sm_base::limits::PAGE_LIMIT;
 use sm_base::spelled::is_secret_id;
 use sm_listing::VERSIONS;
 use sm_model::{ListSecretVersionIds, Why};

@@ -4,7 +4,8 @@ ghost use Rattle.sm_forms.specs.Members.{form_of};
 ghost use Rattle.sm_forms.specs.ListSecrets.{is_order, list_forms};
 
 use crate::members::{first, form_unless};
-use crate::paging::{PAGE_LIMIT, filters_form, max_form, next_form};
+use crate::paging::{filters_form, max_form, next_form};
+use sm_base::limits::PAGE_LIMIT;
 use sm_listing::SECRETS;
 use sm_model::{ListSecrets, Text, Why};
 
@@ -35,7 +36,7 @@ fn order_form(order: &Option<Text>) -> Option<Why>
 }
 
 /// Whether a text is the order of creation, or the reverse.
-#[tactic(auto, unfolding(sm_versions::specs::Texts::same_text))]
+#[tactic(auto, unfolding(sm_base::specs::Texts::same_text))]
 fn is_order(order: &Text) -> bool
     ensures { result ≡ is_order order.now }
 {

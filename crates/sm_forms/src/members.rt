@@ -2,12 +2,14 @@
 ghost use Rattle.std.specs.Prelude.{◌≡◌, length};
 ghost use Rattle.std.specs.List.{list_all};
 ghost use Rattle.std.specs.Str.{chars};
-ghost use Rattle.sm_forms.specs.Members.{first_why, form_unless, form_of, is_value, has_both, has_one, are_labels, labels_form};
+ghost use Rattle.sm_forms.specs.Members.{first_why, form_unless, left_unless, form_of, is_value, has_both, has_one, are_labels, labels_form};
 ghost use Rattle.sm_base.specs.Spelling.{is_token, is_label};
-ghost use Rattle.sm_model.specs.Bounds.{has_at_most, is_description};
+ghost use Rattle.sm_model.specs.Bounds.{is_description};
+ghost use Rattle.sm_base.specs.Texts.{has_at_most};
 
+use sm_base::limits::{DESCRIPTION_LIMIT, LABELS_LIMIT, VALUE_LIMIT};
 use sm_base::spelled::{is_label, is_token};
-use sm_model::limits::{DESCRIPTION_LIMIT, LABELS_LIMIT, VALUE_LIMIT};
+use sm_base::text::has_at_most;
 use sm_model::{Bytes, List, Text, Why};
 
 /// The first of two refusals.
@@ -17,6 +19,17 @@ pub fn first(one: Option<Why>, next: Option<Why>) -> Option<Why>
     match one {
         Some(why) => Some(why),
         None => next,
+    }
+}
+
+/// A refusal of a member that is left out by name, unless it is absent.
+pub fn left_unless(absent: bool, name: &'static str) -> Option<Why>
+    ensures { result ≡ left_unless absent name.now }
+{
+    if absent {
+        None
+    } else {
+        Some(Why::Left(Text::fixed(name)))
     }
 }
 
@@ -73,20 +86,6 @@ pub fn has_one(text: &Option<Text>, binary: &Option<Bytes>) -> bool
     ensures { result ≡ has_one text.now binary.now }
 {
     (text.is_some() || binary.is_some()) && !has_both(text, binary)
-}
-
-/// How many characters a text has.
-pub fn characters(text: &Text) -> usize
-    ensures { result ≡ length (chars text.now) }
-{
-    text.as_str().chars().count()
-}
-
-/// Whether a text has at most so many characters.
-pub fn has_at_most(text: &Text, limit: usize) -> bool
-    ensures { result ≡ has_at_most limit text.now }
-{
-    characters(text) <= limit
 }
 
 /// The form of a member that is a description or the id of a KMS key.

@@ -6,17 +6,9 @@ ghost use Rattle.sm_forms.specs.Paging.{is_count, max_form, are_filters, filters
 ghost use Rattle.sm_listing.specs.Filters.{is_filter};
 
 use crate::members::form_unless;
+use sm_base::limits::FILTERS_LIMIT;
 use sm_listing::{is_filter, serial_of};
 use sm_model::{Filter, List, Text, Why};
-
-/// The most secrets or versions of a page.
-pub const PAGE_LIMIT: u32 = 100;
-
-/// The most secrets of a batch.
-pub const BATCH_LIMIT: u32 = 20;
-
-/// The most filters of a request.
-pub const FILTERS_LIMIT: usize = 10;
 
 /// Whether a number is from 1 to the most that may be asked for.
 pub fn is_count(most: u32, count: i64) -> bool

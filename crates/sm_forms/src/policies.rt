@@ -1,12 +1,13 @@
 //! The form of a policy's text, and its first fault (AWS Secrets Manager API Reference, PutResourcePolicy).
 ghost use Rattle.std.specs.Prelude.{◌≡◌};
-ghost use Rattle.sm_policy.specs.Documents.{has_policy_length};
+ghost use Rattle.sm_policy_text.specs.Documents.{has_policy_length};
 ghost use Rattle.sm_forms.specs.Policies.{policy_form, policy_flaw, OrNoMemory};
 
-use crate::members::{characters, form_unless};
-use sm_model::limits::POLICY_LIMIT;
+use crate::members::form_unless;
+use sm_base::limits::POLICY_LIMIT;
+use sm_base::text::characters;
 use sm_model::{Text, Why};
-use sm_policy::{Policy, PolicyRefused};
+use sm_policy_text::{Policy, PolicyRefused};
 use std::alloc::Global;
 
 /// Whether a policy's text has 1 to 20,480 characters.

@@ -22,7 +22,7 @@ use sm_model::{Request, Why};
 use std::alloc::Global;
 
 /// The first form or joint test that fails, or none. `Why::Memory` is want of memory, which only the text of a policy
-/// takes.
+/// takes. No operation on replica regions is known.
 pub fn forms(alloc: Global, request: &Request) -> Option<Why>
     ensures { OrNoMemory result (forms_of request.now) }
 {
@@ -40,6 +40,9 @@ pub fn forms(alloc: Global, request: &Request) -> Option<Why>
         Request::ListSecrets(list) => list_forms(list),
         Request::PutResourcePolicy(put) => put_policy_forms(alloc, put),
         Request::PutSecretValue(put) => put_forms(put),
+        Request::RemoveRegionsFromReplication(_)
+        | Request::ReplicateSecretToRegions(_)
+        | Request::StopReplicationToReplica(_) => Some(Why::UnknownOperation),
         Request::RestoreSecret(restore) => of_secret_forms(restore),
         Request::RotateSecret(rotate) => rotate_forms(rotate),
         Request::TagResource(tag) => tag_forms(tag),

@@ -1,12 +1,12 @@
 //! The forms of RotateSecret (AWS Secrets Manager API Reference, RotateSecret, RotationRulesType).
-ghost use Rattle.std.specs.Prelude.{◌≡◌};
+ghost use Rattle.std.specs.Prelude.{◌≡◌, is_none};
 ghost use Rattle.sm_model.specs.Bounds.{fits};
-ghost use Rattle.sm_forms.specs.RotateSecret.{is_period, rules_form, rotate_forms};
+ghost use Rattle.sm_forms.specs.RotateSecret.{is_period, rule_form, rules_form, rotate_forms};
 
-use crate::members::{description_form, first, form_unless, token_form};
+use crate::members::{description_form, first, form_unless, left_unless, token_form};
+use sm_base::limits::DAYS_LIMIT;
 use sm_base::spelled::is_secret_id;
-use sm_model::limits::DAYS_LIMIT;
-use sm_model::{RotateSecret, Rules, Why};
+use sm_model::{RotateSecret, Rules, Text, Why};
 
 /// The first form that fails.
 pub fn rotate_forms(rotate: &RotateSecret) -> Option<Why>
@@ -46,7 +46,27 @@ fn rules_form(rules: &Option<Rules>) -> Option<Why>
     ensures { result ≡ rules_form rules.now }
 {
     match rules {
-        Some(rules) => form_unless(may_be_period(rules.days), "RotationRules"),
+        Some(rules) => rule_form(rules),
         None => None,
     }
+}
+
+/// Whether a text is not there.
+fn is_absent(text: &Option<Text>) -> bool
+    ensures { result ≡ is_none text.now }
+{
+    match text {
+        Some(_) => false,
+        None => true,
+    }
+}
+
+/// The form of rules that are there. A schedule expression is left out.
+fn rule_form(rules: &Rules) -> Option<Why>
+    ensures { result ≡ rule_form rules.now }
+{
+    first(
+        left_unless(is_absent(&rules.schedule), "RotationRules"),
+        form_unless(may_be_period(rules.days), "RotationRules"),
+    )
 }

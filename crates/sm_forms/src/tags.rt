@@ -3,11 +3,13 @@ ghost use Rattle.std.specs.Prelude.{◌≡◌};
 ghost use Rattle.std.specs.List.{list_all, list_any};
 ghost use Rattle.sm_model.specs.Bounds.{is_tag_key, is_tag};
 ghost use Rattle.sm_versions.specs.Sound.{tag_keys};
-ghost use Rattle.sm_versions.specs.Texts.{same_text, once};
+ghost use Rattle.sm_versions.specs.Texts.{once};
+ghost use Rattle.sm_base.specs.Texts.{same_text};
 ghost use Rattle.sm_forms.specs.Members.{are_tags, tags_form};
 
-use crate::members::{characters, form_unless, has_at_most};
-use sm_model::limits::{TAG_KEY_LIMIT, TAG_VALUE_LIMIT};
+use crate::members::form_unless;
+use sm_base::limits::{TAG_KEY_LIMIT, TAG_VALUE_LIMIT};
+use sm_base::text::{characters, has_at_most};
 use sm_model::{List, Tag, Text, Why};
 
 /// Whether a text may be a tag's key: it is not empty, not too long, and not one of AWS's own.

@@ -3,9 +3,10 @@ ghost use Rattle.std.specs.Prelude.{◌≡◌};
 ghost use Rattle.std.specs.List.{list_all};
 ghost use Rattle.sm_forms.specs.UntagResource.{is_untag_key, are_untag_keys, untag_forms};
 
-use crate::members::{characters, first, form_unless, has_at_most};
+use crate::members::{first, form_unless};
+use sm_base::limits::{TAG_KEY_LIMIT, TAGS_LIMIT};
 use sm_base::spelled::is_secret_id;
-use sm_model::limits::{TAG_KEY_LIMIT, TAGS_LIMIT};
+use sm_base::text::{characters, has_at_most};
 use sm_model::{Text, UntagResource, Why};
 
 /// The first form that fails.

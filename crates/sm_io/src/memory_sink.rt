@@ -10,7 +10,6 @@ use crate::sink::{Gave, Sink};
 use sm_base::{Bytes, Fails};
 use std::alloc::Global;
 use std::marker::Model;
-use std::mem;
 
 /// A sink that keeps what it takes. A put takes as many bytes as its step says, or the whole piece where it
 /// has fewer. It fails where it is told to, and else only where its growth finds no memory, which no clause can
@@ -99,8 +98,5 @@ impl Sink for MemorySink {
 fn append(alloc: Global, bytes: &mut Bytes, slice: &[u8]) -> bool
     ensures { bytes.new ≡ (if result then bytes.old ++ slice.now else bytes.old) }
 {
-    let mut vec = mem::replace(bytes, Bytes::empty(alloc)).into_vec();
-    let added = vec.extend_from_slice(slice).is_ok();
-    *bytes = Bytes::new(vec);
-    added
+    bytes.extend_from_slice(alloc, slice).is_ok()
 }

@@ -1,5 +1,6 @@
 //! The opening of a journal.
 ghost use Rattle.std.specs.Prelude.{◌≡◌, ◌<◌, ◌≤◌, ◌+◌, ◌^◌, ℕ, List, [], length, IfOk, IfErr};
+ghost use Rattle.sm_base.specs.declared.limits.TheConstants.{JOURNAL_LIMIT};
 ghost use Rattle.sm_disk.specs.Sight.{Image};
 ghost use Rattle.sm_disk.specs.OneFile.{EachHas, Leaves};
 ghost use Rattle.sm_base.specs.Faults.{Rose};
@@ -158,7 +159,7 @@ impl<D: Disk> Journal<D> {
         limit: u64,
     ) -> Result<(Journal<D>, List<Bytes>), OpenRefused<D>>
         requires file { file < 3 }
-        requires limit { (9 ≤ limit) × (limit ≤ 268435456) }
+        requires limit { (9 ≤ limit) × (limit ≤ JOURNAL_LIMIT) }
         ensures opened { IfOk result (λ opened. IsOpened file limit opened.1 opened.0) }
         ensures list { IfOk result (λ opened.
             ReadsAs file (λ bytes. Recovers bytes opened.1) (D.sight disk)) }

@@ -187,18 +187,20 @@ rules_is value r e =
       days_are value r.days q.0 (ap (λ (u : Rules). u.days) p.2),
       left_is names.Duration (member_of names.Duration value) d.0,
       left_is names.ScheduleExpression (member_of names.ScheduleExpression value) s.0,
+      sym (ap (λ (u : Rules). u.schedule) p.2),
     )
 
 is_rules : (value : Data) (r : Rules) → IsRules value r → rules value ≡ Ok r
 unfolding rules rules_members rules_in fault_of given may left
-is_rules value r ((found, is), days, duration, schedule) =
+is_rules value r ((found, is), days, duration, schedule, none) =
     let d = days_fit value r.days days in
-    let of : Option ℤ → Rules = λ x. record { days = x } in
+    let of : Option ℤ → Option (List ℕ) → Rules = λ x s. record { days = x; schedule = s } in
     fits (as_object value) found (rules_flaw value) (rules_in value) (ap as_object is)
     (three_fit (days_flaw value) (left_flaw names.Duration value) (left_flaw names.ScheduleExpression value) d.0
     (left_fits names.Duration (member_of names.Duration value) duration)
     (left_fits names.ScheduleExpression (member_of names.ScheduleExpression value) schedule))
-    ∙ ap (λ o. Ok (of o)) d.1
+    ∙ ap (λ o. Ok (of o None)) d.1
+    ∙ ap (λ s. Ok (of r.days s)) (sym none)
 
 pub rules_are : RulesAre
 rules_are value r = (rules_is value r, is_rules value r)

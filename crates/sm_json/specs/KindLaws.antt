@@ -93,10 +93,10 @@ HasDays value None = member_of names.AutomaticallyAfterDays value ≡ None
 HasDays value (Some days) = (given : Data) × (member_of names.AutomaticallyAfterDays value ≡ Some given)
     × (integer given ≡ Ok days)
 
--- rotation rules have neither a Duration nor a ScheduleExpression
+-- rotation rules have neither a Duration nor a ScheduleExpression, and so no schedule
 abbrev pub IsRules : Data → Rules → Type 0
 IsRules value r = IsObject value × HasDays value r.days × (member_of names.Duration value ≡ None)
-    × (member_of names.ScheduleExpression value ≡ None)
+    × (member_of names.ScheduleExpression value ≡ None) × (r.schedule ≡ None)
 
 abbrev pub RulesAre : Type 0
 RulesAre = (value : Data) (r : Rules) → (rules value ≡ Ok r) ↔ IsRules value r

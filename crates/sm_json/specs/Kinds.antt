@@ -86,7 +86,7 @@ unfoldable pub rules_members : List Field
 rules_members = may names.AutomaticallyAfterDays integer ∷ left names.Duration ∷ left names.ScheduleExpression ∷ []
 
 unfoldable pub rules_in : Data → Rules
-rules_in json = record { days = given integer names.AutomaticallyAfterDays json }
+rules_in json = record { days = given integer names.AutomaticallyAfterDays json; schedule = None }
 
 unfoldable pub rules : Data → Result Rules Mark
 rules value = object_or_bad (as_object value) (first_fault rules_members value) (rules_in value)

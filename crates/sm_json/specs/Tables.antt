@@ -62,6 +62,7 @@ create_secret_members =
 
 unfoldable pub create_secret_in : Data → CreateSecret
 create_secret_in json = record {
+  regions = [];
   client_request_token = given text names.ClientRequestToken json;
   description = given text names.Description json;
   kms_key_id = given text names.KmsKeyId json;

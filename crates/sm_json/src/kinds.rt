@@ -192,7 +192,10 @@ fn rules_in(alloc: Global, object: &Value) -> Result<Rules, Fault>
     let days = optional(alloc, object, MemberName::AutomaticallyAfterDays)?;
     left_out(object, MemberName::Duration)?;
     left_out(object, MemberName::ScheduleExpression)?;
-    Ok(Rules { days })
+    Ok(Rules {
+        days,
+        schedule: None,
+    })
 }
 
 impl Member for Rules {

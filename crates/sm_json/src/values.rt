@@ -8,7 +8,7 @@ use crate::fields::{Fault, no_items, optional, required};
 use crate::name::MemberName;
 use serde_json::Value;
 use sm_model::{
-    BatchGetSecretValue, CreateSecret, GetSecretValue, PutSecretValue, UpdateSecret,
+    BatchGetSecretValue, CreateSecret, GetSecretValue, List, PutSecretValue, UpdateSecret,
     UpdateSecretVersionStage,
 };
 use std::alloc::Global;
@@ -37,6 +37,7 @@ pub fn create_secret_in(alloc: Global, object: &Value) -> Result<CreateSecret, F
 {
     no_items(object, MemberName::AddReplicaRegions)?;
     Ok(CreateSecret {
+        regions: List::empty(alloc),
         client_request_token: optional(alloc, object, MemberName::ClientRequestToken)?,
         description: optional(alloc, object, MemberName::Description)?,
         kms_key_id: optional(alloc, object, MemberName::KmsKeyId)?,

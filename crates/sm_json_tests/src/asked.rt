@@ -14,7 +14,7 @@ fn asked(alloc: Global, operation: &str, body: &str) -> Result<String, NoMemory>
 }
 
 /// An operation, a body, and what it asks for.
-static ASKED: [(&'static str, &'static str, &'static str); 94] = [
+static ASKED: [(&'static str, &'static str, &'static str); 97] = [
     (
         "BatchGetSecretValue",
         "{\"Filters\":[{\"Key\":\"name\",\"Values\":[\"a\",\"b\"]}],\"MaxResults\":5,\"NextToken\":\"n\",\
@@ -144,6 +144,21 @@ static ASKED: [(&'static str, &'static str, &'static str); 94] = [
         "ResourcePolicy=p SecretId=s ",
     ),
     ("getSecretValue", "{}", "unknown"),
+    (
+        "RemoveRegionsFromReplication",
+        "{\"SecretId\":\"s\",\"RemoveReplicaRegions\":[\"eu-west-1\"]}",
+        "unknown",
+    ),
+    (
+        "ReplicateSecretToRegions",
+        "{\"SecretId\":\"s\",\"AddReplicaRegions\":[{\"Region\":\"eu-west-1\"}]}",
+        "unknown",
+    ),
+    (
+        "StopReplicationToReplica",
+        "{\"SecretId\":\"s\"}",
+        "unknown",
+    ),
     ("", "[", "unknown"),
     ("DescribeSecret", "[]", "no json"),
     ("DescribeSecret", "\"{}\"", "no json"),

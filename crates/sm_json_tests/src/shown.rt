@@ -3,8 +3,8 @@ use sm_json::ReadRequest;
 use sm_model::{
     BatchGetSecretValue, Bytes, CreateSecret, DeleteSecret, Filter, GetRandomPassword,
     GetSecretValue, List, ListSecretVersionIds, ListSecrets, NoMemory, OfSecret, PutResourcePolicy,
-    PutSecretValue, Request, RotateSecret, Rules, Tag, TagResource, Text, UntagResource,
-    UpdateSecret, UpdateSecretVersionStage, ValidateResourcePolicy,
+    PutSecretValue, RegionsOfSecret, Request, RotateSecret, Rules, Tag, TagResource, Text,
+    UntagResource, UpdateSecret, UpdateSecretVersionStage, ValidateResourcePolicy,
 };
 use std::alloc::Global;
 
@@ -77,7 +77,8 @@ impl Show for Filter {
 impl Show for Rules {
     fn show(&self, out: &mut Out) -> Result<(), NoMemory> {
         out.text.push_str("rules ")?;
-        out.member_if("Days", &self.days)
+        out.member_if("Days", &self.days)?;
+        out.member_if("Schedule", &self.schedule)
     }
 }
 
@@ -104,6 +105,15 @@ fn batch(out: &mut Out, r: &BatchGetSecretValue) -> Result<(), NoMemory> {
     out.member_if("SecretIdList", &r.secret_id_list)
 }
 
+/// The regions of a new secret, where there are some.
+fn regions_if_some(out: &mut Out, regions: &List<Text>) -> Result<(), NoMemory> {
+    if regions.is_empty() {
+        Ok(())
+    } else {
+        out.member("Regions", regions)
+    }
+}
+
 fn create(out: &mut Out, r: &CreateSecret) -> Result<(), NoMemory> {
     out.member_if("ClientRequestToken", &r.client_request_token)?;
     out.member_if("Description", &r.description)?;
@@ -111,7 +121,8 @@ fn create(out: &mut Out, r: &CreateSecret) -> Result<(), NoMemory> {
     out.member("Name", &r.name)?;
     out.member_if("SecretBinary", &r.secret_binary)?;
     out.member_if("SecretString", &r.secret_string)?;
-    out.member_if("Tags", &r.tags)
+    out.member_if("Tags", &r.tags)?;
+    regions_if_some(out, &r.regions)
 }
 
 fn delete(out: &mut Out, r: &DeleteSecret) -> Result<(), NoMemory> {
@@ -214,6 +225,13 @@ fn named(out: &mut Out, name: &str, r: &OfSecret) -> Result<(), NoMemory> {
     out.member("SecretId", &r.secret_id)
 }
 
+/// The name of a request that names a secret and regions, and its members.
+fn regions(out: &mut Out, name: &str, r: &RegionsOfSecret) -> Result<(), NoMemory> {
+    out.text.push_str(name)?;
+    out.member("Regions", &r.regions)?;
+    out.member("SecretId", &r.secret_id)
+}
+
 fn show_request(out: &mut Out, request: &Request) -> Result<(), NoMemory> {
     match request {
         Request::BatchGetSecretValue(r) => batch(out, r),
@@ -229,8 +247,13 @@ fn show_request(out: &mut Out, request: &Request) -> Result<(), NoMemory> {
         Request::ListSecrets(r) => list(out, r),
         Request::PutResourcePolicy(r) => policy(out, r),
         Request::PutSecretValue(r) => put(out, r),
+        Request::RemoveRegionsFromReplication(r) => {
+            regions(out, "RemoveRegionsFromReplication ", r)
+        }
+        Request::ReplicateSecretToRegions(r) => regions(out, "ReplicateSecretToRegions ", r),
         Request::RestoreSecret(r) => named(out, "RestoreSecret ", r),
         Request::RotateSecret(r) => rotate(out, r),
+        Request::StopReplicationToReplica(r) => named(out, "StopReplicationToReplica ", r),
         Request::TagResource(r) => tagged(out, r),
         Request::UntagResource(r) => untagged(out, r),
         Request::UpdateSecret(r) => update(out, r),

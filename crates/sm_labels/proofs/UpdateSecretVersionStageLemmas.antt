@@ -4,7 +4,7 @@ use Rattle.sm_base.specs.declared.moment.Moment.{Moment}
 use Rattle.sm_base.specs.SecretId.{secret_id}
 use Rattle.sm_model.specs.declared.entry.Change.{Change}
 use Rattle.sm_model.specs.declared.entry.Change.TheVariants as changes
-use Rattle.sm_model.specs.declared.limits.TheConstants.{LABELS_LIMIT}
+use Rattle.sm_base.specs.declared.limits.TheConstants.{LABELS_LIMIT}
 use Rattle.sm_model.specs.declared.request.UpdateSecretVersionStage.{UpdateSecretVersionStage}
 use Rattle.sm_model.specs.declared.rows.Rows.{Rows}
 use Rattle.sm_model.specs.declared.rows.SecretRow.{SecretRow}
@@ -16,9 +16,11 @@ use Rattle.sm_forms.specs.UpdateSecretVersionStage.{move_forms}
 use Rattle.sm_forms.proofs.UpdateSecretVersionStageLemmas.{move_one}
 use Rattle.sm_versions.specs.declared.moving.Moved.{Moved}
 use Rattle.sm_versions.specs.declared.moving.Moved.TheVariants as moves
-use Rattle.sm_versions.specs.Texts.{same_text, aws_current}
-use Rattle.sm_versions.specs.Labels.{holder, place}
-use Rattle.sm_versions.specs.Versions.{has_version, has_value}
+use Rattle.sm_base.specs.Texts.{same_text}
+use Rattle.sm_model.specs.Labels.{aws_current, holder}
+use Rattle.sm_versions.specs.Labels.{place}
+use Rattle.sm_versions.specs.Versions.{has_value}
+use Rattle.sm_model.specs.Versions.{has_version}
 use Rattle.sm_versions.specs.Put.{has_too_many}
 use Rattle.sm_versions.specs.Move.{missing, may_move, move_to, unless_missing, move_answer}
 use Rattle.sm_versions.proofs.SoundLaws.{move_sound}

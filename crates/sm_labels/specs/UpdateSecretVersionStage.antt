@@ -4,7 +4,7 @@ use Rattle.std.specs.Prelude.{ℕ, not, ◌&&◌, List, [], ◌∷◌, Option, S
 use Rattle.sm_base.specs.declared.moment.Moment.{Moment}
 use Rattle.sm_base.specs.SecretId.{secret_id}
 use Rattle.sm_model.specs.declared.entry.Change.TheVariants as changes
-use Rattle.sm_model.specs.declared.limits.TheConstants.{LABELS_LIMIT}
+use Rattle.sm_base.specs.declared.limits.TheConstants.{LABELS_LIMIT}
 use Rattle.sm_model.specs.declared.reply.NamedSecret.{NamedSecret}
 use Rattle.sm_model.specs.declared.reply.Reply.TheVariants as replies
 use Rattle.sm_model.specs.declared.request.UpdateSecretVersionStage.{UpdateSecretVersionStage}
@@ -15,9 +15,11 @@ use Rattle.sm_model.specs.declared.why.Why.{Why}
 use Rattle.sm_model.specs.declared.why.Why.TheVariants.{NotThere, HeldBy, KeepsCurrent, Empty, Limit}
 use Rattle.sm_versions.specs.declared.moving.Moved.{Moved}
 use Rattle.sm_versions.specs.declared.moving.Moved.TheVariants as moves
-use Rattle.sm_versions.specs.Texts.{same_text, aws_current}
-use Rattle.sm_versions.specs.Labels.{holder, place}
-use Rattle.sm_versions.specs.Versions.{has_version, has_value}
+use Rattle.sm_base.specs.Texts.{same_text}
+use Rattle.sm_model.specs.Labels.{aws_current, holder}
+use Rattle.sm_versions.specs.Labels.{place}
+use Rattle.sm_versions.specs.Versions.{has_value}
+use Rattle.sm_model.specs.Versions.{has_version}
 use Rattle.sm_versions.specs.Put.{has_too_many}
 use Rattle.sm_versions.specs.Move.{may_move, move_answer, move_row}
 use Rattle.sm_table.specs.Found.{found}

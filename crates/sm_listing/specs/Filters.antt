@@ -3,18 +3,13 @@
 use Rattle.std.specs.Prelude.{ℕ, ◌+◌, Bool, false, not, ◌&&◌, ◌==◌, nat_eq, nat_le, if◌then◌else◌, List, [], ◌∷◌, length, map, codes, Option, Some, None, is_some}
 use Rattle.std.specs.List.{list_all, list_any, starts_with}
 use Rattle.std.specs.Option.{option_to_list}
-use Rattle.std.specs.Cmp.Lexicographic.{pointwise}
 use Rattle.sm_model.specs.declared.request.Filter.{Filter}
 use Rattle.sm_model.specs.declared.rows.SecretRow.{SecretRow}
 use Rattle.sm_model.specs.declared.value.Tag.{Tag}
-use Rattle.sm_model.specs.Bounds.{has_at_most}
-use Rattle.sm_listing.specs.declared.filters.TheConstants.{FILTER_VALUES_LIMIT, FILTER_VALUE_LIMIT}
+use Rattle.sm_base.specs.Texts.{same_text, has_at_most}
+use Rattle.sm_base.specs.declared.limits.TheConstants.{FILTER_VALUES_LIMIT, FILTER_VALUE_LIMIT}
 use Rattle.sm_listing.specs.declared.filters.FilterKey.{FilterKey}
 use Rattle.sm_listing.specs.declared.filters.FilterKey.TheVariants.{Name, Description, TagKey, TagValue}
-
--- both texts have the same bytes
-abbrev pub same_text : List ℕ → List ℕ → Bool
-same_text a b = pointwise nat_eq a b
 
 -- what a filter's key names
 unfoldable pub key_of : List ℕ → Option FilterKey

@@ -1,17 +1,18 @@
 -- Pages of secrets and of versions: which serials, in which order, and what next.
 -- AWS Secrets Manager API Reference, ListSecrets and ListSecretVersionIds.
 use Rattle.std.specs.Prelude.{ℕ, ◌-◌, ◌^◌, Bool, true, false, ◌&&◌, ◌||◌, nat_lt, if◌then◌else◌, min, List, length, map, reverse, take, slice_index, Result, Ok, Err, Option, Some, None}
-use Rattle.std.specs.List.{filter, list_all, list_any}
+use Rattle.std.specs.List.{filter, list_all}
 use Rattle.sm_base.specs.declared.moment.Moment.{Moment}
 use Rattle.sm_model.specs.declared.rows.SecretRow.{SecretRow}
 use Rattle.sm_model.specs.declared.rows.VersionRow.{VersionRow}
 use Rattle.sm_model.specs.declared.rows.Pair.{Pair}
+use Rattle.sm_model.specs.Labels.{is_labelled}
 use Rattle.sm_listing.specs.declared.asks.PageAsk.{PageAsk}
 use Rattle.sm_listing.specs.declared.asks.Listed.{Listed}
 use Rattle.sm_listing.specs.declared.asks.PageRefused.{PageRefused}
 use Rattle.sm_listing.specs.declared.asks.PageRefused.TheVariants.{BadFilter, BadToken, Memory}
 use Rattle.sm_listing.specs.declared.tokens.TheConstants.{SECRETS, VERSIONS}
-use Rattle.sm_listing.specs.Filters.{same_text, first_fault, filter_holds}
+use Rattle.sm_listing.specs.Filters.{first_fault, filter_holds}
 use Rattle.sm_listing.specs.PageTokens.{spelled, serial_of}
 
 -- ---- what is listed
@@ -43,14 +44,10 @@ abbrev pub row_serials : List SecretRow → Moment → PageAsk → Option ℕ �
 row_serials rows moment ask start =
     map (λ (row : SecretRow). row.serial) (filter (comes moment ask start) (ordered ask.descending rows))
 
--- a label is on the version
-abbrev pub has_label : List Pair → VersionRow → Bool
-has_label labels version = list_any (λ pair. same_text pair.id version.id) labels
-
 -- a version behind the start; without a label only where those are asked for
 abbrev pub version_comes : List Pair → Bool → Option ℕ → VersionRow → Bool
 version_comes labels deprecated start version =
-    (deprecated || has_label labels version) && is_behind false start version.serial
+    (deprecated || is_labelled labels version.id) && is_behind false start version.serial
 
 -- the serials of the listed versions behind a start, in order of creation
 abbrev pub version_serials : SecretRow → Bool → Option ℕ → List ℕ

@@ -1,17 +1,13 @@
 //! Filters of secrets.
-ghost use Rattle.std.specs.Prelude.{◌≡◌, IsTrue, nat_eq, length, Option, min, ◌+◌, ◌^◌, ◌-◌, option_map};
+ghost use Rattle.std.specs.Prelude.{◌≡◌, nat_eq, min, ◌+◌, ◌^◌, ◌-◌, option_map};
 ghost use Rattle.std.specs.List.{list_all, list_any, starts_with};
-ghost use Rattle.sm_model.specs.Bounds.{has_at_most};
+ghost use Rattle.sm_base.specs.Texts.{has_at_most};
 ghost use Rattle.sm_listing.specs.Filters.{key_of, is_filter, first_fault, texts_of, some_begins, value_holds, filter_holds};
 
 use sm_base::Text;
+use sm_base::limits::{FILTER_VALUE_LIMIT, FILTER_VALUES_LIMIT};
+use sm_base::text::has_at_most;
 use sm_model::{Filter, SecretRow, Tag};
-
-/// The most values of a filter.
-pub const FILTER_VALUES_LIMIT: usize = 10;
-
-/// The greatest length of a filter's value, in characters.
-pub const FILTER_VALUE_LIMIT: usize = 512;
 
 /// What a filter's key names.
 #[derive(Clone, Copy)]
@@ -23,7 +19,7 @@ pub enum FilterKey {
 }
 
 /// What the text names as a filter's key.
-#[tactic(auto, unfolding(crate::specs::Filters::key_of))]
+#[tactic(auto, unfolding(crate::specs::Filters::key_of, sm_base::specs::Texts::same_text))]
 fn key_of(text: &Text) -> Option<FilterKey>
     ensures { result ≡ key_of text.now }
 {
@@ -36,18 +32,13 @@ fn key_of(text: &Text) -> Option<FilterKey>
     }
 }
 
-/// Whether a value is not too long.
-fn is_value(value: &Text) -> bool
-    ensures { result ≡ has_at_most FILTER_VALUE_LIMIT value.now }
-{
-    value.as_str().chars().count() <= FILTER_VALUE_LIMIT
-}
-
 /// Whether no value is too long.
 fn are_values(values: &[Text]) -> bool
     ensures { result ≡ list_all (has_at_most FILTER_VALUE_LIMIT) values.now }
 {
-    values.iter().all(|value| is_value(value))
+    values
+        .iter()
+        .all(|value| has_at_most(value, FILTER_VALUE_LIMIT))
 }
 
 /// Whether a filter is in its form. It takes no memory.

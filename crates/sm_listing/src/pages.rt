@@ -1,8 +1,9 @@
 //! Pages of secrets, and of the versions of a secret.
 ghost use Rattle.std.specs.Prelude.{◌≡◌, ◌<◌, ◌≤◌, ◌-◌, if◌then◌else◌, IfOk, Some, length, slice_get, option_copied};
 ghost use Rattle.sm_base.specs.Outcomes.{OrMemory};
-ghost use Rattle.sm_listing.specs.Filters.{same_text};
-ghost use Rattle.sm_listing.specs.Pages.{ordered, is_behind, is_there, comes, row_serials, has_label, version_comes, version_serials, start_of, secrets_page, versions_page, told};
+ghost use Rattle.sm_base.specs.Texts.{same_text};
+ghost use Rattle.sm_model.specs.Labels.{is_labelled};
+ghost use Rattle.sm_listing.specs.Pages.{ordered, is_behind, is_there, comes, row_serials, version_comes, version_serials, start_of, secrets_page, versions_page, told};
 ghost use Rattle.sm_listing.specs.Walks.{IsPage};
 
 use crate::asks::{Listed, PageAsk, PageRefused};
@@ -103,12 +104,13 @@ fn shown_rows<L: RowList>(
 
 /// Whether a label is on a version.
 fn has_label(labels: &[Pair], version: &VersionRow) -> bool
-    ensures { result ≡ has_label labels.now version.now }
+    ensures { result ≡ is_labelled labels.now version.now.id }
 {
     labels.iter().any(|pair| is_same(&pair.id, &version.id))
 }
 
 /// Whether both are the same id.
+#[tactic(auto, unfolding(sm_base::specs::Texts::same_text))]
 fn is_same(id: &Token, other: &Token) -> bool
     ensures { result ≡ same_text id.now other.now }
 {

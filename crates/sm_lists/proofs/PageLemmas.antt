@@ -13,7 +13,7 @@ use Rattle.sm_listing.specs.declared.tokens.TheConstants.{SECRETS, VERSIONS}
 use Rattle.sm_listing.specs.Filters.{is_filter, first_fault}
 use Rattle.sm_listing.specs.PageTokens.{serial_of}
 use Rattle.sm_listing.specs.Pages.{ordered, comes, start_at, start_of, secrets_page, versions_page}
-use Rattle.sm_forms.specs.declared.paging.TheConstants.{FILTERS_LIMIT}
+use Rattle.sm_base.specs.declared.limits.TheConstants.{FILTERS_LIMIT}
 use Rattle.sm_forms.specs.Paging.{is_count, are_filters, is_page_token}
 use Rattle.sm_table.specs.Sound.{Sound}
 use Rattle.sm_lists.specs.declared.list_secret_version_ids.VersionsCall.{VersionsCall}

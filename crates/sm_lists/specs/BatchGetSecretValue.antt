@@ -19,7 +19,7 @@ use Rattle.sm_model.specs.Causes.{error_of, message_of}
 use Rattle.sm_model.specs.Replies.{shown_value}
 use Rattle.sm_access.specs.Admission.{admission}
 use Rattle.sm_listing.specs.declared.asks.PageAsk.{PageAsk}
-use Rattle.sm_forms.specs.declared.paging.TheConstants.{BATCH_LIMIT}
+use Rattle.sm_base.specs.declared.limits.TheConstants.{BATCH_LIMIT}
 use Rattle.sm_forms.specs.GetSecretValue.{get_forms}
 use Rattle.sm_judging.specs.declared.judged.Judged.{Judged}
 use Rattle.sm_judging.specs.declared.judged.Judged.TheVariants.{Accept, Refuse, Memory}

@@ -16,7 +16,7 @@ use Rattle.sm_model.specs.Bounds.{fits}
 use Rattle.sm_listing.specs.declared.asks.Listed.{Listed}
 use Rattle.sm_listing.specs.declared.tokens.TheConstants.{VERSIONS}
 use Rattle.sm_listing.specs.Pages.{version_serials, page_of}
-use Rattle.sm_forms.specs.declared.paging.TheConstants.{PAGE_LIMIT}
+use Rattle.sm_base.specs.declared.limits.TheConstants.{PAGE_LIMIT}
 use Rattle.sm_forms.specs.Paging.{is_page_token}
 use Rattle.sm_table.specs.Found.{found}
 use Rattle.sm_judging.specs.declared.judged.Judged.{Judged}

@@ -7,9 +7,9 @@ use Rattle.sm_model.specs.declared.reply.SecretPage.{SecretPage}
 use Rattle.sm_model.specs.declared.request.ListSecrets.{ListSecrets}
 use Rattle.sm_model.specs.declared.rows.Rows.{Rows}
 use Rattle.sm_model.specs.declared.why.Why.{Why}
-use Rattle.sm_versions.specs.Texts.{same_text}
+use Rattle.sm_base.specs.Texts.{same_text}
 use Rattle.sm_listing.specs.declared.asks.PageAsk.{PageAsk}
-use Rattle.sm_forms.specs.declared.paging.TheConstants.{PAGE_LIMIT}
+use Rattle.sm_base.specs.declared.limits.TheConstants.{PAGE_LIMIT}
 use Rattle.sm_judging.specs.declared.judged.Judged.{Judged}
 use Rattle.sm_judging.specs.declared.judged.Judged.TheVariants.{Accept}
 use Rattle.sm_reads.specs.DescribeSecret.{described}

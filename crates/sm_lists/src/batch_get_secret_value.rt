@@ -13,8 +13,8 @@ ghost use Rattle.sm_reads.specs.GetSecretValue.{get_judgement};
 
 use crate::pages::{filters_given, is_next, listed, page_size, row_at};
 use sm_access::{Admitted, admit_get};
+use sm_base::limits::BATCH_LIMIT;
 use sm_forms::get_secret_value::get_forms;
-use sm_forms::paging::BATCH_LIMIT;
 use sm_judging::Judged;
 use sm_listing::{Listed, PageAsk};
 use sm_model::{

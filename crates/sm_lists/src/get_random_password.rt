@@ -5,11 +5,11 @@ ghost use Rattle.sm_forms.specs.Paging.{is_count};
 ghost use Rattle.sm_lists.specs.GetRandomPassword.{password_judgement};
 ghost use Rattle.sm_model.specs.Bounds.{fits};
 ghost use Rattle.sm_model.specs.Needed.{needed};
-ghost use Rattle.sm_model.specs.declared.limits.TheConstants.{PASSWORD_LIMIT};
+ghost use Rattle.sm_base.specs.declared.limits.TheConstants.{PASSWORD_LIMIT};
 ghost use Rattle.sm_password.specs.Passwords.{password_text};
 
+use sm_base::limits::PASSWORD_LENGTH;
 use sm_judging::Judged;
-use sm_model::limits::PASSWORD_LENGTH;
 use sm_model::{Copied, GetRandomPassword, NoMemory, RandomPassword, Reply, Request, Text};
 use sm_password::{PasswordAsk, PasswordRefused, password};
 use std::alloc::Global;

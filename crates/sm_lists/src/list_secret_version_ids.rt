@@ -9,7 +9,7 @@ ghost use Rattle.sm_lists.specs.Pages.{picked};
 ghost use Rattle.sm_model.specs.Bounds.{fits};
 
 use crate::pages::{is_next, page_size};
-use sm_forms::paging::PAGE_LIMIT;
+use sm_base::limits::PAGE_LIMIT;
 use sm_judging::Judged;
 use sm_judging::labels_shown::labels_shown;
 use sm_judging::members::secret_id;

@@ -8,7 +8,7 @@ ghost use Rattle.sm_table.specs.Sound.{Sound};
 ghost use Rattle.sm_reads.specs.DescribeSecret.{described};
 
 use crate::pages::{filters_given, is_next, listed, page_size, row_at};
-use sm_forms::paging::PAGE_LIMIT;
+use sm_base::limits::PAGE_LIMIT;
 use sm_judging::Judged;
 use sm_listing::{Listed, PageAsk};
 use sm_model::{
@@ -55,7 +55,7 @@ fn list_ask(alloc: Global, list: &ListSecrets) -> Result<PageAsk, NoMemory>
 }
 
 /// Whether the reverse of the order of creation is asked for.
-#[tactic(auto, unfolding(sm_versions::specs::Texts::same_text))]
+#[tactic(auto, unfolding(sm_base::specs::Texts::same_text))]
 fn is_descending(order: &Option<Text>) -> bool
     ensures { result ≡ is_descending order.now }
 {

@@ -1,5 +1,6 @@
 //! Building the lock and its passes.
 ghost use Rattle.std.specs.Prelude.{◌≡◌, ◌≤◌, [], ◌∷◌, IfOk, IfErr, All, map, length, Some, vec_len, vec_capacity};
+ghost use Rattle.sm_base.specs.declared.limits.TheConstants.{SEATS_LIMIT};
 ghost use Rattle.std.specs.List.{range_with_len};
 ghost use Rattle.sm_lock.specs.declared.gate.BuildRefused.TheVariants.{Memory};
 ghost use Rattle.sm_lock.specs.View.{first_view};
@@ -62,7 +63,7 @@ impl<T: Storied> Gate<T> {
         value: T,
         seats: u32,
     ) -> Result<(Gate<T>, List<Pass<T>>), BuildRefused<T>>
-        requires { (1 ≤ seats) × (seats ≤ 128) }
+        requires { (1 ≤ seats) × (seats ≤ SEATS_LIMIT) }
         ensures gate { IfOk result (λ r. (built_with r.0 ≡ value) × (seats_of r.0 ≡ seats)) }
         ensures count { IfOk result (λ r. length r.1 ≡ seats) }
         ensures numbers { IfOk result (λ r. map number r.1 ≡ range_with_len 1 seats) }

@@ -4,8 +4,9 @@
 use Rattle.std.specs.Prelude.{ℕ, Bool, true, not, ◌&&◌, nat_le, nat_eq, List, length, codes, Option, Some, None}
 use Rattle.std.specs.List.{starts_with}
 use Rattle.std.specs.Str.{chars}
+use Rattle.sm_base.specs.Texts.{has_at_most}
 use Rattle.sm_base.specs.declared.moment.Moment.{Moment}
-use Rattle.sm_model.specs.declared.limits.TheConstants.{VALUE_LIMIT, DESCRIPTION_LIMIT, TAG_KEY_LIMIT, TAG_VALUE_LIMIT, ATTEMPTS_LIMIT, DAYS_LIMIT, LAST_DATE, LAST_ROTATION_DATE}
+use Rattle.sm_base.specs.declared.limits.TheConstants.{VALUE_LIMIT, DESCRIPTION_LIMIT, TAG_KEY_LIMIT, TAG_VALUE_LIMIT, ATTEMPTS_LIMIT, DAYS_LIMIT, LAST_DATE, LAST_ROTATION_DATE}
 use Rattle.sm_model.specs.declared.value.Value.{Value}
 use Rattle.sm_model.specs.declared.value.Tag.{Tag}
 use Rattle.sm_model.specs.Value.{byte_count}
@@ -14,10 +15,6 @@ use Rattle.sm_model.specs.Value.{byte_count}
 abbrev pub fits : {A : Type 0} → (A → Bool) → Option A → Bool
 fits test None = true
 fits test (Some a) = test a
-
--- a text of at most so many characters
-abbrev pub has_at_most : ℕ → List ℕ → Bool
-has_at_most limit text = nat_le (length (chars text)) limit
 
 -- a description, a KMS key id or a Lambda ARN
 abbrev pub is_description : List ℕ → Bool

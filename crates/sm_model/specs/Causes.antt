@@ -5,9 +5,11 @@ use Rattle.std.specs.Prelude.{ℕ, List, ◌++◌, Option, Some, None, codes, de
 use Rattle.sm_base.specs.declared.bad_kind.BadKind.{BadKind}
 use Rattle.sm_base.specs.declared.bad_kind.BadKind.TheVariants.{HeadTooLong, Head, Chunked, Length, BodyTooLong}
 use Rattle.sm_model.specs.declared.why.What.{What}
-use Rattle.sm_model.specs.declared.why.What.TheVariants.{Secrets, Versions, Labels, Tags, Entries, JournalBytes}
+use Rattle.sm_model.specs.declared.why.Part.{Part}
+use Rattle.sm_model.specs.declared.why.Part.TheVariants.{Authorization, SignedHeaders, Date, Signature}
+use Rattle.sm_model.specs.declared.why.What.TheVariants.{Secrets, Versions, Labels, Tags, Entries, JournalBytes, Regions}
 use Rattle.sm_model.specs.declared.why.Why.{Why}
-use Rattle.sm_model.specs.declared.why.Why.TheVariants.{Form, Left, HeldBy, KeepsCurrent, Empty, Scheduled, Differ, Pending, NoCurrent, NoSecret, NoVersion, NotThere, SecretExists, OtherValue, VersionExists, Limit, Malformed, Public, BadToken, Denied, NoCredential, UnknownKey, UnknownOperation, NotJson, BadMember, Http, DiskFault, RandomFault, Memory, NotBuilt}
+use Rattle.sm_model.specs.declared.why.Why.TheVariants.{Form, Left, HeldBy, KeepsCurrent, Empty, Scheduled, Differ, Pending, NoCurrent, NotReplica, ReadOnly, NoSecret, NoVersion, NotThere, SecretExists, OtherValue, VersionExists, Limit, Malformed, Public, BadToken, Denied, NoCredential, UnknownKey, BadSignature, UnknownOperation, NotJson, BadMember, Http, DiskFault, RandomFault, Memory}
 
 -- the error's name
 abbrev pub error_of : Why → List ℕ
@@ -20,6 +22,8 @@ error_of (Scheduled moment) = codes "InvalidRequestException"
 error_of Differ = codes "InvalidRequestException"
 error_of (Pending id) = codes "InvalidRequestException"
 error_of NoCurrent = codes "InvalidRequestException"
+error_of NotReplica = codes "InvalidRequestException"
+error_of ReadOnly = codes "InvalidRequestException"
 error_of NoSecret = codes "ResourceNotFoundException"
 error_of NoVersion = codes "ResourceNotFoundException"
 error_of (NotThere id) = codes "ResourceNotFoundException"
@@ -33,6 +37,7 @@ error_of BadToken = codes "InvalidNextTokenException"
 error_of (Denied statement) = codes "AccessDeniedException"
 error_of NoCredential = codes "AccessDeniedException"
 error_of (UnknownKey key) = codes "AccessDeniedException"
+error_of (BadSignature part) = codes "AccessDeniedException"
 error_of UnknownOperation = codes "UnknownOperationException"
 error_of NotJson = codes "SerializationException"
 error_of (BadMember member) = codes "SerializationException"
@@ -40,7 +45,6 @@ error_of (Http kind) = codes "SerializationException"
 error_of DiskFault = codes "InternalServiceError"
 error_of RandomFault = codes "InternalServiceError"
 error_of Memory = codes "ServiceUnavailable"
-error_of NotBuilt = codes "SerializationException"
 
 -- what a limit counts
 abbrev pub name_of_what : What → List ℕ
@@ -50,6 +54,7 @@ name_of_what Labels = codes "labels"
 name_of_what Tags = codes "tags"
 name_of_what Entries = codes "entries"
 name_of_what JournalBytes = codes "journal bytes"
+name_of_what Regions = codes "regions"
 
 -- the message of a label that another version, or none, holds
 abbrev pub holder_message : Option (List ℕ) → List ℕ
@@ -60,6 +65,13 @@ holder_message (Some id) = codes "label is held by " ++ id
 abbrev pub denial_message : Option ℕ → List ℕ
 denial_message None = codes "no statement allows"
 denial_message (Some statement) = codes "denied by statement " ++ decimal statement
+
+-- the message of a part of a signature that is wrong
+abbrev pub signature_message : Part → List ℕ
+signature_message Authorization = codes "signature: Authorization"
+signature_message SignedHeaders = codes "signature: SignedHeaders"
+signature_message Date = codes "signature: Date"
+signature_message Signature = codes "signature: Signature"
 
 -- the message of a fault of a message
 abbrev pub http_message : BadKind → List ℕ
@@ -80,6 +92,8 @@ message_of (Scheduled moment) = codes "secret is scheduled for deletion at " ++ 
 message_of Differ = codes "version and label differ"
 message_of (Pending id) = codes "AWSPENDING is held by " ++ id
 message_of NoCurrent = codes "secret has no current value"
+message_of NotReplica = codes "secret is not a replica"
+message_of ReadOnly = codes "replica is read-only"
 message_of NoSecret = codes "secret not found"
 message_of NoVersion = codes "version not found"
 message_of (NotThere id) = codes "version not found"
@@ -93,6 +107,7 @@ message_of BadToken = codes "NextToken is not in its form"
 message_of (Denied statement) = denial_message statement
 message_of NoCredential = codes "no credential"
 message_of (UnknownKey key) = codes "unknown key " ++ key
+message_of (BadSignature part) = signature_message part
 message_of UnknownOperation = codes "unknown operation"
 message_of NotJson = codes "body is not a JSON object"
 message_of (BadMember member) = member ++ codes " is missing or of another type"
@@ -100,7 +115,6 @@ message_of (Http kind) = http_message kind
 message_of DiskFault = codes "disk fault"
 message_of RandomFault = codes "random source fault"
 message_of Memory = codes "out of memory"
-message_of NotBuilt = codes "not built"
 
 -- the status of a message's fault
 abbrev pub http_status : BadKind → ℕ
@@ -122,6 +136,8 @@ status_of (Scheduled moment) = 400
 status_of Differ = 400
 status_of (Pending id) = 400
 status_of NoCurrent = 400
+status_of NotReplica = 400
+status_of ReadOnly = 400
 status_of NoSecret = 400
 status_of NoVersion = 400
 status_of (NotThere id) = 400
@@ -135,6 +151,7 @@ status_of BadToken = 400
 status_of (Denied statement) = 400
 status_of NoCredential = 400
 status_of (UnknownKey key) = 400
+status_of (BadSignature part) = 400
 status_of UnknownOperation = 400
 status_of NotJson = 400
 status_of (BadMember member) = 400
@@ -142,4 +159,3 @@ status_of (Http kind) = http_status kind
 status_of DiskFault = 500
 status_of RandomFault = 500
 status_of Memory = 503
-status_of NotBuilt = 400

@@ -3,7 +3,7 @@
 -- UpdateSecret, and
 -- GetRandomPassword (PasswordLength).
 use Rattle.std.specs.Prelude.{ℕ, ℤ, pos, negsuc, ◌+◌, ◌*◌, Bool, ◌||◌, ◌&&◌, nat_le, List, Option, Some, None, is_some, if◌then◌else◌}
-use Rattle.sm_model.specs.declared.limits.TheConstants.{PASSWORD_LENGTH, PASSWORD_LIMIT}
+use Rattle.sm_base.specs.declared.limits.TheConstants.{PASSWORD_LENGTH, PASSWORD_LIMIT}
 use Rattle.sm_model.specs.declared.request.Request.{Request}
 use Rattle.sm_model.specs.declared.request.Request.TheVariants as requests
 
@@ -44,8 +44,11 @@ needed (requests.ListSecretVersionIds r) = 0
 needed (requests.ListSecrets r) = 0
 needed (requests.PutResourcePolicy r) = 0
 needed (requests.PutSecretValue r) = token_bytes r.client_request_token
+needed (requests.RemoveRegionsFromReplication r) = 0
+needed (requests.ReplicateSecretToRegions r) = 0
 needed (requests.RestoreSecret r) = 0
 needed (requests.RotateSecret r) = token_bytes_if r.rotate_immediately r.client_request_token
+needed (requests.StopReplicationToReplica r) = 0
 needed (requests.TagResource r) = 0
 needed (requests.UntagResource r) = 0
 needed (requests.UpdateSecret r) = token_bytes_if (is_some r.secret_string || is_some r.secret_binary)

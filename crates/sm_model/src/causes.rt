@@ -2,9 +2,9 @@
 //! operation and
 //! "Common Errors"; the messages are this server's own).
 ghost use Rattle.std.specs.Prelude.{◌≡◌, ◌++◌, codes, decimal, IfOk, IsErr, MatchResult, string_bytes};
-ghost use Rattle.sm_model.specs.Causes.{error_of, name_of_what, message_of, holder_message, denial_message, http_message, status_of};
+ghost use Rattle.sm_model.specs.Causes.{error_of, name_of_what, message_of, holder_message, denial_message, signature_message, http_message, status_of};
 
-use crate::why::{What, Why};
+use crate::why::{Part, What, Why};
 use sm_base::{BadKind, NoMemory, Text, Token};
 use std::alloc::{AllocError, Global};
 
@@ -17,8 +17,13 @@ impl Why {
             Why::Form(_) | Why::Left(_) | Why::HeldBy(_) | Why::KeepsCurrent => {
                 "InvalidParameterException"
             }
-            Why::Empty(_) | Why::Scheduled(_) | Why::Differ | Why::Pending(_) | Why::NoCurrent =>
-                "InvalidRequestException",
+            Why::Empty(_)
+            | Why::Scheduled(_)
+            | Why::Differ
+            | Why::Pending(_)
+            | Why::NoCurrent
+            | Why::NotReplica
+            | Why::ReadOnly => "InvalidRequestException",
             Why::NoSecret | Why::NoVersion | Why::NotThere(_) => "ResourceNotFoundException",
             Why::SecretExists(_) | Why::OtherValue(_) | Why::VersionExists(_) => {
                 "ResourceExistsException"
@@ -27,11 +32,11 @@ impl Why {
             Why::Malformed(_, _) => "MalformedPolicyDocumentException",
             Why::Public(_) => "PublicPolicyException",
             Why::BadToken => "InvalidNextTokenException",
-            Why::Denied(_) | Why::NoCredential | Why::UnknownKey(_) => "AccessDeniedException",
-            Why::UnknownOperation => "UnknownOperationException",
-            Why::NotJson | Why::BadMember(_) | Why::Http(_) | Why::NotBuilt => {
-                "SerializationException"
+            Why::Denied(_) | Why::NoCredential | Why::UnknownKey(_) | Why::BadSignature(_) => {
+                "AccessDeniedException"
             }
+            Why::UnknownOperation => "UnknownOperationException",
+            Why::NotJson | Why::BadMember(_) | Why::Http(_) => "SerializationException",
             Why::DiskFault | Why::RandomFault => "InternalServiceError",
             Why::Memory => "ServiceUnavailable",
         }
@@ -67,6 +72,8 @@ impl Why {
                 written(format!(in alloc; "AWSPENDING is held by {}", id.as_text().as_str()))
             }
             Why::NoCurrent => Ok(Text::fixed("secret has no current value")),
+            Why::NotReplica => Ok(Text::fixed("secret is not a replica")),
+            Why::ReadOnly => Ok(Text::fixed("replica is read-only")),
             Why::NoSecret => Ok(Text::fixed("secret not found")),
             Why::NoVersion | Why::NotThere(_) => Ok(Text::fixed("version not found")),
             Why::SecretExists(name) => {
@@ -81,6 +88,7 @@ impl Why {
             Why::Denied(statement) => denial_message(alloc, *statement),
             Why::NoCredential => Ok(Text::fixed("no credential")),
             Why::UnknownKey(key) => written(format!(in alloc; "unknown key {}", key.as_str())),
+            Why::BadSignature(part) => Ok(Text::fixed(signature_message(*part))),
             Why::UnknownOperation => Ok(Text::fixed("unknown operation")),
             Why::NotJson => Ok(Text::fixed("body is not a JSON object")),
             Why::BadMember(member) => with_end(alloc, member, " is missing or of another type"),
@@ -88,7 +96,6 @@ impl Why {
             Why::DiskFault => Ok(Text::fixed("disk fault")),
             Why::RandomFault => Ok(Text::fixed("random source fault")),
             Why::Memory => Ok(Text::fixed("out of memory")),
-            Why::NotBuilt => Ok(Text::fixed("not built")),
         }
     }
 }
@@ -128,6 +135,7 @@ fn name_of_what(what: What) -> &'static str
         What::Tags => "tags",
         What::Entries => "entries",
         What::JournalBytes => "journal bytes",
+        What::Regions => "regions",
     }
 }
 
@@ -159,6 +167,18 @@ fn denial_message(alloc: Global, statement: Option<u32>) -> Result<Text, NoMemor
     match statement {
         Some(statement) => written(format!(in alloc; "denied by statement {statement}")),
         None => Ok(Text::fixed("no statement allows")),
+    }
+}
+
+/// The message of a part of a signature that is wrong.
+fn signature_message(part: Part) -> &'static str
+    ensures { result.now ≡ signature_message part }
+{
+    match part {
+        Part::Authorization => "signature: Authorization",
+        Part::SignedHeaders => "signature: SignedHeaders",
+        Part::Date => "signature: Date",
+        Part::Signature => "signature: Signature",
     }
 }
 

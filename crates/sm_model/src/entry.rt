@@ -2,7 +2,7 @@
 use crate::request::Request;
 use crate::rows::{SecretRow, Stage};
 use crate::value::Value;
-use sm_base::{Arn, Bytes, Copied, Moment, NoMemory, Text, Token, copy_three};
+use sm_base::{Arn, Bytes, Copied, Moment, NoMemory, Text, Token, copy_two};
 use std::alloc::Global;
 
 /// A step of a rotation.
@@ -50,9 +50,13 @@ pub struct Entry {
     pub moment: Moment,
     /// The key of the person who asked.
     pub caller: Text,
+    /// The ARN of the person who asked.
+    pub by: Text,
     /// The random bytes that were drawn for it.
     pub drawn: Bytes,
     pub act: Act,
+    /// Whether versions that need not be kept are dropped from the secret that it changes.
+    pub prunes: bool,
 }
 
 /// Who lets an entry go makes one call.
@@ -61,8 +65,10 @@ impl Drop for Entry {
         let Entry {
             moment: _,
             caller: _,
+            by: _,
             drawn: _,
             act: _,
+            prunes: _,
         } = self;
     }
 }
@@ -133,12 +139,15 @@ impl Copied for Act {
 
 impl Copied for Entry {
     fn copy(&self, alloc: Global) -> Result<Entry, NoMemory> {
-        let (caller, drawn, act) = copy_three(alloc, &self.caller, &self.drawn, &self.act)?;
+        let (caller, by) = copy_two(alloc, &self.caller, &self.by)?;
+        let (drawn, act) = copy_two(alloc, &self.drawn, &self.act)?;
         Ok(Entry {
             moment: self.moment,
             caller,
+            by,
             drawn,
             act,
+            prunes: self.prunes,
         })
     }
 }

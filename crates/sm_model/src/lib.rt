@@ -7,7 +7,6 @@
 
 pub mod causes;
 pub mod entry;
-pub mod limits;
 pub mod person;
 pub mod reply;
 mod reply_copies;
@@ -21,15 +20,16 @@ pub mod why;
 pub use entry::{Act, Answer, At, Change, Entry, Mark};
 pub use person::Person;
 pub use reply::{
-    BatchError, DeletedSecret, Described, GotSecret, NamedSecret, PolicyOfSecret, PolicyValidation,
-    PutValue, RandomPassword, Reply, RulesShown, SecretBatch, SecretPage, Staged, ValidationError,
+    BatchError, CreatedSecret, DeletedSecret, Described, GotSecret, NamedSecret, PolicyOfSecret,
+    PolicyValidation, PromotedSecret, PutValue, RandomPassword, ReplicatedSecret,
+    ReplicationStatus, Reply, RulesShown, SecretBatch, SecretPage, Staged, ValidationError,
     VersionItem, VersionPage, VersionedSecret,
 };
 pub use request::{
     BatchGetSecretValue, CreateSecret, DeleteSecret, Filter, GetRandomPassword, GetSecretValue,
-    ListSecretVersionIds, ListSecrets, OfSecret, PutResourcePolicy, PutSecretValue, Request,
-    RotateSecret, Rules, TagResource, UntagResource, UpdateSecret, UpdateSecretVersionStage,
-    ValidateResourcePolicy, need,
+    ListSecretVersionIds, ListSecrets, OfSecret, PutResourcePolicy, PutSecretValue,
+    RegionsOfSecret, Request, RotateSecret, Rules, TagResource, UntagResource, UpdateSecret,
+    UpdateSecretVersionStage, ValidateResourcePolicy, need,
 };
 pub use row_list::RowList;
 pub use rows::{Job, Pair, Rotation, Rows, SecretRow, Stage, VersionRow};
@@ -37,5 +37,6 @@ pub use sm_base::{
     Arn, BadKind, Bytes, Copied, Fails, Keyed, Label, List, Moment, Name, NoMemory, ReadRefused,
     SecretId, SharedList, Text, Token,
 };
+pub use sm_policy_text::KeptPolicy;
 pub use value::{Tag, Value};
-pub use why::{What, Why};
+pub use why::{Part, What, Why};

@@ -5,8 +5,39 @@ ghost use Rattle.sm_model.specs.Replies.{shown_value};
 use crate::value::Tag;
 use sm_base::{Bytes, Label, List, Moment, Text, Token};
 
-/// The reply to CancelRotateSecret, CreateSecret, RotateSecret and UpdateSecret: it names the secret, and the version
-/// where there is one.
+/// A replica region of a secret, and how far its replication is (API Reference, ReplicationStatusType).
+#[derive(Drop)]
+pub struct ReplicationStatus {
+    pub region: Text,
+    pub status: Text,
+}
+
+/// The reply to CreateSecret.
+#[derive(Drop)]
+pub struct CreatedSecret {
+    pub arn: Text,
+    pub name: Text,
+    /// None where it has no replica region.
+    pub replication_status: Option<List<ReplicationStatus>>,
+    /// The version that the value has.
+    pub version_id: Option<Token>,
+}
+
+/// The reply to RemoveRegionsFromReplication and ReplicateSecretToRegions.
+#[derive(Drop)]
+pub struct ReplicatedSecret {
+    pub arn: Text,
+    pub replication_status: List<ReplicationStatus>,
+}
+
+/// The reply to StopReplicationToReplica.
+#[derive(Drop)]
+pub struct PromotedSecret {
+    pub arn: Text,
+}
+
+/// The reply to CancelRotateSecret, RotateSecret and UpdateSecret: it names the secret, and the version where there is
+/// one.
 #[derive(Drop)]
 pub struct VersionedSecret {
     pub arn: Text,
@@ -80,6 +111,8 @@ pub struct DeletedSecret {
 pub struct RulesShown {
     /// AutomaticallyAfterDays.
     pub days: Option<u32>,
+    /// ScheduleExpression.
+    pub schedule: Option<Text>,
 }
 
 /// A version and the labels on it, in ascending byte order.
@@ -101,6 +134,8 @@ pub struct Described {
     pub last_rotated_date: Option<Moment>,
     pub name: Text,
     pub next_rotation_date: Option<Moment>,
+    /// None where it has no replica region.
+    pub replication_status: Option<List<ReplicationStatus>>,
     pub rotation_enabled: bool,
     pub rotation_lambda_arn: Option<Text>,
     pub rotation_rules: Option<RulesShown>,
@@ -122,6 +157,7 @@ impl Drop for Described {
             last_rotated_date: _,
             name: _,
             next_rotation_date: _,
+            replication_status: _,
             rotation_enabled: _,
             rotation_lambda_arn: _,
             rotation_rules: _,
@@ -197,7 +233,7 @@ pub struct PolicyValidation {
 pub enum Reply {
     BatchGetSecretValue(SecretBatch),
     CancelRotateSecret(VersionedSecret),
-    CreateSecret(VersionedSecret),
+    CreateSecret(CreatedSecret),
     DeleteResourcePolicy(NamedSecret),
     DeleteSecret(DeletedSecret),
     DescribeSecret(Described),
@@ -208,8 +244,11 @@ pub enum Reply {
     ListSecrets(SecretPage),
     PutResourcePolicy(NamedSecret),
     PutSecretValue(PutValue),
+    RemoveRegionsFromReplication(ReplicatedSecret),
+    ReplicateSecretToRegions(ReplicatedSecret),
     RestoreSecret(NamedSecret),
     RotateSecret(VersionedSecret),
+    StopReplicationToReplica(PromotedSecret),
     TagResource,
     UntagResource,
     UpdateSecret(VersionedSecret),
@@ -246,8 +285,11 @@ impl Drop for Reply {
             | Reply::ListSecrets(_)
             | Reply::PutResourcePolicy(_)
             | Reply::PutSecretValue(_)
+            | Reply::RemoveRegionsFromReplication(_)
+            | Reply::ReplicateSecretToRegions(_)
             | Reply::RestoreSecret(_)
             | Reply::RotateSecret(_)
+            | Reply::StopReplicationToReplica(_)
             | Reply::TagResource
             | Reply::UntagResource
             | Reply::UpdateSecret(_)

@@ -1,7 +1,8 @@
 //! Copies of replies.
 use crate::reply::{
-    BatchError, DeletedSecret, Described, GotSecret, NamedSecret, PolicyOfSecret, PolicyValidation,
-    PutValue, RandomPassword, Reply, RulesShown, SecretBatch, SecretPage, Staged, ValidationError,
+    BatchError, CreatedSecret, DeletedSecret, Described, GotSecret, NamedSecret, PolicyOfSecret,
+    PolicyValidation, PromotedSecret, PutValue, RandomPassword, ReplicatedSecret,
+    ReplicationStatus, Reply, RulesShown, SecretBatch, SecretPage, Staged, ValidationError,
     VersionItem, VersionPage, VersionedSecret,
 };
 use sm_base::{Copied, NoMemory, copy_three, copy_two};
@@ -14,6 +15,49 @@ impl Copied for VersionedSecret {
             arn,
             name,
             version_id,
+        })
+    }
+}
+
+impl Copied for ReplicationStatus {
+    fn copy(&self, alloc: Global) -> Result<ReplicationStatus, NoMemory> {
+        Ok(ReplicationStatus {
+            region: self.region.copy(alloc)?,
+            status: self.status.copy(alloc)?,
+        })
+    }
+}
+
+impl Copied for CreatedSecret {
+    fn copy(&self, alloc: Global) -> Result<CreatedSecret, NoMemory> {
+        let (arn, name) = copy_two(alloc, &self.arn, &self.name)?;
+        let (replication_status, version_id) = copy_two(
+            alloc,
+            &self.replication_status,
+            &self.version_id,
+        )?;
+        Ok(CreatedSecret {
+            arn,
+            name,
+            replication_status,
+            version_id,
+        })
+    }
+}
+
+impl Copied for ReplicatedSecret {
+    fn copy(&self, alloc: Global) -> Result<ReplicatedSecret, NoMemory> {
+        Ok(ReplicatedSecret {
+            arn: self.arn.copy(alloc)?,
+            replication_status: self.replication_status.copy(alloc)?,
+        })
+    }
+}
+
+impl Copied for PromotedSecret {
+    fn copy(&self, alloc: Global) -> Result<PromotedSecret, NoMemory> {
+        Ok(PromotedSecret {
+            arn: self.arn.copy(alloc)?,
         })
     }
 }
@@ -96,8 +140,11 @@ impl Copied for DeletedSecret {
 }
 
 impl Copied for RulesShown {
-    fn copy(&self, _alloc: Global) -> Result<RulesShown, NoMemory> {
-        Ok(RulesShown { days: self.days })
+    fn copy(&self, alloc: Global) -> Result<RulesShown, NoMemory> {
+        Ok(RulesShown {
+            days: self.days,
+            schedule: self.schedule.copy(alloc)?,
+        })
     }
 }
 
@@ -124,8 +171,9 @@ impl Copied for Described {
             &self.rotation_lambda_arn,
             &self.rotation_rules,
         )?;
-        let (tags, version_ids_to_stages) = copy_two(
+        let (replication_status, tags, version_ids_to_stages) = copy_three(
             alloc,
+            &self.replication_status,
             &self.tags,
             &self.version_ids_to_stages,
         )?;
@@ -139,6 +187,7 @@ impl Copied for Described {
             last_rotated_date: self.last_rotated_date,
             name,
             next_rotation_date: self.next_rotation_date,
+            replication_status,
             rotation_enabled: self.rotation_enabled,
             rotation_lambda_arn,
             rotation_rules,
@@ -255,8 +304,17 @@ impl Copied for Reply {
             Reply::ListSecrets(reply) => Ok(Reply::ListSecrets(reply.copy(alloc)?)),
             Reply::PutResourcePolicy(reply) => Ok(Reply::PutResourcePolicy(reply.copy(alloc)?)),
             Reply::PutSecretValue(reply) => Ok(Reply::PutSecretValue(reply.copy(alloc)?)),
+            Reply::RemoveRegionsFromReplication(reply) => Ok(Reply::RemoveRegionsFromReplication(
+                reply.copy(alloc)?,
+            )),
+            Reply::ReplicateSecretToRegions(reply) => Ok(Reply::ReplicateSecretToRegions(reply.copy(
+                alloc,
+            )?)),
             Reply::RestoreSecret(reply) => Ok(Reply::RestoreSecret(reply.copy(alloc)?)),
             Reply::RotateSecret(reply) => Ok(Reply::RotateSecret(reply.copy(alloc)?)),
+            Reply::StopReplicationToReplica(reply) => Ok(Reply::StopReplicationToReplica(reply.copy(
+                alloc,
+            )?)),
             Reply::TagResource => Ok(Reply::TagResource),
             Reply::UntagResource => Ok(Reply::UntagResource),
             Reply::UpdateSecret(reply) => Ok(Reply::UpdateSecret(reply.copy(alloc)?)),

@@ -4,8 +4,8 @@
 ghost use Rattle.std.specs.Prelude.{◌≡◌};
 ghost use Rattle.sm_model.specs.Needed.{needed, token_bytes, bytes_of_length, password_bytes};
 
-use crate::limits::{PASSWORD_LENGTH, PASSWORD_LIMIT};
 use crate::value::Tag;
+use sm_base::limits::{PASSWORD_LENGTH, PASSWORD_LIMIT};
 use sm_base::{Bytes, List, Text};
 
 /// A filter of BatchGetSecretValue and ListSecrets (AWS Secrets Manager API Reference, Filter).
@@ -20,13 +20,23 @@ pub struct Filter {
 pub struct Rules {
     /// AutomaticallyAfterDays.
     pub days: Option<i64>,
+    /// ScheduleExpression.
+    pub schedule: Option<Text>,
 }
 
 /// The request of an operation that names a secret and nothing else: CancelRotateSecret, DeleteResourcePolicy,
 /// DescribeSecret,
-/// GetResourcePolicy and RestoreSecret.
+/// GetResourcePolicy, RestoreSecret and StopReplicationToReplica.
 #[derive(Drop)]
 pub struct OfSecret {
+    pub secret_id: Text,
+}
+
+/// The request of an operation that names a secret and regions: RemoveRegionsFromReplication and
+/// ReplicateSecretToRegions.
+#[derive(Drop)]
+pub struct RegionsOfSecret {
+    pub regions: List<Text>,
     pub secret_id: Text,
 }
 
@@ -42,6 +52,8 @@ pub struct BatchGetSecretValue {
 /// CreateSecret (AWS Secrets Manager API Reference, CreateSecret).
 #[derive(Drop)]
 pub struct CreateSecret {
+    /// The regions of AddReplicaRegions.
+    pub regions: List<Text>,
     pub client_request_token: Option<Text>,
     pub description: Option<Text>,
     pub kms_key_id: Option<Text>,
@@ -186,8 +198,11 @@ pub enum Request {
     ListSecrets(ListSecrets),
     PutResourcePolicy(PutResourcePolicy),
     PutSecretValue(PutSecretValue),
+    RemoveRegionsFromReplication(RegionsOfSecret),
+    ReplicateSecretToRegions(RegionsOfSecret),
     RestoreSecret(OfSecret),
     RotateSecret(RotateSecret),
+    StopReplicationToReplica(OfSecret),
     TagResource(TagResource),
     UntagResource(UntagResource),
     UpdateSecret(UpdateSecret),
@@ -212,8 +227,11 @@ impl Drop for Request {
             | Request::ListSecrets(_)
             | Request::PutResourcePolicy(_)
             | Request::PutSecretValue(_)
+            | Request::RemoveRegionsFromReplication(_)
+            | Request::ReplicateSecretToRegions(_)
             | Request::RestoreSecret(_)
             | Request::RotateSecret(_)
+            | Request::StopReplicationToReplica(_)
             | Request::TagResource(_)
             | Request::UntagResource(_)
             | Request::UpdateSecret(_)
@@ -245,7 +263,10 @@ pub fn need(request: &Request) -> usize
         | Request::ListSecretVersionIds(_)
         | Request::ListSecrets(_)
         | Request::PutResourcePolicy(_)
+        | Request::RemoveRegionsFromReplication(_)
+        | Request::ReplicateSecretToRegions(_)
         | Request::RestoreSecret(_)
+        | Request::StopReplicationToReplica(_)
         | Request::TagResource(_)
         | Request::UntagResource(_)
         | Request::UpdateSecretVersionStage(_)

@@ -1,9 +1,9 @@
 //! Copies of requests.
 use crate::request::{
     BatchGetSecretValue, CreateSecret, DeleteSecret, Filter, GetRandomPassword, GetSecretValue,
-    ListSecretVersionIds, ListSecrets, OfSecret, PutResourcePolicy, PutSecretValue, Request,
-    RotateSecret, Rules, TagResource, UntagResource, UpdateSecret, UpdateSecretVersionStage,
-    ValidateResourcePolicy,
+    ListSecretVersionIds, ListSecrets, OfSecret, PutResourcePolicy, PutSecretValue,
+    RegionsOfSecret, Request, RotateSecret, Rules, TagResource, UntagResource, UpdateSecret,
+    UpdateSecretVersionStage, ValidateResourcePolicy,
 };
 use sm_base::{Copied, NoMemory, copy_three, copy_two};
 use std::alloc::Global;
@@ -18,14 +18,26 @@ impl Copied for Filter {
 }
 
 impl Copied for Rules {
-    fn copy(&self, _alloc: Global) -> Result<Rules, NoMemory> {
-        Ok(Rules { days: self.days })
+    fn copy(&self, alloc: Global) -> Result<Rules, NoMemory> {
+        Ok(Rules {
+            days: self.days,
+            schedule: self.schedule.copy(alloc)?,
+        })
     }
 }
 
 impl Copied for OfSecret {
     fn copy(&self, alloc: Global) -> Result<OfSecret, NoMemory> {
         Ok(OfSecret {
+            secret_id: self.secret_id.copy(alloc)?,
+        })
+    }
+}
+
+impl Copied for RegionsOfSecret {
+    fn copy(&self, alloc: Global) -> Result<RegionsOfSecret, NoMemory> {
+        Ok(RegionsOfSecret {
+            regions: self.regions.copy(alloc)?,
             secret_id: self.secret_id.copy(alloc)?,
         })
     }
@@ -56,9 +68,15 @@ impl Copied for CreateSecret {
             &self.description,
             &self.kms_key_id,
         )?;
-        let (name, secret_binary) = copy_two(alloc, &self.name, &self.secret_binary)?;
+        let (regions, name, secret_binary) = copy_three(
+            alloc,
+            &self.regions,
+            &self.name,
+            &self.secret_binary,
+        )?;
         let (secret_string, tags) = copy_two(alloc, &self.secret_string, &self.tags)?;
         Ok(CreateSecret {
+            regions,
             client_request_token,
             description,
             kms_key_id,
@@ -290,8 +308,17 @@ impl Copied for Request {
                 alloc,
             )?)),
             Request::PutSecretValue(request) => Ok(Request::PutSecretValue(request.copy(alloc)?)),
+            Request::RemoveRegionsFromReplication(request) => Ok(
+                Request::RemoveRegionsFromReplication(request.copy(alloc)?),
+            ),
+            Request::ReplicateSecretToRegions(request) => Ok(Request::ReplicateSecretToRegions(
+                request.copy(alloc)?,
+            )),
             Request::RestoreSecret(request) => Ok(Request::RestoreSecret(request.copy(alloc)?)),
             Request::RotateSecret(request) => Ok(Request::RotateSecret(request.copy(alloc)?)),
+            Request::StopReplicationToReplica(request) => Ok(Request::StopReplicationToReplica(
+                request.copy(alloc)?,
+            )),
             Request::TagResource(request) => Ok(Request::TagResource(request.copy(alloc)?)),
             Request::UntagResource(request) => Ok(Request::UntagResource(request.copy(alloc)?)),
             Request::UpdateSecret(request) => Ok(Request::UpdateSecret(request.copy(alloc)?)),

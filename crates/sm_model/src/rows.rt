@@ -6,6 +6,7 @@ use sm_base::{
     Arn, Copied, Keyed, Label, List, Moment, Name, NoMemory, SharedList, Text, Token, copy_three,
     copy_two,
 };
+use sm_policy_text::KeptPolicy;
 use std::alloc::Global;
 
 /// A version of a secret. Its id is the token of the call that made it.
@@ -69,6 +70,8 @@ pub struct Rotation {
     pub enabled: bool,
     pub lambda: Option<Text>,
     pub days: Option<u32>,
+    /// The schedule expression by which it is rotated.
+    pub schedule: Option<Text>,
     pub next: Option<Moment>,
     pub last: Option<Moment>,
 }
@@ -93,7 +96,10 @@ pub struct SecretRow {
     /// From when on the secret is gone, where its deletion is scheduled.
     pub deletion: Option<Moment>,
     pub rotation: Rotation,
-    pub policy: Option<Text>,
+    /// The resource policy, which was read when it was put.
+    pub policy: Option<KeptPolicy>,
+    /// The replica regions, in order of adding.
+    pub regions: List<Text>,
     pub job: Option<Job>,
 }
 
@@ -115,6 +121,7 @@ impl Drop for SecretRow {
             deletion: _,
             rotation: _,
             policy: _,
+            regions: _,
             job: _,
         } = self;
     }
@@ -177,6 +184,7 @@ impl Copied for Rotation {
             enabled: self.enabled,
             lambda: self.lambda.copy(alloc)?,
             days: self.days,
+            schedule: self.schedule.copy(alloc)?,
             next: self.next,
             last: self.last,
         })
@@ -188,7 +196,7 @@ impl Copied for SecretRow {
         let (arn, name, description) = copy_three(alloc, &self.arn, &self.name, &self.description)?;
         let (kms, tags, versions) = copy_three(alloc, &self.kms, &self.tags, &self.versions)?;
         let (labels, rotation) = copy_two(alloc, &self.labels, &self.rotation)?;
-        let (policy, job) = copy_two(alloc, &self.policy, &self.job)?;
+        let (policy, regions, job) = copy_three(alloc, &self.policy, &self.regions, &self.job)?;
         Ok(SecretRow {
             serial: self.serial,
             arn,
@@ -204,6 +212,7 @@ impl Copied for SecretRow {
             deletion: self.deletion,
             rotation,
             policy,
+            regions,
             job,
         })
     }

@@ -11,6 +11,16 @@ pub enum What {
     Tags,
     Entries,
     JournalBytes,
+    Regions,
+}
+
+/// A part of a request's signature (AWS Signature Version 4 for API requests).
+#[derive(Clone, Copy, Debug, PartialEq, Eq)]
+pub enum Part {
+    Authorization,
+    SignedHeaders,
+    Date,
+    Signature,
 }
 
 /// The cause of a refusal.
@@ -32,6 +42,10 @@ pub enum Why {
     /// AWSPENDING is held by this version, which is not the current one.
     Pending(Token),
     NoCurrent,
+    /// The secret is its account's own, and no replica.
+    NotReplica,
+    /// The account is a replica, which answers reads alone.
+    ReadOnly,
     NoSecret,
     NoVersion,
     /// No version of the secret has this id.
@@ -54,6 +68,8 @@ pub enum Why {
     NoCredential,
     /// No person has this key.
     UnknownKey(Text),
+    /// This part of the request's signature is wrong.
+    BadSignature(Part),
     UnknownOperation,
     NotJson,
     /// The member is missing or of another type.
@@ -63,8 +79,6 @@ pub enum Why {
     DiskFault,
     RandomFault,
     Memory,
-    /// The request names something that is not built yet.
-    NotBuilt,
 }
 
 /// Who lets a cause go makes one call.
@@ -80,6 +94,8 @@ impl Drop for Why {
             | Why::Differ
             | Why::Pending(_)
             | Why::NoCurrent
+            | Why::NotReplica
+            | Why::ReadOnly
             | Why::NoSecret
             | Why::NoVersion
             | Why::NotThere(_)
@@ -93,14 +109,14 @@ impl Drop for Why {
             | Why::Denied(_)
             | Why::NoCredential
             | Why::UnknownKey(_)
+            | Why::BadSignature(_)
             | Why::UnknownOperation
             | Why::NotJson
             | Why::BadMember(_)
             | Why::Http(_)
             | Why::DiskFault
             | Why::RandomFault
-            | Why::Memory
-            | Why::NotBuilt => {}
+            | Why::Memory => {}
         }
     }
 }
@@ -117,6 +133,8 @@ impl Copied for Why {
             Why::Differ => Ok(Why::Differ),
             Why::Pending(id) => Ok(Why::Pending(id.copy(alloc)?)),
             Why::NoCurrent => Ok(Why::NoCurrent),
+            Why::NotReplica => Ok(Why::NotReplica),
+            Why::ReadOnly => Ok(Why::ReadOnly),
             Why::NoSecret => Ok(Why::NoSecret),
             Why::NoVersion => Ok(Why::NoVersion),
             Why::NotThere(id) => Ok(Why::NotThere(id.copy(alloc)?)),
@@ -132,6 +150,7 @@ impl Copied for Why {
             Why::Denied(statement) => Ok(Why::Denied(*statement)),
             Why::NoCredential => Ok(Why::NoCredential),
             Why::UnknownKey(key) => Ok(Why::UnknownKey(key.copy(alloc)?)),
+            Why::BadSignature(part) => Ok(Why::BadSignature(*part)),
             Why::UnknownOperation => Ok(Why::UnknownOperation),
             Why::NotJson => Ok(Why::NotJson),
             Why::BadMember(member) => Ok(Why::BadMember(member.copy(alloc)?)),
@@ -139,7 +158,6 @@ impl Copied for Why {
             Why::DiskFault => Ok(Why::DiskFault),
             Why::RandomFault => Ok(Why::RandomFault),
             Why::Memory => Ok(Why::Memory),
-            Why::NotBuilt => Ok(Why::NotBuilt),
         }
     }
 }

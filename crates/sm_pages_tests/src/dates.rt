@@ -20,6 +20,7 @@ fn kept(days: Option<u32>) -> Rotation {
         enabled: true,
         lambda: None,
         days,
+        schedule: None,
         next: None,
         last: None,
     }

@@ -161,10 +161,12 @@ pub fn row(alloc: Global, given: &Row) -> Result<SecretRow, ReadRefused> {
             enabled: false,
             lambda: None,
             days: None,
+            schedule: None,
             next: None,
             last: None,
         },
         policy: None,
+        regions: List::empty(alloc),
         job: None,
     })
 }

@@ -2,7 +2,7 @@
 -- AWS Secrets Manager API Reference, GetRandomPassword (PasswordLength, RequireEachIncludedType).
 use Rattle.std.specs.Prelude.{ℕ, zero, suc, ◌+◌, ◌*◌, ◌%◌, Bool, not, ◌&&◌, ◌==◌, nat_le, nat_lt, if◌then◌else◌, IsTrue, List, [], length, slice_index, slice_index_or, Result, Ok, Err, Option, Some, None}
 use Rattle.std.specs.List.{All, Any, concat, insert}
-use Rattle.sm_model.specs.declared.limits.TheConstants.{PASSWORD_LIMIT}
+use Rattle.sm_base.specs.declared.limits.TheConstants.{PASSWORD_LIMIT}
 use Rattle.sm_password.specs.declared.ask.PasswordAsk.{PasswordAsk}
 use Rattle.sm_password.specs.declared.ask.PasswordRefused.{PasswordRefused}
 use Rattle.sm_password.specs.declared.ask.PasswordRefused.TheVariants.{Length, Empty, TooShort, Memory}

@@ -6,8 +6,8 @@ ghost use Rattle.sm_password.specs.Passwords.{word, draft_character, inserted, p
 
 use crate::alphabet::{Alphabet, alphabet_of};
 use crate::ask::{PasswordAsk, PasswordRefused};
+use sm_base::limits::PASSWORD_LIMIT;
 use sm_base::{NoMemory, Text};
-use sm_model::limits::PASSWORD_LIMIT;
 use std::alloc::Global;
 
 /// Word k of the drawn bytes, big end first.

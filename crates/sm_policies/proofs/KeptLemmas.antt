@@ -8,7 +8,7 @@ use Rattle.sm_model.specs.declared.rows.Job.{Job}
 use Rattle.sm_model.specs.declared.rows.Rows.{Rows}
 use Rattle.sm_model.specs.declared.rows.SecretRow.{SecretRow}
 use Rattle.sm_model.specs.Bounds.{fits, is_date}
-use Rattle.sm_policy.specs.Documents.{is_resource_policy}
+use Rattle.sm_policy_text.specs.Documents.{is_resource_policy}
 use Rattle.sm_versions.specs.Kept.{JobFits}
 use Rattle.sm_versions.specs.Sound.{UnsettledSound}
 use Rattle.sm_table.specs.Found.{found}

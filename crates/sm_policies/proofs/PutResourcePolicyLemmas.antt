@@ -8,7 +8,7 @@ use Rattle.sm_model.specs.declared.rows.Rows.{Rows}
 use Rattle.sm_model.specs.declared.rows.SecretRow.{SecretRow}
 use Rattle.sm_model.specs.declared.why.Why.TheVariants.{Public}
 use Rattle.sm_model.specs.Bounds.{is_date}
-use Rattle.sm_policy.specs.Documents.{is_resource_policy}
+use Rattle.sm_policy_text.specs.Documents.{is_resource_policy}
 use Rattle.sm_table.specs.Sweep.{sweep}
 use Rattle.sm_table.specs.Found.{found}
 use Rattle.sm_table.specs.Sound.{Sound}

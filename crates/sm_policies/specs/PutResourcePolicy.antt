@@ -1,6 +1,7 @@
 -- PutResourcePolicy: its tests on the rows, its reply, what it changes.
 -- AWS Secrets Manager API Reference, PutResourcePolicy (BlockPublicPolicy, PublicPolicyException).
-use Rattle.std.specs.Prelude.{ℕ, if◌then◌else◌, List, Option, Some, None, option_map, Result, Ok, Err}
+use Rattle.std.specs.Prelude.{ℕ, if◌then◌else◌, List, Option, Some, None, option_map}
+use Rattle.std.specs.Result.{result_ok}
 use Rattle.sm_base.specs.declared.moment.Moment.{Moment}
 use Rattle.sm_base.specs.SecretId.{secret_id}
 use Rattle.sm_model.specs.declared.entry.Change.TheVariants as changes
@@ -10,9 +11,9 @@ use Rattle.sm_model.specs.declared.rows.Rows.{Rows}
 use Rattle.sm_model.specs.declared.rows.SecretRow.{SecretRow}
 use Rattle.sm_model.specs.declared.why.Why.{Why}
 use Rattle.sm_model.specs.declared.why.Why.TheVariants.{Public}
-use Rattle.sm_policy.specs.declared.policy.Policy.{Policy}
+use Rattle.sm_policy_text.specs.declared.policy.Policy.{Policy}
 use Rattle.sm_policy.specs.Decisions.{public_number}
-use Rattle.sm_policy.specs.Documents.{Flaw, policy_of}
+use Rattle.sm_policy_text.specs.Documents.{policy_of}
 use Rattle.sm_table.specs.Found.{found}
 use Rattle.sm_judging.specs.declared.judged.Judged.{Judged}
 use Rattle.sm_judging.specs.declared.judged.Judged.TheVariants.{Accept, Refuse}
@@ -24,12 +25,12 @@ use Rattle.sm_policies.specs.Kept.{named, with_policy}
 -- ---- public statements
 
 -- the number of the first public statement; a text that is no policy, which the forms leave none, has none
-abbrev pub public_in : Result Policy Flaw → Option ℕ
-public_in (Ok policy) = public_number policy
-public_in (Err flaw) = None
+abbrev pub public_in : Option Policy → Option ℕ
+public_in None = None
+public_in (Some policy) = public_number policy
 
 abbrev pub public_statement : List ℕ → Option ℕ
-public_statement text = public_in (policy_of text)
+public_statement text = public_in (result_ok (policy_of text))
 
 -- where public statements are not wanted
 abbrev pub blocked : PutResourcePolicy → Option ℕ

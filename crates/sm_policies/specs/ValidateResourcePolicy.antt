@@ -13,9 +13,9 @@ use Rattle.sm_model.specs.declared.rows.SecretRow.{SecretRow}
 use Rattle.sm_model.specs.declared.why.Why.{Why}
 use Rattle.sm_model.specs.declared.why.Why.TheVariants.{Malformed, NoSecret, Public}
 use Rattle.sm_model.specs.Causes.{message_of}
-use Rattle.sm_policy.specs.declared.policy.Policy.{Policy}
+use Rattle.sm_policy_text.specs.declared.policy.Policy.{Policy}
 use Rattle.sm_policy.specs.Decisions.{public_number}
-use Rattle.sm_policy.specs.Documents.{Flaw, policy_of}
+use Rattle.sm_policy_text.specs.Documents.{Flaw, policy_of}
 use Rattle.sm_table.specs.Found.{found}
 use Rattle.sm_judging.specs.declared.judged.Judged.{Judged}
 use Rattle.sm_judging.specs.declared.judged.Judged.TheVariants.{Accept, Refuse}

@@ -3,10 +3,12 @@ ghost use Rattle.std.specs.Prelude.{◌≡◌, IfOk, None};
 ghost use Rattle.sm_forms.specs.OfSecret.{of_secret_forms};
 ghost use Rattle.sm_policies.specs.GetResourcePolicy.{policy_shown, get_policy_on, get_policy_judgement};
 
-use sm_base::copy_three;
+use sm_base::copy_two;
 use sm_judging::Judged;
 use sm_judging::members::secret_id;
-use sm_model::{Moment, NoMemory, OfSecret, PolicyOfSecret, Reply, SecretRow, Why};
+use sm_model::{
+    Copied, KeptPolicy, Moment, NoMemory, OfSecret, PolicyOfSecret, Reply, SecretRow, Text, Why,
+};
 use sm_table::Table;
 use std::alloc::Global;
 
@@ -40,15 +42,20 @@ fn get_policy_on(alloc: Global, row: &SecretRow) -> Result<Judged, NoMemory>
 fn policy_shown(alloc: Global, row: &SecretRow) -> Result<PolicyOfSecret, NoMemory>
     ensures { IfOk result (λ reply. reply ≡ policy_shown row.now) }
 {
-    let (arn, name, resource_policy) = copy_three(
-        alloc,
-        row.arn.as_text(),
-        row.name.as_text(),
-        &row.policy,
-    )?;
+    let (arn, name) = copy_two(alloc, row.arn.as_text(), row.name.as_text())?;
     Ok(PolicyOfSecret {
         arn,
         name,
-        resource_policy,
+        resource_policy: text_of(alloc, &row.policy)?,
     })
+}
+
+/// The text of a policy, where there is one.
+fn text_of(alloc: Global, policy: &Option<KeptPolicy>) -> Result<Option<Text>, NoMemory>
+    ensures { IfOk result (λ text. text ≡ policy.now) }
+{
+    match policy {
+        Some(policy) => Ok(Some(policy.text().copy(alloc)?)),
+        None => Ok(None),
+    }
 }

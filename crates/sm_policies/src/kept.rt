@@ -5,7 +5,7 @@ ghost use Rattle.sm_policies.specs.Kept.{named, with_policy};
 
 use sm_base::copy_two;
 use sm_judging::row_change::finish;
-use sm_model::{Copied, Moment, NamedSecret, NoMemory, SecretRow, Text};
+use sm_model::{Copied, KeptPolicy, Moment, NamedSecret, NoMemory, SecretRow};
 use std::alloc::Global;
 
 /// A copy of the row that keeps this policy, or none.
@@ -13,7 +13,7 @@ pub(crate) fn keep(
     alloc: Global,
     row: &SecretRow,
     moment: Moment,
-    policy: Option<Text>,
+    policy: Option<KeptPolicy>,
 ) -> Result<SecretRow, NoMemory>
     ensures { IfOk result (λ after. after ≡ finished_row (with_policy policy row.now) moment) }
 {

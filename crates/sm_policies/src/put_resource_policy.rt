@@ -1,5 +1,5 @@
 //! Judging PutResourcePolicy (AWS Secrets Manager API Reference, PutResourcePolicy).
-ghost use Rattle.std.specs.Prelude.{◌≡◌, IfOk, None};
+ghost use Rattle.std.specs.Prelude.{◌≡◌, IfOk, None, Some};
 ghost use Rattle.sm_forms.specs.PutResourcePolicy.{put_policy_forms};
 ghost use Rattle.sm_judging.specs.Secrets.{unless_scheduled};
 ghost use Rattle.sm_policies.specs.PutResourcePolicy.{public_statement, blocked, put_policy_kept, put_policy_on, put_policy_judgement};
@@ -7,8 +7,10 @@ ghost use Rattle.sm_policies.specs.PutResourcePolicy.{public_statement, blocked,
 use crate::kept::{keep, named};
 use sm_judging::Judged;
 use sm_judging::members::secret_id;
-use sm_model::{Change, Copied, Moment, NoMemory, PutResourcePolicy, Reply, SecretRow, Text, Why};
-use sm_policy::{Policy, PolicyRefused};
+use sm_model::{
+    Change, Copied, KeptPolicy, Moment, NoMemory, PutResourcePolicy, Reply, SecretRow, Why,
+};
+use sm_policy::is_public;
 use sm_table::Table;
 use std::alloc::Global;
 
@@ -55,45 +57,45 @@ fn put_policy_on(
 ) -> Result<Judged, NoMemory>
     ensures { IfOk result (λ judged. judged ≡ put_policy_on row.now moment put.now) }
 {
-    match blocked(alloc, put)? {
+    let policy = KeptPolicy::of(alloc, put.resource_policy.copy(alloc)?)?;
+    match blocked(put, &policy) {
         Some(statement) => Ok(Judged::Refuse(Why::Public(statement))),
-        None => put_policy_kept(alloc, row, moment, &put.resource_policy),
+        None => put_policy_kept(alloc, row, moment, policy),
     }
 }
 
 /// The number of the first public statement, where public ones are not wanted.
-fn blocked(alloc: Global, put: &PutResourcePolicy) -> Result<Option<u32>, NoMemory>
-    ensures { IfOk result (λ statement. statement ≡ blocked put.now) }
+fn blocked(put: &PutResourcePolicy, policy: &KeptPolicy) -> Option<u32>
+    requires { policy.now ≡ put.now.resource_policy }
+    ensures { result ≡ blocked put.now }
 {
     if put.block_public_policy {
-        public_statement(alloc, &put.resource_policy)
+        public_statement(policy)
     } else {
-        Ok(None)
+        None
     }
 }
 
 /// The number of the first public statement of a text. One that is no policy, which the forms leave none, has none.
-fn public_statement(alloc: Global, text: &Text) -> Result<Option<u32>, NoMemory>
-    ensures { IfOk result (λ statement. statement ≡ public_statement text.now) }
+fn public_statement(policy: &KeptPolicy) -> Option<u32>
+    ensures { result ≡ public_statement policy.now }
 {
-    match Policy::read(alloc, text.as_bytes()) {
-        Ok(policy) => Ok(policy.is_public()),
-        Err(PolicyRefused::Malformed(_, _)) => Ok(None),
-        Err(PolicyRefused::Memory) => Err(NoMemory),
+    match policy.policy() {
+        Some(policy) => is_public(policy),
+        None => None,
     }
 }
 
-/// Gives a copy of the row the policy, as it was given.
+/// Gives a copy of the row the policy, as it was given and read.
 fn put_policy_kept(
     alloc: Global,
     row: &SecretRow,
     moment: Moment,
-    text: &Text,
+    policy: KeptPolicy,
 ) -> Result<Judged, NoMemory>
-    ensures { IfOk result (λ judged. judged ≡ put_policy_kept row.now moment text.now) }
+    ensures { IfOk result (λ judged. judged ≡ put_policy_kept row.now moment policy) }
 {
     let reply = named(alloc, row)?;
-    let policy = text.copy(alloc)?;
     let after = keep(alloc, row, moment, Some(policy))?;
     Ok(Judged::Accept(
         Reply::PutResourcePolicy(reply),

@@ -12,7 +12,8 @@ use sm_model::{
     List, Moment, NoMemory, PolicyValidation, Reply, Text, ValidateResourcePolicy, ValidationError,
     Why,
 };
-use sm_policy::{Policy, PolicyRefused};
+use sm_policy::is_public;
+use sm_policy_text::{Policy, PolicyRefused};
 use sm_table::Table;
 use std::alloc::Global;
 
@@ -89,7 +90,7 @@ fn fault_of(alloc: Global, text: &Text) -> Result<Option<ValidationError>, NoMem
     ensures { IfOk result (λ fault. fault ≡ fault_of text.now) }
 {
     match Policy::read(alloc, text.as_bytes()) {
-        Ok(policy) => public_fault(alloc, policy.is_public()),
+        Ok(policy) => public_fault(alloc, is_public(&policy)),
         Err(PolicyRefused::Malformed(number, member)) => syntax_fault(alloc, number, member),
         Err(PolicyRefused::Memory) => Err(NoMemory),
     }

@@ -1,10 +1,12 @@
 -- Statements, one after the other.
-use Rattle.std.proofs.Common.{◌≡◌, ℕ, ◌+◌, ◌<◌, ◌≤◌, Bool, true, false, cond, List, [], ◌∷◌, ◌++◌, length, drop, get_or, Option, Some, None, refl, ap, sym, ◌∙◌, arith}
+use Rattle.std.proofs.Common.{◌≡◌, ℕ, ◌+◌, ◌<◌, ◌≤◌, Bool, true, false, cond, List, ◌∷◌, length, drop, get_or, Option, Some, None, ap, sym, ◌∙◌}
 use Rattle.std.proofs.lemmas.List.{at_drop_more}
 use Rattle.std.proofs.Math.ListN.{drop_of_length-le}
-use Rattle.sm_policy.specs.declared.policy.Statement.{Statement}
+use Rattle.sm_base.specs.Texts.{same_text}
 use Rattle.sm_model.specs.declared.value.Tag.{Tag}
-use Rattle.sm_policy.specs.Decisions.{same_text, counted, first_number, tag_value}
+use Rattle.sm_policy_text.specs.declared.policy.Statement.{Statement}
+use Rattle.sm_policy_text.specs.Documents.{counted}
+use Rattle.sm_policy.specs.Decisions.{first_number, tag_value}
 
 module _ (test : Statement → Bool) (statements : List Statement) (i : ℕ) (s : Statement) (h : i < length statements)
     (at : s ≡ get_or statements i s) where

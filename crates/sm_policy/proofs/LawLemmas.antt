@@ -1,10 +1,10 @@
 -- The laws of patterns and decisions.
-use Rattle.std.proofs.Common.{◌≡◌, ◌≢◌, ℕ, ◌+◌, ◌==◌, ◌&&◌, ◌||◌, not, cond, Bool, true, false, List, [], ◌∷◌, ◌++◌, Option, Some, None, is_some, ◌⊎◌, inl, inr, refl, ap, sym, ◌∙◌, subst, arith}
+use Rattle.std.proofs.Common.{◌≡◌, ◌≢◌, ℕ, ◌+◌, ◌==◌, ◌&&◌, ◌||◌, not, cond, Bool, true, false, List, [], ◌∷◌, ◌++◌, Option, Some, None, is_some, ◌⊎◌, inl, inr, refl, ap, sym, ◌∙◌, arith}
 use Rattle.std.specs.List.{list_any}
 use Rattle.std.proofs.lemmas.Bool.Decides.{nat_tests}
-use Rattle.sm_policy.specs.declared.policy.Statement.{Statement}
-use Rattle.sm_policy.specs.Patterns.{ManyMatch, OneMatches, SameMatches, Wild, some_end, first_then, is_empty, wild}
-use Rattle.sm_policy.specs.Decisions.{denies, allows, first_number, decided, decision, admitted}
+use Rattle.sm_policy_text.specs.declared.policy.Statement.{Statement}
+use Rattle.sm_policy.specs.Patterns.{Wild, some_end, is_empty, wild}
+use Rattle.sm_policy.specs.Decisions.{denies, allows, first_number, decided}
 use Rattle.sm_policy.specs.Laws.{MatchesAsWild, StarMatchesAll, DenyWins, AllowIsUndenied, DecisionAdmits, is_denial, is_allowance, may_go}
 use Rattle.sm_policy.proofs.MatchLemmas.{one_is, star_is}
 

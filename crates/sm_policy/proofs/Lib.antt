@@ -1,11 +1,7 @@
-pub mod BodyLemmas
 pub mod CharacterLemmas
 pub mod DecisionLemmas
-pub mod ItemLemmas
 pub mod LawLemmas
 pub mod MatchLemmas
-pub mod MemberLemmas
-pub mod StatementLemmas
 pub mod StepLemmas
 pub mod TextLemmas
 pub mod WorkLemmas

@@ -1,13 +1,13 @@
 -- What the matcher knows, and why only the last `*` goes back: if `*`, characters without `*`, and a `*` again match
 -- a text, then the second `*` matches what follows the first place at which those characters match.
-use Rattle.std.proofs.Common.{◌≡◌, ◌≢◌, ℕ, zero, suc, ◌+◌, ◌≤◌, ◌==◌, ◌&&◌, ◌||◌, cond, Bool, true, false, List, [], ◌∷◌, ◌++◌, length, drop, Option, Some, None, refl, ap, sym, ◌∙◌, subst, arith, append_assoc, append-nil}
+use Rattle.std.proofs.Common.{◌≡◌, ◌≢◌, ℕ, zero, suc, ◌≤◌, ◌==◌, ◌&&◌, ◌||◌, cond, Bool, true, false, List, [], ◌∷◌, ◌++◌, length, drop, Option, Some, None, refl, ap, sym, ◌∙◌, arith, append_assoc}
 use Rattle.std.proofs.Math.Seq.{drop-nil}
 use Rattle.std.proofs.lemmas.Bool.Decides.{nat_tests}
 use Rattle.sm_policy.specs.declared.pattern.Case.{Case}
 use Rattle.sm_policy.specs.declared.pattern.Places.{Places}
 use Rattle.sm_policy.specs.Characters.{BeginsAs}
 use Rattle.sm_policy.specs.Steps.{PastStar, PastBoth}
-use Rattle.sm_policy.specs.Patterns.{letters, some_end, first_then, is_empty, wild}
+use Rattle.sm_policy.specs.Patterns.{letters, some_end, first_then, wild}
 
 -- some end behind the first character passes
 abbrev pub later : List ℕ → List ℕ → Bool

@@ -1,11 +1,10 @@
 -- One step of the matcher.
-use Rattle.std.proofs.Common.{◌≡◌, ◌≢◌, ℕ, ◌<◌, ◌==◌, ◌||◌, ◌&&◌, cond, Bool, true, false, List, [], ◌∷◌, length, map, refl, ap, sym, ◌∙◌, subst, arith}
+use Rattle.std.proofs.Common.{◌≡◌, ◌≢◌, ℕ, ◌==◌, ◌||◌, ◌&&◌, Bool, true, false, List, [], ◌∷◌, map, refl, ap, ◌∙◌}
 use Rattle.std.specs.Str.{chars}
-use Rattle.std.proofs.lemmas.Bool.Decides.{nat_tests}
 use Rattle.sm_policy.specs.declared.pattern.Case.{Case}
 use Rattle.sm_policy.specs.declared.pattern.Places.{Places}
 use Rattle.sm_policy.specs.Characters.{Begins, BeginsAs}
-use Rattle.sm_policy.specs.Patterns.{letter, letters, some_end, first_then, is_empty, wild}
+use Rattle.sm_policy.specs.Patterns.{letter, letters, wild}
 use Rattle.sm_policy.specs.Steps.{PastStar, PastBoth}
 use Rattle.sm_policy.proofs.MatchLemmas.{one_is}
 

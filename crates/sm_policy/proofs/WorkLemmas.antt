@@ -1,6 +1,6 @@
 -- The matcher ends: what is left of the text behind the last `*`, times the pattern's length, and what is left of the
 -- pattern.
-use Rattle.std.proofs.Common.{◌≡◌, ℕ, ◌+◌, ◌*◌, ◌<◌, ◌≤◌, Bool, List, length, Option, Some, None, refl, ap, sym, ◌∙◌, subst, arith, mul-le-mul_right, add-mul}
+use Rattle.std.proofs.Common.{◌≡◌, ℕ, ◌+◌, ◌*◌, ◌<◌, ◌≤◌, Bool, List, length, Option, Some, ap, arith, mul-le-mul_right, add-mul}
 use Rattle.sm_policy.specs.declared.pattern.Case.{Case}
 use Rattle.sm_policy.specs.declared.pattern.Places.{Places}
 use Rattle.sm_policy.specs.Characters.{BeginsAs}

@@ -2,26 +2,27 @@
 -- IAM User Guide: "IAM JSON policy elements reference" (Effect, Principal, Action, Resource, Condition), "Policy
 -- evaluation logic" (an explicit deny overrides an allow); AWS Secrets Manager User Guide: "Resource-based policies";
 -- Service Authorization Reference, "Condition keys for AWS Secrets Manager".
-use Rattle.std.specs.Prelude.{ℕ, ◌+◌, ◌-◌, ◌^◌, min, Bool, true, false, not, ◌&&◌, ◌||◌, if◌then◌else◌, List, [], ◌∷◌, ◌++◌, take, drop, codes, nat_eq, chars, Option, Some, None, option_map, is_none}
+use Rattle.std.specs.Prelude.{ℕ, ◌+◌, Bool, true, false, not, ◌&&◌, ◌||◌, if◌then◌else◌, List, [], ◌∷◌, ◌++◌, take, drop, codes, Option, Some, None, option_map}
 use Rattle.std.specs.List.{list_any, list_all}
-use Rattle.std.specs.Cmp.Lexicographic.{pointwise}
+use Rattle.sm_base.specs.Texts.{same_text}
 use Rattle.sm_model.specs.declared.person.Person.{Person}
 use Rattle.sm_model.specs.declared.rows.SecretRow.{SecretRow}
 use Rattle.sm_model.specs.declared.value.Tag.{Tag}
+use Rattle.sm_policy_text.specs.declared.policy.Block.{Block}
+use Rattle.sm_policy_text.specs.declared.policy.Condition.{Condition}
+use Rattle.sm_policy_text.specs.declared.policy.Effect.{Effect}
+use Rattle.sm_policy_text.specs.declared.policy.Effect.TheVariants.{Allow, Deny}
+use Rattle.sm_policy_text.specs.declared.policy.Key.{Key}
+use Rattle.sm_policy_text.specs.declared.policy.Key.TheVariants as keys
+use Rattle.sm_policy_text.specs.declared.policy.Operator.{Operator}
+use Rattle.sm_policy_text.specs.declared.policy.Operator.TheVariants.{StringEquals, StringNotEquals, StringLike}
+use Rattle.sm_policy_text.specs.declared.policy.Pattern.{Pattern}
+use Rattle.sm_policy_text.specs.declared.policy.Policy.{Policy}
+use Rattle.sm_policy_text.specs.declared.policy.Principal.{Principal}
+use Rattle.sm_policy_text.specs.declared.policy.Statement.{Statement}
+use Rattle.sm_policy_text.specs.declared.policy.Test.{Test}
+use Rattle.sm_policy_text.specs.Documents.{counted}
 use Rattle.sm_policy.specs.declared.pattern.Case.TheVariants.{Exact, Folded}
-use Rattle.sm_policy.specs.declared.policy.Block.{Block}
-use Rattle.sm_policy.specs.declared.policy.Condition.{Condition}
-use Rattle.sm_policy.specs.declared.policy.Effect.{Effect}
-use Rattle.sm_policy.specs.declared.policy.Effect.TheVariants.{Allow, Deny}
-use Rattle.sm_policy.specs.declared.policy.Key.{Key}
-use Rattle.sm_policy.specs.declared.policy.Key.TheVariants as keys
-use Rattle.sm_policy.specs.declared.policy.Operator.{Operator}
-use Rattle.sm_policy.specs.declared.policy.Operator.TheVariants.{StringEquals, StringNotEquals, StringLike}
-use Rattle.sm_policy.specs.declared.policy.Pattern.{Pattern}
-use Rattle.sm_policy.specs.declared.policy.Policy.{Policy}
-use Rattle.sm_policy.specs.declared.policy.Principal.{Principal}
-use Rattle.sm_policy.specs.declared.policy.Statement.{Statement}
-use Rattle.sm_policy.specs.declared.policy.Test.{Test}
 use Rattle.sm_policy.specs.declared.question.Decision.{Decision}
 use Rattle.sm_policy.specs.declared.question.Decision.TheVariants as decisions
 use Rattle.sm_policy.specs.declared.question.Question.{Question}
@@ -45,14 +46,6 @@ plain_question question = record {
   version_id = option_map (λ t. t.now) question.version_id;
   version_stage = option_map (λ t. t.now) question.version_stage;
 }
-
--- both texts have the same bytes
-unfoldable pub same_text : List ℕ → List ℕ → Bool
-same_text one other = pointwise nat_eq one other
-
--- the number of the statement at a place; past the last number it stays there
-abbrev pub counted : ℕ → ℕ
-counted place = min (place + 1) (2 ^ 32 - 1)
 
 -- the account in the ARN of a person, arn:aws:iam::<12 digits>:<name>
 abbrev pub account_in : List ℕ → List ℕ

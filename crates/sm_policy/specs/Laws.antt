@@ -2,7 +2,7 @@
 -- IAM User Guide, "Policy evaluation logic": an explicit deny in any policy overrides any allows.
 use Rattle.std.specs.Prelude.{◌≡◌, ◌↔◌, ℕ, Bool, true, false, List, [], ◌∷◌}
 use Rattle.std.specs.List.{list_any}
-use Rattle.sm_policy.specs.declared.policy.Policy.{Policy}
+use Rattle.sm_policy_text.specs.declared.policy.Policy.{Policy}
 use Rattle.sm_policy.specs.declared.question.Decision.{Decision}
 use Rattle.sm_policy.specs.declared.question.Decision.TheVariants.{Allow, Deny, Silent}
 use Rattle.sm_policy.specs.Decisions.{PlainQuestion, denies, allows, decision, admitted}

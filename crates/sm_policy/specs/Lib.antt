@@ -1,10 +1,5 @@
-pub mod Bodies
 pub mod Characters
 pub mod Decisions
-pub mod Documents
-pub mod Kinds
 pub mod Laws
-pub mod Members
 pub mod Patterns
-pub mod Reads
 pub mod Steps

@@ -1,5 +1,5 @@
 -- How the matcher goes on.
-use Rattle.std.specs.Prelude.{◌≡◌, ◌≢◌, ℕ, ◌<◌, true, false, List, ◌∷◌, length, Option, Some, None}
+use Rattle.std.specs.Prelude.{◌≡◌, ◌≢◌, ℕ, ◌<◌, true, false, ◌∷◌, length}
 use Rattle.sm_policy.specs.declared.pattern.Case.{Case}
 use Rattle.sm_policy.specs.declared.pattern.Places.{Places}
 use Rattle.sm_policy.specs.declared.pattern.Step.{Step}

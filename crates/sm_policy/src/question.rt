@@ -1,15 +1,18 @@
 //! Whether a policy allows what is asked (IAM User Guide, "Policy evaluation logic").
 ghost use Rattle.std.specs.Prelude.{◌≡◌, ◌++◌, option_map};
 ghost use Rattle.std.specs.List.{list_any};
-ghost use Rattle.sm_policy.specs.Decisions.{plain_question, same_text, counted, account_in, root_of, is_for, is_like, is_action, tag_value, value_of, equals_one, like_one, test_holds, block_holds, condition_holds, matches, denies, allows, first_number, decision, is_everybody, is_open, public_number};
+ghost use Rattle.sm_base.specs.Texts.{same_text};
+ghost use Rattle.sm_policy.specs.Decisions.{plain_question, account_in, root_of, is_for, is_like, is_action, tag_value, value_of, equals_one, like_one, test_holds, block_holds, condition_holds, matches, denies, allows, first_number, decision, is_everybody, is_open, public_number};
 
 use crate::pattern::{Case, is_match};
-use crate::policy::{
+use sm_base::Text;
+use sm_base::text::same_text;
+use sm_model::{Person, SecretRow, Tag};
+use sm_policy_text::document::counted;
+use sm_policy_text::{
     Block, Condition, Effect, Key, Operator, Pattern, Policy, Principal, Principals, Statement,
     Test,
 };
-use sm_base::Text;
-use sm_model::{Person, SecretRow, Tag};
 
 /// What is asked: may this person do this with this secret?
 #[derive(Clone, Copy)]
@@ -32,24 +35,6 @@ pub enum Decision {
     Deny(u32),
     /// No statement matches.
     Silent,
-}
-
-/// The number of a statement by its place. Past the last number it stays there.
-pub(crate) fn counted(place: usize) -> u32
-    ensures { result ≡ counted place }
-{
-    if place < u32::MAX as usize {
-        place as u32 + 1
-    } else {
-        u32::MAX
-    }
-}
-
-#[tactic(auto, unfolding(crate::specs::Decisions::same_text))]
-pub(crate) fn same_text(one: &[u8], other: &[u8]) -> bool
-    ensures { result ≡ same_text one.now other.now }
-{
-    one == other
 }
 
 /// Whether a principal is everybody, the person's account, or the person with this ARN.
@@ -276,31 +261,29 @@ fn first_allowance(question: &Question<'_>, statements: &[Statement]) -> Option<
     None
 }
 
-impl Policy {
-    /// What the policy says: the first statement that denies, or else the first that allows. It takes no memory.
-    pub fn decide(&self, question: &Question<'_>) -> Decision
-        ensures { result ≡ decision self.now (plain_question question.now) }
-    {
-        let statements = self.statements.as_slice();
-        match first_denial(question, statements) {
-            Some(number) => Decision::Deny(number),
-            None => match first_allowance(question, statements) {
-                Some(number) => Decision::Allow(number),
-                None => Decision::Silent,
-            },
-        }
+/// What the policy says: the first statement that denies, or else the first that allows. It takes no memory.
+pub fn decide(policy: &Policy, question: &Question<'_>) -> Decision
+    ensures { result ≡ decision policy.now (plain_question question.now) }
+{
+    let statements = policy.statements.as_slice();
+    match first_denial(question, statements) {
+        Some(number) => Decision::Deny(number),
+        None => match first_allowance(question, statements) {
+            Some(number) => Decision::Allow(number),
+            None => Decision::Silent,
+        },
     }
+}
 
-    /// The number of the first statement that allows everybody something without a condition. It takes no memory.
-    #[tactic(auto, using(crate::proofs::DecisionLemmas::number_here, crate::proofs::DecisionLemmas::number_later, crate::proofs::DecisionLemmas::number_none))]
-    pub fn is_public(&self) -> Option<u32>
-        ensures { result ≡ public_number self.now }
-    {
-        for (place, statement) in self.statements.as_slice().iter().enumerate() {
-            if is_open(statement) {
-                return Some(counted(place));
-            }
+/// The number of the first statement that allows everybody something without a condition. It takes no memory.
+#[tactic(auto, using(crate::proofs::DecisionLemmas::number_here, crate::proofs::DecisionLemmas::number_later, crate::proofs::DecisionLemmas::number_none))]
+pub fn is_public(policy: &Policy) -> Option<u32>
+    ensures { result ≡ public_number policy.now }
+{
+    for (place, statement) in policy.statements.as_slice().iter().enumerate() {
+        if is_open(statement) {
+            return Some(counted(place));
         }
-        None
     }
+    None
 }

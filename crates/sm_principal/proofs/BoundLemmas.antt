@@ -4,13 +4,16 @@ use Rattle.std.specs.Cmp.Lexicographic.{same_text as texts_same}
 use Rattle.std.specs.List.{list_all, list_any}
 use Rattle.std.proofs.lemmas.Bool.Decides.{nat_tests}
 use Rattle.std.proofs.lemmas.List.Elements.{All-nil, All-push}
+use Rattle.sm_base.specs.PersonArn.{is_person_arn}
 use Rattle.sm_base.specs.Spelling.{is_token_byte}
+use Rattle.sm_base.specs.Texts.{same_text}
+use Rattle.sm_base.specs.declared.limits.TheConstants.{KEY_LIMIT}
 use Rattle.sm_model.specs.declared.person.Person.{Person}
 use Rattle.sm_principal.specs.declared.people.People.{People}
 use Rattle.sm_principal.specs.declared.people.People.TheVariants.{Everybody, Listed}
 use Rattle.sm_principal.specs.Bounds.{HasShortKey, IsShort, AreShort}
 use Rattle.sm_principal.specs.Callers.{Nobody, listed, people_of, root, key_in, person_named, known_or, caller_named, caller_of}
-use Rattle.sm_principal.specs.Lines.{same_text, is_key_byte, is_key, is_person_arn, person_with, person_if, with_kind, with_key, kind_of, parted, person_of, is_skipped, has_key, added, with_line, lines_of, persons_from, persons_of}
+use Rattle.sm_principal.specs.Lines.{is_key_byte, is_key, person_with, person_if, with_kind, with_key, kind_of, parted, person_of, is_skipped, has_key, added, with_line, lines_of, persons_from, persons_of}
 use Rattle.sm_principal.proofs.CallerLemmas.{key_is_key}
 use Rattle.sm_principal.proofs.LineLemmas.{both}
 
@@ -21,9 +24,9 @@ run_short : (low high n : ℕ) (rest : Bool) → ((nat_le low n && nat_le n high
 run_short low high n rest is =
     at_most n high (both (nat_le low n) (nat_le n high) (both (nat_le low n && nat_le n high) rest is).0).1
 
-key_short : (key : List ℕ) → is_key key ≡ true → length key ≤ 128
+key_short : (key : List ℕ) → is_key key ≡ true → length key ≤ KEY_LIMIT
 unfolding is_key
-key_short key is = run_short 1 128 (length key) (list_all is_key_byte key) is
+key_short key is = run_short 1 KEY_LIMIT (length key) (list_all is_key_byte key) is
 
 first_of_four : (a b c d : Bool) → (((a && b) && c) && d) ≡ true → a ≡ true
 first_of_four true b c d h = refl
@@ -134,14 +137,15 @@ known_key key (Some p) person named is =
     let same : p ≡ person = cc in sym (ap (λ (q : Person). q.key) same) ∙ named p refl
 
 named_short : (persons : List Person) (found : Option (List ℕ)) (person : Person)
-    → ((key : List ℕ) → found ≡ Some key → length key ≤ 128) → caller_named persons found ≡ Ok person
+    → ((key : List ℕ) → found ≡ Some key → length key ≤ KEY_LIMIT) → caller_named persons found ≡ Ok person
     → HasShortKey person
 named_short persons None person short is = absurd (cc)
 named_short persons (Some key) person short is =
     let same = known_key key (person_named key persons) person (named_key key persons) is in
-    subst (λ k. length k ≤ 128) (sym same) (short key refl)
+    subst (λ k. length k ≤ KEY_LIMIT) (sym same) (short key refl)
 
-header_short : (header : Option (List ℕ)) (key : List ℕ) → option_and_then key_in header ≡ Some key → length key ≤ 128
+header_short : (header : Option (List ℕ)) (key : List ℕ) → option_and_then key_in header ≡ Some key
+    → length key ≤ KEY_LIMIT
 header_short None key is = absurd (cc)
 header_short (Some text) key is = key_short key (key_is_key text key (sym is))
 
@@ -151,6 +155,7 @@ caller_short Everybody header person is = rooted (Ok root) refl is
   where
     rooted : (found : Result Person Nobody) → found ≡ Ok root → found ≡ Ok person → HasShortKey person
     rooted found one is =
-        let same : root ≡ person = cc in subst HasShortKey same (omega arith)
+        let same : root ≡ person = cc in
+        let short : 0 ≤ KEY_LIMIT = omega arith in subst HasShortKey same short
 caller_short (Listed persons) header person is =
     named_short persons (option_and_then key_in header) person (header_short header) is

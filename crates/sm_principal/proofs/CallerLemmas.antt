@@ -2,8 +2,9 @@
 use Rattle.std.proofs.Common.{◌≡◌, ℕ, ◌+◌, ◌<◌, ◌≤◌, cond, Bool, true, false, List, ◌∷◌, length, drop, get_or, Option, Some, None, option_and_then, refl, ap, sym, ◌∙◌}
 use Rattle.std.proofs.lemmas.List.{at_drop_more, drop_more}
 use Rattle.std.proofs.Math.ListN.{drop_of_length-le}
+use Rattle.sm_base.specs.Texts.{same_text}
 use Rattle.sm_model.specs.declared.person.Person.{Person}
-use Rattle.sm_principal.specs.Lines.{same_text, is_key, parted}
+use Rattle.sm_principal.specs.Lines.{is_key, parted}
 use Rattle.sm_principal.specs.Callers.{begins, after_credential, key_if, key_of, key_in, person_named}
 
 module _ (text : List ℕ) (i : ℕ) (rest : List ℕ) (wanted : Option (List ℕ)) (h : i < length text)

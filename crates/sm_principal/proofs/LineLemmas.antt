@@ -6,8 +6,10 @@ use Rattle.std.proofs.lemmas.Bool.Decides.{nat_tests}
 use Rattle.std.proofs.lemmas.List.{drop_more}
 use Rattle.std.proofs.Math.ListN.{drop_of_length-le}
 use Rattle.std.proofs.lemmas.Str.{IsUtf8-from_ascii, is_utf8-from_IsUtf8}
+use Rattle.sm_base.specs.PersonArn.{is_person_arn}
 use Rattle.sm_base.specs.Spelling.{is_token_byte, is_run}
-use Rattle.sm_principal.specs.Lines.{is_key_byte, is_key, is_person_arn, pushed, parted, onto, lines_of}
+use Rattle.sm_base.specs.declared.limits.TheConstants.{KEY_LIMIT}
+use Rattle.sm_principal.specs.Lines.{is_key_byte, is_key, pushed, parted, onto, lines_of}
 
 -- bytes before both parts
 abbrev pub with_before : List ℕ → Option (List ℕ × List ℕ) → Option (List ℕ × List ℕ)
@@ -89,18 +91,10 @@ token_byte_is_ascii b is = grind (arith, nat_tests)
 pub key_is_text : (text : List ℕ) → is_key text ≡ true → is_utf8 text ≡ true
 unfolding is_key
 key_is_text text is = ascii_is_text is_key_byte key_byte_is_ascii text
-    (both (nat_le 1 (length text) && nat_le (length text) 128) (list_all is_key_byte text) is).1
+    (both (nat_le 1 (length text) && nat_le (length text) KEY_LIMIT) (list_all is_key_byte text) is).1
 
 run_is_all : (text : List ℕ) → is_run is_token_byte 27 154 text ≡ true → list_all is_token_byte text ≡ true
 run_is_all text is = (both (nat_le 27 (length text) && nat_le (length text) 154) (list_all is_token_byte text) is).1
-
-pub long_enough : (text : List ℕ) → is_run is_token_byte 27 154 text ≡ true → 26 ≤ length text
-long_enough text is = least (length text)
-    (both (nat_le 27 (length text)) (nat_le (length text) 154)
-    (both (nat_le 27 (length text) && nat_le (length text) 154) (list_all is_token_byte text) is).0).0
-  where
-    least : (n : ℕ) → nat_le 27 n ≡ true → 26 ≤ n
-    least n h = grind (arith, nat_tests)
 
 first_of_four : (a b c d : Bool) → (((a && b) && c) && d) ≡ true → a ≡ true
 first_of_four true b c d h = refl

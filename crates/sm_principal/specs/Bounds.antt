@@ -1,13 +1,14 @@
 -- How long the texts of persons are.
 use Rattle.std.specs.Prelude.{◌≡◌, ℕ, ◌≤◌, List, length, All, Option, Ok, ⊤}
+use Rattle.sm_base.specs.declared.limits.TheConstants.{KEY_LIMIT}
 use Rattle.sm_model.specs.declared.person.Person.{Person}
 use Rattle.sm_principal.specs.declared.people.People.{People}
 use Rattle.sm_principal.specs.declared.people.People.TheVariants.{Everybody, Listed}
 use Rattle.sm_principal.specs.Callers.{people_of, caller_of}
 
--- the key has at most 128 bytes
+-- the key has at most KEY_LIMIT bytes
 abbrev pub HasShortKey : Person → Type 0
-HasShortKey person = length person.key ≤ 128
+HasShortKey person = length person.key ≤ KEY_LIMIT
 
 -- and the ARN at most 154
 abbrev pub IsShort : Person → Type 0

@@ -2,6 +2,7 @@
 -- IAM User Guide, "Create a signed AWS API request": Credential=<access key id>/<date>/<region>/<service>/aws4_request.
 use Rattle.std.specs.Prelude.{◌≡◌, ℕ, Bool, true, nat_eq, if◌then◌else◌, List, [], ◌∷◌, take, drop, codes, Option, Some, None, option_and_then, Result, Ok, Err, ⊤}
 use Rattle.std.specs.Cmp.Lexicographic.{pointwise}
+use Rattle.sm_base.specs.Texts.{same_text}
 use Rattle.sm_model.specs.declared.person.Person.{Person}
 use Rattle.sm_principal.specs.declared.caller.CallerRefused.{CallerRefused}
 use Rattle.sm_principal.specs.declared.caller.CallerRefused.TheVariants as refused
@@ -9,7 +10,7 @@ use Rattle.sm_principal.specs.declared.people.People.{People}
 use Rattle.sm_principal.specs.declared.people.People.TheVariants.{Everybody, Listed}
 use Rattle.sm_principal.specs.declared.people.PeopleRefused.{PeopleRefused}
 use Rattle.sm_principal.specs.declared.people.PeopleRefused.TheVariants.{BadLine, Memory}
-use Rattle.sm_principal.specs.Lines.{same_text, is_key, person_with, parted, persons_of}
+use Rattle.sm_principal.specs.Lines.{is_key, person_with, parted, persons_of}
 
 -- the people of persons, or the first bad line
 abbrev pub listed : Result (List Person) ℕ → Result People ℕ

@@ -1,15 +1,13 @@
 -- The people text: a line for each person, `<key> full|guest <ARN>`.
 -- This project's own; the ARN is that of IAM User Guide, "IAM identifiers".
-use Rattle.std.specs.Prelude.{ℕ, ◌+◌, Bool, true, false, ◌&&◌, ◌||◌, ◌==◌, nat_eq, if◌then◌else◌, List, [], ◌∷◌, ◌++◌, take, drop, codes, slice_index, Option, Some, None, Result, Ok, Err}
-use Rattle.std.specs.List.{list_any, list_all, starts_with}
-use Rattle.std.specs.Char.{is_ascii_digit, is_ascii_alphanumeric}
-use Rattle.std.specs.Cmp.Lexicographic.{pointwise}
-use Rattle.sm_base.specs.Spelling.{is_token_byte, is_run}
+use Rattle.std.specs.Prelude.{ℕ, ◌+◌, Bool, true, false, ◌&&◌, ◌||◌, ◌==◌, if◌then◌else◌, List, [], ◌∷◌, ◌++◌, codes, Option, Some, None, Result, Ok, Err}
+use Rattle.std.specs.List.{list_any}
+use Rattle.std.specs.Char.{is_ascii_alphanumeric}
+use Rattle.sm_base.specs.PersonArn.{is_person_arn}
+use Rattle.sm_base.specs.Spelling.{is_run}
+use Rattle.sm_base.specs.Texts.{same_text}
+use Rattle.sm_base.specs.declared.limits.TheConstants.{KEY_LIMIT}
 use Rattle.sm_model.specs.declared.person.Person.{Person}
-
--- both texts have the same bytes
-unfoldable pub same_text : List ℕ → List ℕ → Bool
-same_text one other = pointwise nat_eq one other
 
 -- an ASCII letter, a digit or _
 unfoldable pub is_key_byte : ℕ → Bool
@@ -17,14 +15,7 @@ is_key_byte b = is_ascii_alphanumeric b || b == 95
 
 -- a key has 1 to 128 of these
 unfoldable pub is_key : List ℕ → Bool
-is_key text = is_run is_key_byte 1 128 text
-
--- an ARN of a person, arn:aws:iam::<12 digits>:<1 to 128 characters from ! to ~>: what stands before the name are 26
--- characters from ! to ~ too
-unfoldable pub is_person_arn : List ℕ → Bool
-is_person_arn text =
-    is_run is_token_byte 27 154 text && starts_with nat_eq text (codes "arn:aws:iam::")
-    && list_all is_ascii_digit (take 12 (drop 13 text)) && slice_index text 25 == 58
+is_key text = is_run is_key_byte 1 KEY_LIMIT text
 
 -- the text before the first such byte and the text behind it
 abbrev pub pushed : ℕ → Option (List ℕ × List ℕ) → Option (List ℕ × List ℕ)

@@ -4,8 +4,9 @@ ghost use Rattle.sm_base.specs.Outcomes.{OrMemory};
 ghost use Rattle.sm_principal.specs.Callers.{begins, after_credential, key_of, key_in, root, person_named, known_or, caller_named, caller_of, told_caller};
 ghost use Rattle.sm_principal.specs.Lines.{is_key};
 
-use crate::lines::{is_key, parted, same_text};
+use crate::lines::{is_key, parted};
 use crate::people::People;
+use sm_base::text::same_text;
 use sm_base::{Copied, Text};
 use sm_model::Person;
 use std::alloc::Global;

@@ -1,11 +1,13 @@
 //! The people text, line by line.
-ghost use Rattle.std.specs.Prelude.{◌≡◌, ◌≤◌, ◌==◌, ℕ, IsTrue, Some, codes, length, nat_eq, option_map, drop, take, slice_index};
-ghost use Rattle.std.specs.Char.{is_ascii_digit};
-ghost use Rattle.std.specs.List.{list_all, list_any, starts_with};
-ghost use Rattle.sm_base.specs.Spelling.{is_token_byte, is_run};
-ghost use Rattle.sm_principal.specs.Lines.{same_text, is_key_byte, is_key, is_person_arn, parted, kind_of, is_skipped, has_key, person_of, person_if, person_with, with_line};
+ghost use Rattle.std.specs.Prelude.{◌≡◌, ◌==◌, ℕ, IsTrue, Some, option_map};
+ghost use Rattle.std.specs.List.{list_all, list_any};
+ghost use Rattle.sm_base.specs.PersonArn.{is_person_arn};
+ghost use Rattle.sm_principal.specs.Lines.{is_key_byte, is_key, parted, kind_of, is_skipped, has_key, person_of, person_if, person_with, with_line};
 ghost use Rattle.sm_principal.specs.Outcomes.{IsLine, IsAdded};
 
+use sm_base::limits::KEY_LIMIT;
+use sm_base::person_arn::is_person_arn;
+use sm_base::text::same_text;
 use sm_base::{List, Text};
 use sm_model::Person;
 use std::alloc::Global;
@@ -24,13 +26,6 @@ pub(crate) enum Line {
 pub(crate) enum LineRefused {
     Bad,
     Memory,
-}
-
-#[tactic(auto, unfolding(crate::specs::Lines::same_text))]
-pub(crate) fn same_text(one: &[u8], other: &[u8]) -> bool
-    ensures { result ≡ same_text one.now other.now }
-{
-    one == other
 }
 
 /// The text before the first such byte, and the text behind it.
@@ -64,60 +59,7 @@ fn are_key_bytes(text: &[u8]) -> bool
 pub(crate) fn is_key(text: &[u8]) -> bool
     ensures { result ≡ is_key text.now }
 {
-    1 <= text.len() && text.len() <= 128 && are_key_bytes(text)
-}
-
-#[tactic(auto, unfolding(sm_base::specs::Spelling::is_token_byte))]
-fn is_graphic(byte: u8) -> bool
-    ensures { result ≡ is_token_byte byte }
-{
-    (b'!'..=b'~').contains(&byte)
-}
-
-fn are_graphic(text: &[u8]) -> bool
-    ensures { result ≡ list_all is_token_byte text.now }
-{
-    text.iter().all(|byte| is_graphic(*byte))
-}
-
-fn are_digits(text: &[u8]) -> bool
-    ensures { result ≡ list_all is_ascii_digit text.now }
-{
-    text.iter().all(|byte| byte.is_ascii_digit())
-}
-
-fn is_long_enough(text: &[u8]) -> bool
-    ensures { result ≡ is_run is_token_byte 27 154 text.now }
-{
-    27 <= text.len() && text.len() <= 154 && are_graphic(text)
-}
-
-fn starts_as_person(text: &[u8]) -> bool
-    ensures { result ≡ starts_with nat_eq text.now (codes "arn:aws:iam::") }
-{
-    text.starts_with(b"arn:aws:iam::")
-}
-
-fn has_account(text: &[u8]) -> bool
-    requires { 26 ≤ length text.now }
-    ensures { result ≡ list_all is_ascii_digit (take 12 (drop 13 text.now)) }
-{
-    are_digits(&text[13..25])
-}
-
-fn has_colon(text: &[u8]) -> bool
-    requires { 26 ≤ length text.now }
-    ensures { result ≡ (slice_index text.now 25 == 58) }
-{
-    text[25] == b':'
-}
-
-/// Whether the text is an ARN of a person: `arn:aws:iam::<12 digits>:<1 to 128 characters>`.
-#[tactic(auto, unfolding(crate::specs::Lines::is_person_arn), using(crate::proofs::LineLemmas::long_enough))]
-fn is_person_arn(text: &[u8]) -> bool
-    ensures { result ≡ is_person_arn text.now }
-{
-    is_long_enough(text) && starts_as_person(text) && has_account(text) && has_colon(text)
+    1 <= text.len() && text.len() <= KEY_LIMIT && are_key_bytes(text)
 }
 
 #[tactic(auto, unfolding(crate::specs::Lines::kind_of))]

@@ -33,7 +33,7 @@ staged row (version ∷ versions) = with_labels version.id (labels_shown row ver
 -- rotation rules are shown exactly where days are kept
 abbrev pub rules_shown : Option ℕ → Option RulesShown
 rules_shown None = None
-rules_shown (Some days) = Some (record { days = Some days })
+rules_shown (Some days) = Some (record { days = Some days; schedule = None })
 
 abbrev pub described : SecretRow → Described
 described row = record {
@@ -46,6 +46,7 @@ described row = record {
   last_rotated_date = row.rotation.last;
   name = row.name;
   next_rotation_date = row.rotation.next;
+  replication_status = None;
   rotation_enabled = row.rotation.enabled;
   rotation_lambda_arn = row.rotation.lambda;
   rotation_rules = rules_shown row.rotation.days;

@@ -64,6 +64,7 @@ pub fn described(alloc: Global, row: &SecretRow) -> Result<Described, NoMemory>
         last_rotated_date: row.rotation.last,
         name,
         next_rotation_date: row.rotation.next,
+        replication_status: None,
         rotation_enabled: row.rotation.enabled,
         rotation_lambda_arn,
         rotation_rules: rules_shown(row.rotation.days),
@@ -77,7 +78,10 @@ fn rules_shown(days: Option<u32>) -> Option<RulesShown>
     ensures { result ≡ rules_shown days }
 {
     match days {
-        Some(days) => Some(RulesShown { days: Some(days) }),
+        Some(days) => Some(RulesShown {
+            days: Some(days),
+            schedule: None,
+        }),
         None => None,
     }
 }

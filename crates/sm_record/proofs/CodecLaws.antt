@@ -1,7 +1,7 @@
 -- What makes a codec lawful, and the laws of those that are put together of others.
 use Rattle.std.proofs.Common.{◌≡◌, ℕ, ◌+◌, ◌≤◌, ◌&&◌, Bool, cond, IsTrue, is_some, List, [], ◌∷◌, ◌++◌, length, Option, Some, None, Result, refl, sym, ap, subst, ◌∙◌, inl, inr, ◌⊎◌, append_assoc, arith}
 use Rattle.std.proofs.lemmas.Bool.{and_parts, and_from}
-use Rattle.sm_record.specs.Codec.{IsBytes, Codec, then_read, both, mapped, only, read_byte, coded_as, coded, nothing}
+use Rattle.sm_record.specs.Codec.{IsBytes, Codec, then_read, both, chained, mapped, only, read_byte, coded_as, coded, nothing}
 use Rattle.sm_record.proofs.Bytes.{bytes_behind, no_longer, gives, stops, ok_is, err_is, ok_no_err, err_no_ok, bind_ok, bind_err, guard_ok, guard_err}
 
 -- the bytes begin with the spelling of a thing that has one
@@ -19,64 +19,67 @@ pub record Lawful {A : Type 0} (c : Codec A) : Type 0 where
 
 -- ---- one thing behind another
 
-module _ {A B : Type 0} (c : Codec A) (d : Codec B) (l : Lawful c) (m : Lawful d) where
-  both_takes : (bytes : List ℕ) (x : A × B) (rest : List ℕ) → IsBytes bytes
-      → then_read (c.read bytes) (λ a behind. then_read (d.read behind) (λ b after. gives ((a, b), after)))
-      ≡ gives (x, rest) → Begins (both c d) bytes x rest
-  both_takes bytes x rest fits e =
+module _ {A B : Type 0} (c : Codec A) (d : A → Codec B) (l : Lawful c) (m : (a : A) → Lawful (d a)) where
+  chained_takes : (bytes : List ℕ) (x : A × B) (rest : List ℕ) → IsBytes bytes
+      → then_read (c.read bytes) (λ a behind. then_read ((d a).read behind) (λ b after. gives ((a, b), after)))
+      ≡ gives (x, rest) → Begins (chained c d) bytes x rest
+  chained_takes bytes x rest fits e =
       let one = bind_ok (c.read bytes)
-      (λ a behind. then_read (d.read behind) (λ b after. gives ((a, b), after))) (x, rest) e in
-      let two = bind_ok (d.read one.0.1) (λ b after. gives ((one.0.0, b), after)) (x, rest) one.2 in
+      (λ a behind. then_read ((d a).read behind) (λ b after. gives ((a, b), after))) (x, rest) e in
+      let two = bind_ok ((d one.0.0).read one.0.1) (λ b after. gives ((one.0.0, b), after)) (x, rest) one.2 in
       let first : Begins c bytes one.0.0 one.0.1 = l.takes bytes one.0.0 one.0.1 fits one.1 in
       let behind : IsBytes one.0.1 = bytes_behind bytes (c.spell one.0.0) one.0.1 fits first.parts in
-      let second : Begins d one.0.1 two.0.0 two.0.1 = m.takes one.0.1 two.0.0 two.0.1 behind two.1 in
-      let whole : Begins (both c d) bytes (one.0.0, two.0.0) two.0.1 = record {
+      let second : Begins (d one.0.0) one.0.1 two.0.0 two.0.1 =
+      (m one.0.0).takes one.0.1 two.0.0 two.0.1 behind two.1 in
+      let whole : Begins (chained c d) bytes (one.0.0, two.0.0) two.0.1 = record {
         parts = first.parts ∙ ap (λ (t : List ℕ). c.spell one.0.0 ++ t) second.parts
-            ∙ sym (append_assoc (c.spell one.0.0) (d.spell two.0.0) two.0.1);
-        fits = and_from (c.fits one.0.0) (d.fits two.0.0) first.fits second.fits;
+            ∙ sym (append_assoc (c.spell one.0.0) ((d one.0.0).spell two.0.0) two.0.1);
+        fits = and_from (c.fits one.0.0) ((d one.0.0).fits two.0.0) first.fits second.fits;
       } in
-      subst (λ (y : (A × B) × List ℕ). Begins (both c d) bytes y.0 y.1)
+      subst (λ (y : (A × B) × List ℕ). Begins (chained c d) bytes y.0 y.1)
       (ok_is ((one.0.0, two.0.0), two.0.1) (x, rest) two.2) whole
 
-  both_again : (x : A × B) (rest : List ℕ) → IsTrue (c.fits x.0 && d.fits x.1)
-      → (both c d).read ((c.spell x.0 ++ d.spell x.1) ++ rest) ≡ gives (x, rest)
-  both_again x rest fits =
-      let h = and_parts (c.fits x.0) (d.fits x.1) fits in
-      ap (both c d).read (append_assoc (c.spell x.0) (d.spell x.1) rest)
+  chained_again : (x : A × B) (rest : List ℕ) → IsTrue (c.fits x.0 && (d x.0).fits x.1)
+      → (chained c d).read ((c.spell x.0 ++ (d x.0).spell x.1) ++ rest) ≡ gives (x, rest)
+  chained_again x rest fits =
+      let h = and_parts (c.fits x.0) ((d x.0).fits x.1) fits in
+      ap (chained c d).read (append_assoc (c.spell x.0) ((d x.0).spell x.1) rest)
       ∙ ap (λ (r : Result (A × List ℕ) ℕ). then_read r
-      (λ a behind. then_read (d.read behind) (λ b after. gives ((a, b), after))))
-      (l.again x.0 (d.spell x.1 ++ rest) h.0)
-      ∙ ap (λ (r : Result (B × List ℕ) ℕ). then_read r (λ b after. gives ((x.0, b), after))) (m.again x.1 rest h.1)
+      (λ a behind. then_read ((d a).read behind) (λ b after. gives ((a, b), after))))
+      (l.again x.0 ((d x.0).spell x.1 ++ rest) h.0)
+      ∙ ap (λ (r : Result (B × List ℕ) ℕ). then_read r (λ b after. gives ((x.0, b), after)))
+      ((m x.0).again x.1 rest h.1)
 
-  both_within : (bytes : List ℕ) (left : ℕ) → IsBytes bytes → (both c d).read bytes ≡ stops {A = A × B} left
+  chained_within : (bytes : List ℕ) (left : ℕ) → IsBytes bytes → (chained c d).read bytes ≡ stops {A = A × B} left
       → left ≤ length bytes
-  both_within bytes left fits e =
+  chained_within bytes left fits e =
       elim (bind_err {B = A × B} (c.read bytes)
-      (λ a behind. then_read (d.read behind) (λ b after. gives {A = A × B} ((a, b), after))) left e) [
+      (λ a behind. then_read ((d a).read behind) (λ b after. gives {A = A × B} ((a, b), after))) left e) [
         | inl first ↦ l.within bytes left fits first
         | inr one ↦ second_within bytes left fits one.0 one.1
-            (bind_err {B = A × B} (d.read one.0.1) (λ b after. gives {A = A × B} ((one.0.0, b), after)) left one.2)
+            (bind_err {B = A × B} ((d one.0.0).read one.0.1) (λ b after. gives {A = A × B} ((one.0.0, b), after)) left
+            one.2)
       ]
     where
       second_within : (bytes : List ℕ) (left : ℕ) → IsBytes bytes → (x : A × List ℕ) → c.read bytes ≡ gives x
-          → (d.read x.1 ≡ stops left) ⊎ ((y : B × List ℕ) × (d.read x.1 ≡ gives y)
+          → ((d x.0).read x.1 ≡ stops left) ⊎ ((y : B × List ℕ) × ((d x.0).read x.1 ≡ gives y)
           × (gives {A = A × B} ((x.0, y.0), y.1) ≡ stops left)) → left ≤ length bytes
       second_within bytes left fits x first (inl second) =
           let p : Begins c bytes x.0 x.1 = l.takes bytes x.0 x.1 fits first in
           let behind : IsBytes x.1 = bytes_behind bytes (c.spell x.0) x.1 fits p.parts in
-          omega (arith, m.within x.1 left behind second, no_longer bytes (c.spell x.0) x.1 p.parts)
+          omega (arith, (m x.0).within x.1 left behind second, no_longer bytes (c.spell x.0) x.1 p.parts)
       second_within bytes left fits x first (inr two) =
           absurd (ok_no_err {A = A × B} ((x.0, two.0.0), two.0.1) left two.2)
 
-  pair_lawful : Lawful (both c d)
-  pair_lawful = record {
-    takes = λ bytes x rest fits e. both_takes bytes x rest fits e;
-    again = λ x rest fits. both_again x rest fits;
-    within = λ bytes left fits e. both_within bytes left fits e;
+  pub chained_lawful : Lawful (chained c d)
+  chained_lawful = record {
+    takes = λ bytes x rest fits e. chained_takes bytes x rest fits e;
+    again = λ x rest fits. chained_again x rest fits;
+    within = λ bytes left fits e. chained_within bytes left fits e;
   }
 
 pub both_lawful : {A B : Type 0} {c : Codec A} {d : Codec B} → Lawful c → Lawful d → Lawful (both c d)
-both_lawful {A} {B} {c} {d} l m = pair_lawful c d l m
+both_lawful {A} {B} {c} {d} l m = chained_lawful c (λ _. d) l (λ _. m)
 
 -- ---- another thing by other names, where something may be asked of what is renamed
 

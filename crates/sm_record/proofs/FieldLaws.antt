@@ -15,10 +15,13 @@ use Rattle.sm_model.specs.declared.rows.Stage.TheVariants as stages
 use Rattle.sm_model.specs.declared.value.Value.{Value}
 use Rattle.sm_model.specs.declared.value.Value.TheVariants as values
 use Rattle.sm_record.specs.Codec.{IsBytes, Codec, then_read, read_byte, both, only, arm, no_arm, optional, read_items}
-use Rattle.sm_record.specs.Fields.{number, count, long, is_i64, signed, moment, octets, text, arn, token, listed, byte_of_truth, truth_of_byte, truth, byte_of_stage, stage_of_byte, stage, attempt_of_byte, attempt, spell_value, fits_value, value, tag, rotation_rules}
+use Rattle.sm_record.specs.Editions.{is_none}
+use Rattle.sm_record.specs.declared.edition.Edition.{Edition}
+use Rattle.sm_record.specs.Fields.{number, count, long, is_i64, signed, moment, octets, text, arn, token, listed, byte_of_truth, truth_of_byte, truth, byte_of_stage, stage_of_byte, stage, attempt_of_byte, attempt, spell_value, fits_value, value, tag, schedule, rotation_rules}
 use Rattle.sm_record.proofs.Bytes.{bytes_behind, no_longer, gives, stops, ok_is, ok_no_err, bind_ok, bind_err, chosen, unless_ok, unless_err}
 use Rattle.sm_record.proofs.CodecLaws.{Begins, Lawful, both_lawful, mapped_lawful, only_lawful, coded_lawful}
 use Rattle.sm_record.proofs.ArmLaws.{Arms, no_arms, arm_laws, tagged_lawful, optional_lawful}
+use Rattle.sm_record.proofs.EditionLaws.{since_lawful, none_only}
 use Rattle.sm_record.proofs.ListLaws.{BeginsWithItems, items_take, items_again, items_within}
 
 -- ---- numbers
@@ -380,7 +383,11 @@ unfolding tag
 tag_lawful = mapped_lawful (both text text) (both_lawful text_lawful text_lawful)
     (λ x. record { key = x.0; value = x.1 }) (λ t. (t.key, t.value)) (λ _. refl) (λ _. refl)
 
-pub rotation_rules_lawful : Lawful rotation_rules
+schedule_lawful : (e : Edition) → Lawful (schedule e)
+schedule_lawful e = since_lawful None is_none (optional text) refl none_only (optional_lawful text text_lawful) e
+
+pub rotation_rules_lawful : (e : Edition) → Lawful (rotation_rules e)
 unfolding rotation_rules
-rotation_rules_lawful = mapped_lawful (optional signed) (optional_lawful signed signed_lawful)
-    (λ days. record { days = days }) (λ r. r.days) (λ _. refl) (λ _. refl)
+rotation_rules_lawful e = mapped_lawful (both (optional signed) (schedule e))
+    (both_lawful (optional_lawful signed signed_lawful) (schedule_lawful e))
+    (λ x. record { days = x.0; schedule = x.1 }) (λ r. (r.days, r.schedule)) (λ _. refl) (λ _. refl)

@@ -6,6 +6,9 @@ use Rattle.std.proofs.lemmas.Bool.Decides.{nat_tests}
 use Rattle.sm_base.specs.declared.moment.TheConstants.{LAST_READING}
 use Rattle.sm_model.specs.declared.rows.Stage.{Stage}
 use Rattle.sm_model.specs.declared.rows.Stage.TheVariants.{Create, Set, Test, Finish}
+use Rattle.sm_record.specs.Editions.{mark}
+use Rattle.sm_record.specs.declared.edition.Edition.{Edition}
+use Rattle.sm_record.specs.declared.edition.Edition.TheVariants.{First, Second}
 use Rattle.sm_record.specs.Fields.{is_i64, byte_of_truth, truth_of_byte, byte_of_stage, stage_of_byte}
 
 pub signed_fits : (z : ℤ) → FitsSigned w64 z → is_i64 z ≡ true
@@ -25,3 +28,8 @@ stage_fits Create = refl
 stage_fits Set = refl
 stage_fits Test = refl
 stage_fits Finish = refl
+
+pub mark_fits : (e : Edition) → (mark e).fits tt ≡ true
+unfolding mark
+mark_fits First = refl
+mark_fits Second = refl

@@ -1,6 +1,7 @@
 pub mod Bytes
 pub mod CodecLaws
 pub mod ArmLaws
+pub mod EditionLaws
 pub mod ListLaws
 pub mod FieldLaws
 pub mod RequestLaws

@@ -8,7 +8,7 @@ use Rattle.std.proofs.lemmas.List.Concat.{flat_map-append}
 use Rattle.std.proofs.lemmas.Str.{IsUtf8-from_is_utf8, is_utf8-from_IsUtf8}
 use Rattle.sm_base.specs.FirstFault.{IsFirstFault}
 use Rattle.sm_model.specs.Bounds.{is_attempt}
-use Rattle.sm_model.specs.declared.limits.TheConstants.{ATTEMPTS_LIMIT}
+use Rattle.sm_base.specs.declared.limits.TheConstants.{ATTEMPTS_LIMIT}
 use Rattle.sm_record.specs.Codec.{Codec, then_read, read_items}
 use Rattle.sm_record.specs.Fields.{attempt_of_byte}
 use Rattle.sm_record.specs.Reading.{Fails}

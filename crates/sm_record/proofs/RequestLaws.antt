@@ -1,10 +1,13 @@
 -- The laws of what an entry keeps of a request.
-use Rattle.std.proofs.Common.{refl}
+use Rattle.std.proofs.Common.{[], refl}
 use Rattle.sm_record.specs.Codec.{both, optional}
+use Rattle.sm_record.specs.Editions.{is_empty}
+use Rattle.sm_record.specs.declared.edition.Edition.{Edition}
 use Rattle.sm_record.specs.Fields.{signed, octets, text, truth, listed, tag, rotation_rules}
-use Rattle.sm_record.specs.Requests.{of_secret, create_secret, delete_secret, put_resource_policy, put_secret_value, rotate_secret, tag_resource, untag_resource, update_secret, update_secret_version_stage}
+use Rattle.sm_record.specs.Requests.{of_secret, create_secret, delete_secret, put_resource_policy, put_secret_value, regions, regions_of_secret, rotate_secret, tag_resource, untag_resource, update_secret, update_secret_version_stage}
 use Rattle.sm_record.proofs.CodecLaws.{Lawful, both_lawful, mapped_lawful}
 use Rattle.sm_record.proofs.ArmLaws.{optional_lawful}
+use Rattle.sm_record.proofs.EditionLaws.{since_lawful, empty_only}
 use Rattle.sm_record.proofs.FieldLaws.{signed_lawful, octets_lawful, text_lawful, truth_lawful, listed_lawful, tag_lawful, rotation_rules_lawful}
 
 text_given : Lawful (optional text)
@@ -16,8 +19,8 @@ octets_given = optional_lawful octets octets_lawful
 signed_given : Lawful (optional signed)
 signed_given = optional_lawful signed signed_lawful
 
-rules_given : Lawful (optional rotation_rules)
-rules_given = optional_lawful rotation_rules rotation_rules_lawful
+rules_given : (e : Edition) → Lawful (optional (rotation_rules e))
+rules_given e = optional_lawful (rotation_rules e) (rotation_rules_lawful e)
 
 tags : Lawful (listed tag)
 tags = listed_lawful tag tag_lawful
@@ -40,33 +43,40 @@ of_secret_lawful = mapped_lawful
     (λ r. r.secret_id)
     (λ _. refl) (λ _. refl)
 
-pub create_secret_lawful : Lawful create_secret
+regions_lawful : (e : Edition) → Lawful (regions e)
+regions_lawful e = since_lawful [] is_empty (listed text) refl empty_only texts e
+
+pub create_secret_lawful : (e : Edition) → Lawful (create_secret e)
 unfolding create_secret
-create_secret_lawful = mapped_lawful
-    (both (optional text) (both (optional text) (both (optional text) (both text (both (optional octets) (both
-    (optional text) (optional (listed tag))))))))
-    (both_lawful text_given (both_lawful text_given (both_lawful text_given (both_lawful text_lawful (both_lawful
-    octets_given (both_lawful text_given tags_given))))))
+create_secret_lawful e = mapped_lawful
+    (both (regions e) (both (optional text) (both (optional text) (both (optional text) (both text (both
+    (optional octets) (both (optional text) (optional (listed tag)))))))))
+    (both_lawful (regions_lawful e) (both_lawful text_given (both_lawful text_given (both_lawful text_given
+    (both_lawful text_lawful (both_lawful octets_given (both_lawful text_given tags_given)))))))
     (λ x. record {
-      client_request_token = x.0;
-      description = x.1.0;
-      kms_key_id = x.1.1.0;
-      name = x.1.1.1.0;
-      secret_binary = x.1.1.1.1.0;
-      secret_string = x.1.1.1.1.1.0;
-      tags = x.1.1.1.1.1.1;
+      regions = x.0;
+      client_request_token = x.1.0;
+      description = x.1.1.0;
+      kms_key_id = x.1.1.1.0;
+      name = x.1.1.1.1.0;
+      secret_binary = x.1.1.1.1.1.0;
+      secret_string = x.1.1.1.1.1.1.0;
+      tags = x.1.1.1.1.1.1.1;
     })
     (λ r. (
-      r.client_request_token,
+      r.regions,
       (
-        r.description,
+        r.client_request_token,
         (
-          r.kms_key_id,
+          r.description,
           (
-            r.name,
+            r.kms_key_id,
             (
-              r.secret_binary,
-              (r.secret_string, r.tags),
+              r.name,
+              (
+                r.secret_binary,
+                (r.secret_string, r.tags),
+              ),
             ),
           ),
         ),
@@ -108,11 +118,11 @@ put_secret_value_lawful = mapped_lawful
     (λ r. (r.client_request_token, (r.secret_binary, (r.secret_id, (r.secret_string, r.version_stages)))))
     (λ _. refl) (λ _. refl)
 
-pub rotate_secret_lawful : Lawful rotate_secret
+pub rotate_secret_lawful : (e : Edition) → Lawful (rotate_secret e)
 unfolding rotate_secret
-rotate_secret_lawful = mapped_lawful
-    (both (optional text) (both truth (both (optional text) (both (optional rotation_rules) text))))
-    (both_lawful text_given (both_lawful truth_lawful (both_lawful text_given (both_lawful rules_given
+rotate_secret_lawful e = mapped_lawful
+    (both (optional text) (both truth (both (optional text) (both (optional (rotation_rules e)) text))))
+    (both_lawful text_given (both_lawful truth_lawful (both_lawful text_given (both_lawful (rules_given e)
     text_lawful))))
     (λ x. record {
       client_request_token = x.0;
@@ -122,6 +132,15 @@ rotate_secret_lawful = mapped_lawful
       secret_id = x.1.1.1.1;
     })
     (λ r. (r.client_request_token, (r.rotate_immediately, (r.rotation_lambda_arn, (r.rotation_rules, r.secret_id)))))
+    (λ _. refl) (λ _. refl)
+
+pub regions_of_secret_lawful : Lawful regions_of_secret
+unfolding regions_of_secret
+regions_of_secret_lawful = mapped_lawful
+    (both (listed text) text)
+    (both_lawful texts text_lawful)
+    (λ x. record { regions = x.0; secret_id = x.1 })
+    (λ r. (r.regions, r.secret_id))
     (λ _. refl) (λ _. refl)
 
 pub tag_resource_lawful : Lawful tag_resource

@@ -1,10 +1,17 @@
 -- One spelling for each entry, and one entry for each spelling.
-use Rattle.std.proofs.Common.{◌≡◌, ℕ, ◌-◌, ◌≤◌, ◌==◌, List, [], length, Result, Ok, Err, sym, ap, ◌∙◌, inl, inr, append-nil, arith, eqb-true}
+use Rattle.std.proofs.Common.{◌≡◌, ℕ, ◌-◌, ◌≤◌, ◌==◌, nat_le, List, [], length, get_or, Result, Ok, Err, refl, sym, ap, ◌∙◌, inl, inr, append-nil, arith, eqb-true}
+use Rattle.std.specs.Int.{w64, to_be_bytes}
+use Rattle.std.proofs.lemmas.Bool.{and_parts, leb-true}
 use Rattle.std.proofs.lemmas.List.{nil_from_length}
+use Rattle.sm_base.specs.declared.moment.TheConstants.{LAST_READING}
 use Rattle.sm_model.specs.declared.entry.Entry.{Entry}
 use Rattle.sm_record.specs.Codec.{IsBytes}
-use Rattle.sm_record.specs.Entries.{entry}
-use Rattle.sm_record.specs.Spelling.{spelling, has_spelling, HasSpelling, alone, placed, decoded, IsDecodedFromSpelling, SpellsOne, IsReadAgain}
+use Rattle.sm_record.specs.Editions.{mark}
+use Rattle.sm_record.specs.declared.edition.Edition.{Edition}
+use Rattle.sm_record.specs.declared.edition.Edition.TheVariants.{First, Second}
+use Rattle.sm_record.specs.Entries.{head, head_of, entry}
+use Rattle.sm_record.specs.Fields.{moment, long}
+use Rattle.sm_record.specs.Spelling.{spelling, has_spelling, HasSpelling, alone, placed, decoded, IsDecodedFromSpelling, SpellsOne, IsReadAgain, TellsEditions}
 use Rattle.sm_record.proofs.Bytes.{gives, chosen}
 use Rattle.sm_record.proofs.CodecLaws.{Begins}
 use Rattle.sm_record.proofs.EntryLaws.{entry_lawful}
@@ -24,11 +31,12 @@ place_is p q same = cc
 entry_no_place : (e : Entry) (p : ℕ) → no_entry_at p ≡ whole_entry e → ⊥
 entry_no_place e p same = cc
 
-pub spelled_is_decoded : (e : Entry) → HasSpelling e → decoded (spelling e) ≡ Ok e
+pub spelled_is_decoded : (edition : Edition) (e : Entry) → HasSpelling edition e
+    → decoded edition (spelling edition e) ≡ Ok e
 unfolding decoded spelling has_spelling
-spelled_is_decoded e fits =
-    ap (placed (length (entry.spell e)))
-    (ap entry.read (sym (append-nil (entry.spell e))) ∙ entry_lawful.again e [] fits)
+spelled_is_decoded edition e fits =
+    ap (placed (length ((entry edition).spell e)))
+    (ap (entry edition).read (sym (append-nil ((entry edition).spell e))) ∙ (entry_lawful edition).again e [] fits)
 
 alone_ok : (whole : ℕ) (x : Entry × List ℕ) (e : Entry) → alone whole x.0 (length x.1) ≡ whole_entry e
     → gives x ≡ gives (e, [])
@@ -46,24 +54,48 @@ placed_ok : (whole : ℕ) (r : Result (Entry × List ℕ) ℕ) (e : Entry) → p
 placed_ok whole (Ok x) e h = alone_ok whole x e h
 placed_ok whole (Err left) e h = absurd (entry_no_place e (whole - left) h)
 
-pub decoded_is_spelled : (body : List ℕ) (e : Entry) → IsBytes body → decoded body ≡ Ok e
-    → HasSpelling e × (spelling e ≡ body)
+pub decoded_is_spelled : (edition : Edition) (body : List ℕ) (e : Entry) → IsBytes body → decoded edition body ≡ Ok e
+    → HasSpelling edition e × (spelling edition e ≡ body)
 unfolding decoded spelling has_spelling
-decoded_is_spelled body e bytes h =
-    let p : Begins entry body e [] =
-    entry_lawful.takes body e [] bytes (placed_ok (length body) (entry.read body) e h) in
-    (p.fits, sym (p.parts ∙ append-nil (entry.spell e)))
+decoded_is_spelled edition body e bytes h =
+    let p : Begins (entry edition) body e [] =
+    (entry_lawful edition).takes body e [] bytes (placed_ok (length body) ((entry edition).read body) e h) in
+    (p.fits, sym (p.parts ∙ append-nil ((entry edition).spell e)))
 
 pub decoded_from_spelling : IsDecodedFromSpelling
-decoded_from_spelling body e bytes =
-    (decoded_is_spelled body e bytes, λ s. ap decoded (sym s.1) ∙ spelled_is_decoded e s.0)
+decoded_from_spelling edition body e bytes = (
+  decoded_is_spelled edition body e bytes,
+  λ s. ap (decoded edition) (sym s.1) ∙ spelled_is_decoded edition e s.0,
+)
 
 pub spells_one : SpellsOne
-spells_one d e fits_d fits_e same =
-    entry_is d e (sym (spelled_is_decoded d fits_d) ∙ ap decoded same ∙ spelled_is_decoded e fits_e)
+spells_one edition d e fits_d fits_e same =
+    entry_is d e
+    (sym (spelled_is_decoded edition d fits_d) ∙ ap (decoded edition) same ∙ spelled_is_decoded edition e fits_e)
 
 pub is_read_again : IsReadAgain
-is_read_again e fits = spelled_is_decoded e fits
+is_read_again edition e fits = spelled_is_decoded edition e fits
+
+-- ---- the formats
+
+-- a moment that a clock reads begins with the byte 0
+early_byte : (n : ℕ) → n ≤ LAST_READING → get_or (to_be_bytes w64 n) 0 1 ≡ 0
+early_byte n early = omega (arith, early)
+
+first_byte : (d : Entry) → HasSpelling First d → get_or (spelling First d) 0 1 ≡ 0
+unfolding spelling has_spelling entry head mark moment long
+first_byte d fits =
+    let of_head = (and_parts ((head First).fits (head_of d)) _ fits).0 in
+    let early = (and_parts (nat_le d.moment.0 LAST_READING) _ (and_parts (moment.fits d.moment) _ of_head).0).0 in
+    early_byte d.moment.0 (leb-true d.moment.0 LAST_READING early)
+
+second_byte : (e : Entry) → get_or (spelling Second e) 0 1 ≡ 2
+unfolding spelling entry head mark
+second_byte e = refl
+
+pub tells_editions : TellsEditions
+tells_editions d e fits_d fits_e same =
+    absurd (omega (arith, first_byte d fits_d, second_byte e, ap (λ (bytes : List ℕ). get_or bytes 0 1) same))
 
 -- ---- places
 
@@ -80,12 +112,13 @@ placed_within : (whole : ℕ) (r : Result (Entry × List ℕ) ℕ) (place : ℕ)
 placed_within whole (Ok x) place h = alone_within whole x place h
 placed_within whole (Err left) place h = omega (arith, place_is (whole - left) place h)
 
-pub place_within : (body : List ℕ) (place : ℕ) → decoded body ≡ Err place → place ≤ length body
+pub place_within : (edition : Edition) (body : List ℕ) (place : ℕ) → decoded edition body ≡ Err place
+    → place ≤ length body
 unfolding decoded
-place_within body place h = placed_within (length body) (entry.read body) place h
+place_within edition body place h = placed_within (length body) ((entry edition).read body) place h
 
 -- a body that is not decoded is nobody's spelling
-pub no_spelling : (body : List ℕ) (place : ℕ) → decoded body ≡ Err place
-    → (e : Entry) → HasSpelling e → spelling e ≡ body → ⊥
-no_spelling body place h e fits same =
-    entry_no_place e place (sym h ∙ ap decoded (sym same) ∙ spelled_is_decoded e fits)
+pub no_spelling : (edition : Edition) (body : List ℕ) (place : ℕ) → decoded edition body ≡ Err place
+    → (e : Entry) → HasSpelling edition e → spelling edition e ≡ body → ⊥
+no_spelling edition body place h e fits same =
+    entry_no_place e place (sym h ∙ ap (decoded edition) (sym same) ∙ spelled_is_decoded edition e fits)

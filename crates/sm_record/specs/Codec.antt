@@ -1,5 +1,5 @@
 -- How things are spelled as bytes, and read from bytes again.
-use Rattle.std.specs.Prelude.{ℕ, zero, suc, ◌+◌, ◌<◌, ◌==◌, Bool, true, ◌&&◌, if◌then◌else◌, List, [], ◌∷◌, ◌++◌, length, get_or, Option, Some, None, is_some, Result, Ok, Err}
+use Rattle.std.specs.Prelude.{ℕ, zero, suc, ◌+◌, ◌-◌, ◌<◌, ◌==◌, nat_le, Bool, true, false, ◌&&◌, if◌then◌else◌, List, [], ◌∷◌, ◌++◌, length, get_or, Option, Some, None, is_some, Result, Ok, Err}
 
 -- each number is a byte
 abbrev pub IsBytes : List ℕ → Type 0
@@ -24,6 +24,14 @@ both c d = record {
   spell = λ x. c.spell x.0 ++ d.spell x.1;
   fits = λ x. c.fits x.0 && d.fits x.1;
   read = λ bytes. then_read (c.read bytes) (λ a rest. then_read (d.read rest) (λ b after. Ok ((a, b), after)));
+}
+
+-- one thing behind another, which says how it is spelled
+abbrev pub chained : {A B : Type 0} → Codec A → (A → Codec B) → Codec (A × B)
+chained c d = record {
+  spell = λ x. c.spell x.0 ++ (d x.0).spell x.1;
+  fits = λ x. c.fits x.0 && (d x.0).fits x.1;
+  read = λ bytes. then_read (c.read bytes) (λ a rest. then_read ((d a).read rest) (λ b after. Ok ((a, b), after)));
 }
 
 -- a thing that is another one by other names
@@ -64,16 +72,22 @@ coded byte_of thing_of = record {
 abbrev pub nothing : Codec (Unit {0})
 nothing = record { spell = λ _. []; fits = λ _. true; read = λ bytes. Ok (tt, bytes) }
 
--- What stands behind a tag: each arm has its tag, how what stands there is spelled,
--- what it makes of that, and the arms after it.
-abbrev pub arm : {A B : Type 0} → ℕ → Codec A → (A → B) → (ℕ → List ℕ → Result (B × List ℕ) ℕ)
-    → ℕ → List ℕ → Result (B × List ℕ) ℕ
-arm tag c into others given rest =
-    if given == tag then then_read (c.read rest) (λ a after. Ok (into a, after)) else others given rest
-
--- another tag, whose place is not spelled
+-- a tag that nothing follows: its place is not spelled
 abbrev pub no_arm : {B : Type 0} → ℕ → List ℕ → Result (B × List ℕ) ℕ
 no_arm given rest = Err (length rest + 1)
+
+-- What stands behind a tag: each arm says whether its tag may stand there, and has its tag, how what stands behind it
+-- is spelled, what it makes of that, and the arms after it.
+abbrev pub arm_if : {A B : Type 0} → Bool → ℕ → Codec A → (A → B) → (ℕ → List ℕ → Result (B × List ℕ) ℕ)
+    → ℕ → List ℕ → Result (B × List ℕ) ℕ
+arm_if may tag c into others given rest =
+    if given == tag then (if may then then_read (c.read rest) (λ a after. Ok (into a, after)) else no_arm given rest)
+    else others given rest
+
+-- an arm whose tag may always stand there
+abbrev pub arm : {A B : Type 0} → ℕ → Codec A → (A → B) → (ℕ → List ℕ → Result (B × List ℕ) ℕ)
+    → ℕ → List ℕ → Result (B × List ℕ) ℕ
+arm tag c into others = arm_if true tag c into others
 
 -- a thing of several kinds: a tag byte, and what its kind has
 abbrev pub tagged : {B : Type 0} → (B → List ℕ) → (B → Bool) → (ℕ → List ℕ → Result (B × List ℕ) ℕ) → Codec B
@@ -81,6 +95,31 @@ tagged spelling has_spelling arms = record {
   spell = spelling;
   fits = has_spelling;
   read = λ bytes. then_read (read_byte bytes) arms;
+}
+
+-- a tag, and a truth value in its highest bit
+abbrev pub flagged_tag : Bool → ℕ → ℕ
+flagged_tag false tag = tag
+flagged_tag true tag = tag + 128
+
+-- the truth value of a flagged tag, and its tag
+abbrev pub flag_of : ℕ → Bool
+flag_of byte = nat_le 128 byte
+
+abbrev pub tag_of : ℕ → ℕ
+tag_of byte = if nat_le 128 byte then byte - 128 else byte
+
+abbrev pub with_flag : Bool → List ℕ → List ℕ
+with_flag flag [] = []
+with_flag flag (tag ∷ rest) = flagged_tag flag tag ∷ rest
+
+-- a truth value and a thing that begins with its tag, which has the truth value in its highest bit
+abbrev pub flagged : {A : Type 0} → Codec A → Codec (Bool × A)
+flagged c = record {
+  spell = λ x. with_flag x.0 (c.spell x.1);
+  fits = λ x. c.fits x.1;
+  read = λ bytes. then_read (read_byte bytes) (λ byte rest.
+      then_read (c.read (tag_of byte ∷ rest)) (λ a after. Ok ((flag_of byte, a), after)));
 }
 
 abbrev pub spell_optional : {A : Type 0} → Codec A → Option A → List ℕ

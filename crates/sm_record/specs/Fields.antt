@@ -14,6 +14,8 @@ use Rattle.sm_model.specs.declared.value.Tag.{Tag}
 use Rattle.sm_model.specs.declared.request.Rules.{Rules}
 use Rattle.sm_model.specs.Bounds.{is_attempt}
 use Rattle.sm_record.specs.Codec.{Codec, then_read, both, mapped, only, coded, arm, no_arm, tagged, optional, read_items}
+use Rattle.sm_record.specs.Editions.{is_none, since}
+use Rattle.sm_record.specs.declared.edition.Edition.{Edition}
 
 -- a number below a limit in the bytes of a width
 abbrev pub number : Width → ℕ → Codec ℕ
@@ -129,6 +131,11 @@ value = tagged spell_value fits_value (arm 1 text values.Text (arm 2 octets valu
 unfoldable pub tag : Codec Tag
 tag = mapped (both text text) (λ x. record { key = x.0; value = x.1 }) (λ t. (t.key, t.value))
 
--- rotation rules are their days
-unfoldable pub rotation_rules : Codec Rules
-rotation_rules = mapped (optional signed) (λ days. record { days = days }) (λ r. r.days)
+-- a schedule that need not be there, since the second format
+abbrev pub schedule : Edition → Codec (Option (List ℕ))
+schedule e = since None is_none (optional text) e
+
+-- rotation rules are their days and their schedule
+unfoldable pub rotation_rules : Edition → Codec Rules
+rotation_rules e = mapped (both (optional signed) (schedule e))
+    (λ x. record { days = x.0; schedule = x.1 }) (λ r. (r.days, r.schedule))

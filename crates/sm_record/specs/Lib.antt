@@ -1,4 +1,5 @@
 pub mod Codec
+pub mod Editions
 pub mod Fields
 pub mod Requests
 pub mod Entries

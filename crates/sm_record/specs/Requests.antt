@@ -1,47 +1,63 @@
 -- What an entry keeps of a request: its members in ascending order of their names, those that need not be there as
--- options, and truth values as they count (AWS Secrets Manager API Reference, Actions).
+-- options, and truth values as they count (AWS Secrets Manager API Reference, Actions). Regions come before all others.
+use Rattle.std.specs.Prelude.{ℕ, List, [], Option}
 use Rattle.sm_model.specs.declared.request.CreateSecret.{CreateSecret}
 use Rattle.sm_model.specs.declared.request.DeleteSecret.{DeleteSecret}
 use Rattle.sm_model.specs.declared.request.OfSecret.{OfSecret}
 use Rattle.sm_model.specs.declared.request.PutResourcePolicy.{PutResourcePolicy}
 use Rattle.sm_model.specs.declared.request.PutSecretValue.{PutSecretValue}
+use Rattle.sm_model.specs.declared.request.RegionsOfSecret.{RegionsOfSecret}
 use Rattle.sm_model.specs.declared.request.RotateSecret.{RotateSecret}
 use Rattle.sm_model.specs.declared.request.TagResource.{TagResource}
 use Rattle.sm_model.specs.declared.request.UntagResource.{UntagResource}
 use Rattle.sm_model.specs.declared.request.UpdateSecret.{UpdateSecret}
 use Rattle.sm_model.specs.declared.request.UpdateSecretVersionStage.{UpdateSecretVersionStage}
+use Rattle.sm_model.specs.declared.value.Tag.{Tag}
 use Rattle.sm_record.specs.Codec.{Codec, both, mapped, optional}
+use Rattle.sm_record.specs.Editions.{is_empty, since}
+use Rattle.sm_record.specs.declared.edition.Edition.{Edition}
 use Rattle.sm_record.specs.Fields.{signed, octets, text, truth, listed, tag, rotation_rules}
 
 -- CancelRotateSecret, DeleteResourcePolicy and RestoreSecret: SecretId
 unfoldable pub of_secret : Codec OfSecret
 of_secret = mapped text (λ id. record { secret_id = id }) (λ r. r.secret_id)
 
--- ClientRequestToken, Description, KmsKeyId, Name, SecretBinary, SecretString, Tags
-unfoldable pub create_secret : Codec CreateSecret
-create_secret = mapped
-    (both (optional text) (both (optional text) (both (optional text) (both text (both (optional octets)
-    (both (optional text) (optional (listed tag))))))))
+-- the regions of a secret that is made, since the second format
+abbrev pub regions : Edition → Codec (List (List ℕ))
+regions e = since [] is_empty (listed text) e
+
+-- Name, SecretBinary, SecretString, Tags
+abbrev pub named_value : Codec (List ℕ × (Option (List ℕ) × (Option (List ℕ) × Option (List Tag))))
+named_value = both text (both (optional octets) (both (optional text) (optional (listed tag))))
+
+-- AddReplicaRegions, ClientRequestToken, Description, KmsKeyId, Name, SecretBinary, SecretString, Tags
+unfoldable pub create_secret : Edition → Codec CreateSecret
+create_secret e = mapped
+    (both (regions e) (both (optional text) (both (optional text) (both (optional text) named_value))))
     (λ x. record {
-      client_request_token = x.0;
-      description = x.1.0;
-      kms_key_id = x.1.1.0;
-      name = x.1.1.1.0;
-      secret_binary = x.1.1.1.1.0;
-      secret_string = x.1.1.1.1.1.0;
-      tags = x.1.1.1.1.1.1;
+      regions = x.0;
+      client_request_token = x.1.0;
+      description = x.1.1.0;
+      kms_key_id = x.1.1.1.0;
+      name = x.1.1.1.1.0;
+      secret_binary = x.1.1.1.1.1.0;
+      secret_string = x.1.1.1.1.1.1.0;
+      tags = x.1.1.1.1.1.1.1;
     })
     (λ r. (
-      r.client_request_token,
+      r.regions,
       (
-        r.description,
+        r.client_request_token,
         (
-          r.kms_key_id,
+          r.description,
           (
-            r.name,
+            r.kms_key_id,
             (
-              r.secret_binary,
-              (r.secret_string, r.tags),
+              r.name,
+              (
+                r.secret_binary,
+                (r.secret_string, r.tags),
+              ),
             ),
           ),
         ),
@@ -76,9 +92,9 @@ put_secret_value = mapped
     (λ r. (r.client_request_token, (r.secret_binary, (r.secret_id, (r.secret_string, r.version_stages)))))
 
 -- ClientRequestToken, RotateImmediately, RotationLambdaARN, RotationRules, SecretId
-unfoldable pub rotate_secret : Codec RotateSecret
-rotate_secret = mapped
-    (both (optional text) (both truth (both (optional text) (both (optional rotation_rules) text))))
+unfoldable pub rotate_secret : Edition → Codec RotateSecret
+rotate_secret e = mapped
+    (both (optional text) (both truth (both (optional text) (both (optional (rotation_rules e)) text))))
     (λ x. record {
       client_request_token = x.0;
       rotate_immediately = x.1.0;
@@ -87,6 +103,13 @@ rotate_secret = mapped
       secret_id = x.1.1.1.1;
     })
     (λ r. (r.client_request_token, (r.rotate_immediately, (r.rotation_lambda_arn, (r.rotation_rules, r.secret_id)))))
+
+-- ReplicateSecretToRegions and RemoveRegionsFromReplication: their regions, SecretId
+unfoldable pub regions_of_secret : Codec RegionsOfSecret
+regions_of_secret = mapped
+    (both (listed text) text)
+    (λ x. record { regions = x.0; secret_id = x.1 })
+    (λ r. (r.regions, r.secret_id))
 
 -- SecretId, Tags
 unfoldable pub tag_resource : Codec TagResource

@@ -3,6 +3,7 @@ ghost use Rattle.std.specs.Prelude.{◌≡◌, ◌++◌, IsTrue, OnOk};
 ghost use Rattle.sm_record.specs.Fields.{count, long, signed, moment};
 ghost use Rattle.sm_record.specs.Reading.{Gives};
 
+use crate::edition::Edition;
 use crate::field::Field;
 use crate::unread::Unread;
 use sm_base::moment::LAST_READING;
@@ -66,37 +67,41 @@ fn put_long(out: &mut Vec<u8>, number: u64) -> Result<(), NoMemory>
 }
 
 impl Field for i64 {
-    ghost codec = { signed };
+    ghost codec = { λ _. signed };
 
     #[tactic(auto, using(crate::proofs::FitLemmas::signed_fits), unfolding(crate::specs::Fields::signed))]
-    fn fits(&self) -> bool {
+    fn fits(&self, _edition: Edition) -> bool {
         let _number = *self;
         true
     }
 
     #[tactic(auto, unfolding(crate::specs::Fields::signed))]
-    fn read_front(_alloc: Global, bytes: &[u8]) -> Result<(i64, &[u8]), Unread> {
+    fn read_front(_alloc: Global, _edition: Edition, bytes: &[u8]) -> Result<(i64, &[u8]), Unread> {
         let (number, rest) = long_at(bytes)?;
         Ok((number.cast_signed(), rest))
     }
 
     #[tactic(auto, unfolding(crate::specs::Fields::signed))]
-    fn put(&self, out: &mut Vec<u8>) -> Result<(), NoMemory> {
+    fn put(&self, _edition: Edition, out: &mut Vec<u8>) -> Result<(), NoMemory> {
         put_long(out, self.cast_unsigned())?;
         Ok(())
     }
 }
 
 impl Field for Moment {
-    ghost codec = { moment };
+    ghost codec = { λ _. moment };
 
     #[tactic(auto, using(crate::proofs::FitLemmas::moment_fits), unfolding(crate::specs::Fields::moment, crate::specs::Fields::long))]
-    fn fits(&self) -> bool {
+    fn fits(&self, _edition: Edition) -> bool {
         self.0 <= LAST_READING
     }
 
     #[tactic(auto, unfolding(crate::specs::Fields::moment))]
-    fn read_front(_alloc: Global, bytes: &[u8]) -> Result<(Moment, &[u8]), Unread> {
+    fn read_front(
+        _alloc: Global,
+        _edition: Edition,
+        bytes: &[u8],
+    ) -> Result<(Moment, &[u8]), Unread> {
         let (seconds, rest) = long_at(bytes)?;
         if seconds <= LAST_READING {
             Ok((Moment(seconds), rest))
@@ -106,7 +111,7 @@ impl Field for Moment {
     }
 
     #[tactic(auto, unfolding(crate::specs::Fields::moment))]
-    fn put(&self, out: &mut Vec<u8>) -> Result<(), NoMemory> {
+    fn put(&self, _edition: Edition, out: &mut Vec<u8>) -> Result<(), NoMemory> {
         put_long(out, self.0)?;
         Ok(())
     }

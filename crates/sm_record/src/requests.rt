@@ -1,37 +1,44 @@
 //! What an entry keeps of a request: its members in ascending order of their names.
-ghost use Rattle.sm_record.specs.Requests.{of_secret, create_secret, delete_secret, put_resource_policy, put_secret_value, rotate_secret, tag_resource, untag_resource, update_secret, update_secret_version_stage};
+ghost use Rattle.std.specs.Prelude.{◌≡◌, ◌++◌, IsTrue, OnOk};
+ghost use Rattle.sm_record.specs.Requests.{of_secret, create_secret, delete_secret, named_value, put_resource_policy, put_secret_value, regions_of_secret, rotate_secret, tag_resource, untag_resource, update_secret, update_secret_version_stage};
 
+use crate::edition::Edition;
 use crate::field::Field;
+use crate::since::{put_since, since_fits, since_then};
 use crate::unread::Unread;
 use sm_model::{
     Bytes, CreateSecret, DeleteSecret, List, NoMemory, OfSecret, PutResourcePolicy, PutSecretValue,
-    RotateSecret, Rules, Tag, TagResource, Text, UntagResource, UpdateSecret,
+    RegionsOfSecret, RotateSecret, Rules, Tag, TagResource, Text, UntagResource, UpdateSecret,
     UpdateSecretVersionStage,
 };
 use std::alloc::Global;
 
 impl Field for OfSecret {
-    ghost codec = { of_secret };
+    ghost codec = { λ _. of_secret };
 
     #[tactic(auto, unfolding(crate::specs::Requests::of_secret))]
-    fn fits(&self) -> bool {
-        self.secret_id.fits()
+    fn fits(&self, edition: Edition) -> bool {
+        self.secret_id.fits(edition)
     }
 
     #[tactic(auto, unfolding(crate::specs::Requests::of_secret))]
-    fn read_front(alloc: Global, bytes: &[u8]) -> Result<(OfSecret, &[u8]), Unread> {
-        let (secret_id, rest) = Text::read_front(alloc, bytes)?;
+    fn read_front(
+        alloc: Global,
+        edition: Edition,
+        bytes: &[u8],
+    ) -> Result<(OfSecret, &[u8]), Unread> {
+        let (secret_id, rest) = Text::read_front(alloc, edition, bytes)?;
         Ok((OfSecret { secret_id }, rest))
     }
 
     #[tactic(auto, unfolding(crate::specs::Requests::of_secret))]
-    fn put(&self, out: &mut Vec<u8>) -> Result<(), NoMemory> {
-        self.secret_id.put(out)?;
+    fn put(&self, edition: Edition, out: &mut Vec<u8>) -> Result<(), NoMemory> {
+        self.secret_id.put(edition, out)?;
         Ok(())
     }
 }
 
-/// The members of CreateSecret, one behind another.
+/// The members of CreateSecret behind its regions, one behind another.
 type CreateSecretMembers = (
     Option<Text>,
     (
@@ -47,24 +54,33 @@ impl Field for CreateSecret {
     ghost codec = { create_secret };
 
     #[tactic(auto, unfolding(crate::specs::Requests::create_secret))]
-    fn fits(&self) -> bool {
-        self.client_request_token.fits()
-            && (self.description.fits()
-                && (self.kms_key_id.fits()
-                    && (self.name.fits()
-                        && (self.secret_binary.fits()
-                            && (self.secret_string.fits() && self.tags.fits())))))
+    fn fits(&self, edition: Edition) -> bool {
+        since_fits(edition, &self.regions)
+            && (self.client_request_token.fits(edition)
+                && (self.description.fits(edition)
+                    && (self.kms_key_id.fits(edition)
+                        && (self.name.fits(edition)
+                            && (self.secret_binary.fits(edition)
+                                && (self.secret_string.fits(edition)
+                                    && self.tags.fits(edition)))))))
     }
 
     #[tactic(auto, unfolding(crate::specs::Requests::create_secret))]
-    fn read_front(alloc: Global, bytes: &[u8]) -> Result<(CreateSecret, &[u8]), Unread> {
-        let (members, rest) = CreateSecretMembers::read_front(alloc, bytes)?;
+    fn read_front(
+        alloc: Global,
+        edition: Edition,
+        bytes: &[u8],
+    ) -> Result<(CreateSecret, &[u8]), Unread> {
+        let ((regions, members), rest) = since_then::<List<Text>, CreateSecretMembers>(
+            alloc, edition, bytes,
+        )?;
         let (
             client_request_token,
             (description, (kms_key_id, (name, (secret_binary, (secret_string, tags))))),
         ) = members;
         Ok((
             CreateSecret {
+                regions,
                 client_request_token,
                 description,
                 kms_key_id,
@@ -78,33 +94,54 @@ impl Field for CreateSecret {
     }
 
     #[tactic(auto, using(std::proofs::lemmas::List::append_assoc, std::proofs::lemmas::Bool::and_parts), unfolding(crate::specs::Requests::create_secret))]
-    fn put(&self, out: &mut Vec<u8>) -> Result<(), NoMemory> {
-        self.client_request_token.put(out)?;
-        self.description.put(out)?;
-        self.kms_key_id.put(out)?;
-        self.name.put(out)?;
-        self.secret_binary.put(out)?;
-        self.secret_string.put(out)?;
-        self.tags.put(out)?;
+    fn put(&self, edition: Edition, out: &mut Vec<u8>) -> Result<(), NoMemory> {
+        put_since(edition, out, &self.regions)?;
+        self.client_request_token.put(edition, out)?;
+        self.description.put(edition, out)?;
+        self.kms_key_id.put(edition, out)?;
+        put_named_value(edition, out, self)?;
         Ok(())
     }
+}
+
+/// Writes the name of a secret that is made, its value and its tags.
+#[tactic(auto, using(std::proofs::lemmas::List::append_assoc, std::proofs::lemmas::Bool::and_parts))]
+fn put_named_value(
+    edition: Edition,
+    out: &mut Vec<u8>,
+    create: &CreateSecret,
+) -> Result<(), NoMemory>
+    requires { IsTrue (named_value.fits
+        (create.now.name, (create.now.secret_binary, (create.now.secret_string, create.now.tags)))) }
+    ensures { OnOk result (out.new.items ≡ out.old.items ++ named_value.spell
+        (create.now.name, (create.now.secret_binary, (create.now.secret_string, create.now.tags)))) }
+{
+    create.name.put(edition, out)?;
+    create.secret_binary.put(edition, out)?;
+    create.secret_string.put(edition, out)?;
+    create.tags.put(edition, out)?;
+    Ok(())
 }
 
 /// The members of DeleteSecret, one behind another.
 type DeleteSecretMembers = (bool, (Option<i64>, Text));
 
 impl Field for DeleteSecret {
-    ghost codec = { delete_secret };
+    ghost codec = { λ _. delete_secret };
 
     #[tactic(auto, unfolding(crate::specs::Requests::delete_secret))]
-    fn fits(&self) -> bool {
-        self.force_delete_without_recovery.fits()
-            && (self.recovery_window_in_days.fits() && self.secret_id.fits())
+    fn fits(&self, edition: Edition) -> bool {
+        self.force_delete_without_recovery.fits(edition)
+            && (self.recovery_window_in_days.fits(edition) && self.secret_id.fits(edition))
     }
 
     #[tactic(auto, unfolding(crate::specs::Requests::delete_secret))]
-    fn read_front(alloc: Global, bytes: &[u8]) -> Result<(DeleteSecret, &[u8]), Unread> {
-        let (members, rest) = DeleteSecretMembers::read_front(alloc, bytes)?;
+    fn read_front(
+        alloc: Global,
+        edition: Edition,
+        bytes: &[u8],
+    ) -> Result<(DeleteSecret, &[u8]), Unread> {
+        let (members, rest) = DeleteSecretMembers::read_front(alloc, edition, bytes)?;
         let (force_delete_without_recovery, (recovery_window_in_days, secret_id)) = members;
         Ok((
             DeleteSecret {
@@ -117,10 +154,10 @@ impl Field for DeleteSecret {
     }
 
     #[tactic(auto, using(std::proofs::lemmas::List::append_assoc, std::proofs::lemmas::Bool::and_parts), unfolding(crate::specs::Requests::delete_secret))]
-    fn put(&self, out: &mut Vec<u8>) -> Result<(), NoMemory> {
-        self.force_delete_without_recovery.put(out)?;
-        self.recovery_window_in_days.put(out)?;
-        self.secret_id.put(out)?;
+    fn put(&self, edition: Edition, out: &mut Vec<u8>) -> Result<(), NoMemory> {
+        self.force_delete_without_recovery.put(edition, out)?;
+        self.recovery_window_in_days.put(edition, out)?;
+        self.secret_id.put(edition, out)?;
         Ok(())
     }
 }
@@ -129,16 +166,21 @@ impl Field for DeleteSecret {
 type PutResourcePolicyMembers = (bool, (Text, Text));
 
 impl Field for PutResourcePolicy {
-    ghost codec = { put_resource_policy };
+    ghost codec = { λ _. put_resource_policy };
 
     #[tactic(auto, unfolding(crate::specs::Requests::put_resource_policy))]
-    fn fits(&self) -> bool {
-        self.block_public_policy.fits() && (self.resource_policy.fits() && self.secret_id.fits())
+    fn fits(&self, edition: Edition) -> bool {
+        self.block_public_policy.fits(edition)
+            && (self.resource_policy.fits(edition) && self.secret_id.fits(edition))
     }
 
     #[tactic(auto, unfolding(crate::specs::Requests::put_resource_policy))]
-    fn read_front(alloc: Global, bytes: &[u8]) -> Result<(PutResourcePolicy, &[u8]), Unread> {
-        let (members, rest) = PutResourcePolicyMembers::read_front(alloc, bytes)?;
+    fn read_front(
+        alloc: Global,
+        edition: Edition,
+        bytes: &[u8],
+    ) -> Result<(PutResourcePolicy, &[u8]), Unread> {
+        let (members, rest) = PutResourcePolicyMembers::read_front(alloc, edition, bytes)?;
         let (block_public_policy, (resource_policy, secret_id)) = members;
         Ok((
             PutResourcePolicy {
@@ -151,10 +193,10 @@ impl Field for PutResourcePolicy {
     }
 
     #[tactic(auto, using(std::proofs::lemmas::List::append_assoc, std::proofs::lemmas::Bool::and_parts), unfolding(crate::specs::Requests::put_resource_policy))]
-    fn put(&self, out: &mut Vec<u8>) -> Result<(), NoMemory> {
-        self.block_public_policy.put(out)?;
-        self.resource_policy.put(out)?;
-        self.secret_id.put(out)?;
+    fn put(&self, edition: Edition, out: &mut Vec<u8>) -> Result<(), NoMemory> {
+        self.block_public_policy.put(edition, out)?;
+        self.resource_policy.put(edition, out)?;
+        self.secret_id.put(edition, out)?;
         Ok(())
     }
 }
@@ -166,19 +208,23 @@ type PutSecretValueMembers = (
 );
 
 impl Field for PutSecretValue {
-    ghost codec = { put_secret_value };
+    ghost codec = { λ _. put_secret_value };
 
     #[tactic(auto, unfolding(crate::specs::Requests::put_secret_value))]
-    fn fits(&self) -> bool {
-        self.client_request_token.fits()
-            && (self.secret_binary.fits()
-                && (self.secret_id.fits()
-                    && (self.secret_string.fits() && self.version_stages.fits())))
+    fn fits(&self, edition: Edition) -> bool {
+        self.client_request_token.fits(edition)
+            && (self.secret_binary.fits(edition)
+                && (self.secret_id.fits(edition)
+                    && (self.secret_string.fits(edition) && self.version_stages.fits(edition))))
     }
 
     #[tactic(auto, unfolding(crate::specs::Requests::put_secret_value))]
-    fn read_front(alloc: Global, bytes: &[u8]) -> Result<(PutSecretValue, &[u8]), Unread> {
-        let (members, rest) = PutSecretValueMembers::read_front(alloc, bytes)?;
+    fn read_front(
+        alloc: Global,
+        edition: Edition,
+        bytes: &[u8],
+    ) -> Result<(PutSecretValue, &[u8]), Unread> {
+        let (members, rest) = PutSecretValueMembers::read_front(alloc, edition, bytes)?;
         let (client_request_token, (secret_binary, (secret_id, (secret_string, version_stages)))) =
             members;
         Ok((
@@ -194,12 +240,12 @@ impl Field for PutSecretValue {
     }
 
     #[tactic(auto, using(std::proofs::lemmas::List::append_assoc, std::proofs::lemmas::Bool::and_parts), unfolding(crate::specs::Requests::put_secret_value))]
-    fn put(&self, out: &mut Vec<u8>) -> Result<(), NoMemory> {
-        self.client_request_token.put(out)?;
-        self.secret_binary.put(out)?;
-        self.secret_id.put(out)?;
-        self.secret_string.put(out)?;
-        self.version_stages.put(out)?;
+    fn put(&self, edition: Edition, out: &mut Vec<u8>) -> Result<(), NoMemory> {
+        self.client_request_token.put(edition, out)?;
+        self.secret_binary.put(edition, out)?;
+        self.secret_id.put(edition, out)?;
+        self.secret_string.put(edition, out)?;
+        self.version_stages.put(edition, out)?;
         Ok(())
     }
 }
@@ -211,16 +257,20 @@ impl Field for RotateSecret {
     ghost codec = { rotate_secret };
 
     #[tactic(auto, unfolding(crate::specs::Requests::rotate_secret))]
-    fn fits(&self) -> bool {
-        self.client_request_token.fits()
-            && (self.rotate_immediately.fits()
-                && (self.rotation_lambda_arn.fits()
-                    && (self.rotation_rules.fits() && self.secret_id.fits())))
+    fn fits(&self, edition: Edition) -> bool {
+        self.client_request_token.fits(edition)
+            && (self.rotate_immediately.fits(edition)
+                && (self.rotation_lambda_arn.fits(edition)
+                    && (self.rotation_rules.fits(edition) && self.secret_id.fits(edition))))
     }
 
     #[tactic(auto, unfolding(crate::specs::Requests::rotate_secret))]
-    fn read_front(alloc: Global, bytes: &[u8]) -> Result<(RotateSecret, &[u8]), Unread> {
-        let (members, rest) = RotateSecretMembers::read_front(alloc, bytes)?;
+    fn read_front(
+        alloc: Global,
+        edition: Edition,
+        bytes: &[u8],
+    ) -> Result<(RotateSecret, &[u8]), Unread> {
+        let (members, rest) = RotateSecretMembers::read_front(alloc, edition, bytes)?;
         let (
             client_request_token,
             (rotate_immediately, (rotation_lambda_arn, (rotation_rules, secret_id))),
@@ -238,49 +288,85 @@ impl Field for RotateSecret {
     }
 
     #[tactic(auto, using(std::proofs::lemmas::List::append_assoc, std::proofs::lemmas::Bool::and_parts), unfolding(crate::specs::Requests::rotate_secret))]
-    fn put(&self, out: &mut Vec<u8>) -> Result<(), NoMemory> {
-        self.client_request_token.put(out)?;
-        self.rotate_immediately.put(out)?;
-        self.rotation_lambda_arn.put(out)?;
-        self.rotation_rules.put(out)?;
-        self.secret_id.put(out)?;
+    fn put(&self, edition: Edition, out: &mut Vec<u8>) -> Result<(), NoMemory> {
+        self.client_request_token.put(edition, out)?;
+        self.rotate_immediately.put(edition, out)?;
+        self.rotation_lambda_arn.put(edition, out)?;
+        self.rotation_rules.put(edition, out)?;
+        self.secret_id.put(edition, out)?;
+        Ok(())
+    }
+}
+
+impl Field for RegionsOfSecret {
+    ghost codec = { λ _. regions_of_secret };
+
+    #[tactic(auto, unfolding(crate::specs::Requests::regions_of_secret))]
+    fn fits(&self, edition: Edition) -> bool {
+        self.regions.fits(edition) && self.secret_id.fits(edition)
+    }
+
+    #[tactic(auto, unfolding(crate::specs::Requests::regions_of_secret))]
+    fn read_front(
+        alloc: Global,
+        edition: Edition,
+        bytes: &[u8],
+    ) -> Result<(RegionsOfSecret, &[u8]), Unread> {
+        let ((regions, secret_id), rest) = <(List<Text>, Text)>::read_front(alloc, edition, bytes)?;
+        Ok((RegionsOfSecret { regions, secret_id }, rest))
+    }
+
+    #[tactic(auto, using(std::proofs::lemmas::List::append_assoc, std::proofs::lemmas::Bool::and_parts), unfolding(crate::specs::Requests::regions_of_secret))]
+    fn put(&self, edition: Edition, out: &mut Vec<u8>) -> Result<(), NoMemory> {
+        self.regions.put(edition, out)?;
+        self.secret_id.put(edition, out)?;
         Ok(())
     }
 }
 
 impl Field for TagResource {
-    ghost codec = { tag_resource };
+    ghost codec = { λ _. tag_resource };
 
     #[tactic(auto, unfolding(crate::specs::Requests::tag_resource))]
-    fn fits(&self) -> bool {
-        self.secret_id.fits() && self.tags.fits()
+    fn fits(&self, edition: Edition) -> bool {
+        self.secret_id.fits(edition) && self.tags.fits(edition)
     }
 
     #[tactic(auto, unfolding(crate::specs::Requests::tag_resource))]
-    fn read_front(alloc: Global, bytes: &[u8]) -> Result<(TagResource, &[u8]), Unread> {
-        let ((secret_id, tags), rest) = <(Text, List<Tag>)>::read_front(alloc, bytes)?;
+    fn read_front(
+        alloc: Global,
+        edition: Edition,
+        bytes: &[u8],
+    ) -> Result<(TagResource, &[u8]), Unread> {
+        let ((secret_id, tags), rest) = <(Text, List<Tag>)>::read_front(alloc, edition, bytes)?;
         Ok((TagResource { secret_id, tags }, rest))
     }
 
     #[tactic(auto, using(std::proofs::lemmas::List::append_assoc, std::proofs::lemmas::Bool::and_parts), unfolding(crate::specs::Requests::tag_resource))]
-    fn put(&self, out: &mut Vec<u8>) -> Result<(), NoMemory> {
-        self.secret_id.put(out)?;
-        self.tags.put(out)?;
+    fn put(&self, edition: Edition, out: &mut Vec<u8>) -> Result<(), NoMemory> {
+        self.secret_id.put(edition, out)?;
+        self.tags.put(edition, out)?;
         Ok(())
     }
 }
 
 impl Field for UntagResource {
-    ghost codec = { untag_resource };
+    ghost codec = { λ _. untag_resource };
 
     #[tactic(auto, unfolding(crate::specs::Requests::untag_resource))]
-    fn fits(&self) -> bool {
-        self.secret_id.fits() && self.tag_keys.fits()
+    fn fits(&self, edition: Edition) -> bool {
+        self.secret_id.fits(edition) && self.tag_keys.fits(edition)
     }
 
     #[tactic(auto, unfolding(crate::specs::Requests::untag_resource))]
-    fn read_front(alloc: Global, bytes: &[u8]) -> Result<(UntagResource, &[u8]), Unread> {
-        let ((secret_id, tag_keys), rest) = <(Text, List<Text>)>::read_front(alloc, bytes)?;
+    fn read_front(
+        alloc: Global,
+        edition: Edition,
+        bytes: &[u8],
+    ) -> Result<(UntagResource, &[u8]), Unread> {
+        let ((secret_id, tag_keys), rest) = <(Text, List<Text>)>::read_front(
+            alloc, edition, bytes,
+        )?;
         Ok((
             UntagResource {
                 secret_id,
@@ -291,9 +377,9 @@ impl Field for UntagResource {
     }
 
     #[tactic(auto, using(std::proofs::lemmas::List::append_assoc, std::proofs::lemmas::Bool::and_parts), unfolding(crate::specs::Requests::untag_resource))]
-    fn put(&self, out: &mut Vec<u8>) -> Result<(), NoMemory> {
-        self.secret_id.put(out)?;
-        self.tag_keys.put(out)?;
+    fn put(&self, edition: Edition, out: &mut Vec<u8>) -> Result<(), NoMemory> {
+        self.secret_id.put(edition, out)?;
+        self.tag_keys.put(edition, out)?;
         Ok(())
     }
 }
@@ -308,20 +394,24 @@ type UpdateSecretMembers = (
 );
 
 impl Field for UpdateSecret {
-    ghost codec = { update_secret };
+    ghost codec = { λ _. update_secret };
 
     #[tactic(auto, unfolding(crate::specs::Requests::update_secret))]
-    fn fits(&self) -> bool {
-        self.client_request_token.fits()
-            && (self.description.fits()
-                && (self.kms_key_id.fits()
-                    && (self.secret_binary.fits()
-                        && (self.secret_id.fits() && self.secret_string.fits()))))
+    fn fits(&self, edition: Edition) -> bool {
+        self.client_request_token.fits(edition)
+            && (self.description.fits(edition)
+                && (self.kms_key_id.fits(edition)
+                    && (self.secret_binary.fits(edition)
+                        && (self.secret_id.fits(edition) && self.secret_string.fits(edition)))))
     }
 
     #[tactic(auto, unfolding(crate::specs::Requests::update_secret))]
-    fn read_front(alloc: Global, bytes: &[u8]) -> Result<(UpdateSecret, &[u8]), Unread> {
-        let (members, rest) = UpdateSecretMembers::read_front(alloc, bytes)?;
+    fn read_front(
+        alloc: Global,
+        edition: Edition,
+        bytes: &[u8],
+    ) -> Result<(UpdateSecret, &[u8]), Unread> {
+        let (members, rest) = UpdateSecretMembers::read_front(alloc, edition, bytes)?;
         let (
             client_request_token,
             (description, (kms_key_id, (secret_binary, (secret_id, secret_string)))),
@@ -340,13 +430,13 @@ impl Field for UpdateSecret {
     }
 
     #[tactic(auto, using(std::proofs::lemmas::List::append_assoc, std::proofs::lemmas::Bool::and_parts), unfolding(crate::specs::Requests::update_secret))]
-    fn put(&self, out: &mut Vec<u8>) -> Result<(), NoMemory> {
-        self.client_request_token.put(out)?;
-        self.description.put(out)?;
-        self.kms_key_id.put(out)?;
-        self.secret_binary.put(out)?;
-        self.secret_id.put(out)?;
-        self.secret_string.put(out)?;
+    fn put(&self, edition: Edition, out: &mut Vec<u8>) -> Result<(), NoMemory> {
+        self.client_request_token.put(edition, out)?;
+        self.description.put(edition, out)?;
+        self.kms_key_id.put(edition, out)?;
+        self.secret_binary.put(edition, out)?;
+        self.secret_id.put(edition, out)?;
+        self.secret_string.put(edition, out)?;
         Ok(())
     }
 }
@@ -355,21 +445,22 @@ impl Field for UpdateSecret {
 type UpdateSecretVersionStageMembers = (Option<Text>, (Option<Text>, (Text, Text)));
 
 impl Field for UpdateSecretVersionStage {
-    ghost codec = { update_secret_version_stage };
+    ghost codec = { λ _. update_secret_version_stage };
 
     #[tactic(auto, unfolding(crate::specs::Requests::update_secret_version_stage))]
-    fn fits(&self) -> bool {
-        self.move_to_version_id.fits()
-            && (self.remove_from_version_id.fits()
-                && (self.secret_id.fits() && self.version_stage.fits()))
+    fn fits(&self, edition: Edition) -> bool {
+        self.move_to_version_id.fits(edition)
+            && (self.remove_from_version_id.fits(edition)
+                && (self.secret_id.fits(edition) && self.version_stage.fits(edition)))
     }
 
     #[tactic(auto, unfolding(crate::specs::Requests::update_secret_version_stage))]
     fn read_front(
         alloc: Global,
+        edition: Edition,
         bytes: &[u8],
     ) -> Result<(UpdateSecretVersionStage, &[u8]), Unread> {
-        let (members, rest) = UpdateSecretVersionStageMembers::read_front(alloc, bytes)?;
+        let (members, rest) = UpdateSecretVersionStageMembers::read_front(alloc, edition, bytes)?;
         let (move_to_version_id, (remove_from_version_id, (secret_id, version_stage))) = members;
         Ok((
             UpdateSecretVersionStage {
@@ -383,11 +474,11 @@ impl Field for UpdateSecretVersionStage {
     }
 
     #[tactic(auto, using(std::proofs::lemmas::List::append_assoc, std::proofs::lemmas::Bool::and_parts), unfolding(crate::specs::Requests::update_secret_version_stage))]
-    fn put(&self, out: &mut Vec<u8>) -> Result<(), NoMemory> {
-        self.move_to_version_id.put(out)?;
-        self.remove_from_version_id.put(out)?;
-        self.secret_id.put(out)?;
-        self.version_stage.put(out)?;
+    fn put(&self, edition: Edition, out: &mut Vec<u8>) -> Result<(), NoMemory> {
+        self.move_to_version_id.put(edition, out)?;
+        self.remove_from_version_id.put(edition, out)?;
+        self.secret_id.put(edition, out)?;
+        self.version_stage.put(edition, out)?;
         Ok(())
     }
 }

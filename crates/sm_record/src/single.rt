@@ -5,9 +5,10 @@ ghost use Rattle.sm_record.specs.Codec.{read_byte};
 ghost use Rattle.sm_record.specs.Fields.{truth, truth_of_byte, byte_of_truth, stage, stage_of_byte, byte_of_stage, attempt, attempt_of_byte};
 ghost use Rattle.sm_record.specs.Reading.{Gives};
 
+use crate::edition::Edition;
 use crate::field::Field;
 use crate::unread::Unread;
-use sm_model::limits::ATTEMPTS_LIMIT;
+use sm_base::limits::ATTEMPTS_LIMIT;
 use sm_model::{NoMemory, Stage};
 use std::alloc::Global;
 
@@ -38,15 +39,19 @@ fn byte_of_truth(truth: bool) -> u8
 }
 
 impl Field for bool {
-    ghost codec = { truth };
+    ghost codec = { λ _. truth };
 
     #[tactic(auto, using(crate::proofs::FitLemmas::truth_fits), unfolding(crate::specs::Fields::truth))]
-    fn fits(&self) -> bool {
+    fn fits(&self, _edition: Edition) -> bool {
         true
     }
 
     #[tactic(auto, unfolding(crate::specs::Fields::truth))]
-    fn read_front(_alloc: Global, bytes: &[u8]) -> Result<(bool, &[u8]), Unread> {
+    fn read_front(
+        _alloc: Global,
+        _edition: Edition,
+        bytes: &[u8],
+    ) -> Result<(bool, &[u8]), Unread> {
         let (byte, rest) = byte_at(bytes)?;
         match truth_of_byte(byte) {
             Some(truth) => Ok((truth, rest)),
@@ -55,7 +60,7 @@ impl Field for bool {
     }
 
     #[tactic(auto, unfolding(crate::specs::Fields::truth))]
-    fn put(&self, out: &mut Vec<u8>) -> Result<(), NoMemory> {
+    fn put(&self, _edition: Edition, out: &mut Vec<u8>) -> Result<(), NoMemory> {
         out.push(byte_of_truth(*self))?;
         Ok(())
     }
@@ -85,15 +90,19 @@ fn byte_of_stage(step: Stage) -> u8
 }
 
 impl Field for Stage {
-    ghost codec = { stage };
+    ghost codec = { λ _. stage };
 
     #[tactic(auto, using(crate::proofs::FitLemmas::stage_fits), unfolding(crate::specs::Fields::stage))]
-    fn fits(&self) -> bool {
+    fn fits(&self, _edition: Edition) -> bool {
         true
     }
 
     #[tactic(auto, unfolding(crate::specs::Fields::stage))]
-    fn read_front(_alloc: Global, bytes: &[u8]) -> Result<(Stage, &[u8]), Unread> {
+    fn read_front(
+        _alloc: Global,
+        _edition: Edition,
+        bytes: &[u8],
+    ) -> Result<(Stage, &[u8]), Unread> {
         let (byte, rest) = byte_at(bytes)?;
         match stage_of_byte(byte) {
             Some(step) => Ok((step, rest)),
@@ -102,7 +111,7 @@ impl Field for Stage {
     }
 
     #[tactic(auto, unfolding(crate::specs::Fields::stage))]
-    fn put(&self, out: &mut Vec<u8>) -> Result<(), NoMemory> {
+    fn put(&self, _edition: Edition, out: &mut Vec<u8>) -> Result<(), NoMemory> {
         out.push(byte_of_stage(*self))?;
         Ok(())
     }

@@ -3,6 +3,7 @@ ghost use Rattle.std.specs.Prelude.{◌≡◌, ◌++◌, IsTrue, OnOk};
 ghost use Rattle.sm_record.specs.Fields.{octets, text, arn, token};
 ghost use Rattle.sm_record.specs.Reading.{Gives};
 
+use crate::edition::Edition;
 use crate::field::Field;
 use crate::numbers::{count_at, count_fits, put_count};
 use crate::unread::Unread;
@@ -43,33 +44,37 @@ fn put_octets(out: &mut Vec<u8>, bytes: &[u8]) -> Result<(), NoMemory>
 }
 
 impl Field for Bytes {
-    ghost codec = { octets };
+    ghost codec = { λ _. octets };
 
-    fn fits(&self) -> bool {
+    fn fits(&self, _edition: Edition) -> bool {
         octets_fit(self.as_slice())
     }
 
-    fn read_front(alloc: Global, bytes: &[u8]) -> Result<(Bytes, &[u8]), Unread> {
+    fn read_front(
+        alloc: Global,
+        _edition: Edition,
+        bytes: &[u8],
+    ) -> Result<(Bytes, &[u8]), Unread> {
         let (octets, rest) = octets_at(bytes)?;
         Ok((Bytes::from_slice(alloc, octets)?, rest))
     }
 
-    fn put(&self, out: &mut Vec<u8>) -> Result<(), NoMemory> {
+    fn put(&self, _edition: Edition, out: &mut Vec<u8>) -> Result<(), NoMemory> {
         put_octets(out, self.as_slice())?;
         Ok(())
     }
 }
 
 impl Field for Text {
-    ghost codec = { text };
+    ghost codec = { λ _. text };
 
     #[tactic(auto, using(crate::proofs::ReadingLemmas::utf8_passes), unfolding(crate::specs::Fields::text))]
-    fn fits(&self) -> bool {
+    fn fits(&self, _edition: Edition) -> bool {
         octets_fit(self.as_bytes())
     }
 
     #[tactic(auto, using(crate::proofs::ReadingLemmas::utf8_passes, crate::proofs::ReadingLemmas::utf8_fails), unfolding(crate::specs::Fields::text))]
-    fn read_front(alloc: Global, bytes: &[u8]) -> Result<(Text, &[u8]), Unread> {
+    fn read_front(alloc: Global, _edition: Edition, bytes: &[u8]) -> Result<(Text, &[u8]), Unread> {
         let (octets, rest) = octets_at(bytes)?;
         match str::from_utf8(octets) {
             Ok(text) => Ok((Text::from_str(alloc, text)?, rest)),
@@ -78,22 +83,22 @@ impl Field for Text {
     }
 
     #[tactic(auto, unfolding(crate::specs::Fields::text))]
-    fn put(&self, out: &mut Vec<u8>) -> Result<(), NoMemory> {
+    fn put(&self, _edition: Edition, out: &mut Vec<u8>) -> Result<(), NoMemory> {
         put_octets(out, self.as_bytes())?;
         Ok(())
     }
 }
 
 impl Field for Arn {
-    ghost codec = { arn };
+    ghost codec = { λ _. arn };
 
     #[tactic(auto, unfolding(crate::specs::Fields::arn))]
-    fn fits(&self) -> bool {
+    fn fits(&self, _edition: Edition) -> bool {
         octets_fit(self.as_text().as_bytes())
     }
 
     #[tactic(auto, using(crate::proofs::ReadingLemmas::fault_fails), unfolding(crate::specs::Fields::arn))]
-    fn read_front(alloc: Global, bytes: &[u8]) -> Result<(Arn, &[u8]), Unread> {
+    fn read_front(alloc: Global, _edition: Edition, bytes: &[u8]) -> Result<(Arn, &[u8]), Unread> {
         let (octets, rest) = octets_at(bytes)?;
         match Arn::read(alloc, octets) {
             Ok(arn) => Ok((arn, rest)),
@@ -103,22 +108,26 @@ impl Field for Arn {
     }
 
     #[tactic(auto, unfolding(crate::specs::Fields::arn))]
-    fn put(&self, out: &mut Vec<u8>) -> Result<(), NoMemory> {
+    fn put(&self, _edition: Edition, out: &mut Vec<u8>) -> Result<(), NoMemory> {
         put_octets(out, self.as_text().as_bytes())?;
         Ok(())
     }
 }
 
 impl Field for Token {
-    ghost codec = { token };
+    ghost codec = { λ _. token };
 
     #[tactic(auto, unfolding(crate::specs::Fields::token))]
-    fn fits(&self) -> bool {
+    fn fits(&self, _edition: Edition) -> bool {
         octets_fit(self.as_text().as_bytes())
     }
 
     #[tactic(auto, using(crate::proofs::ReadingLemmas::fault_fails), unfolding(crate::specs::Fields::token))]
-    fn read_front(alloc: Global, bytes: &[u8]) -> Result<(Token, &[u8]), Unread> {
+    fn read_front(
+        alloc: Global,
+        _edition: Edition,
+        bytes: &[u8],
+    ) -> Result<(Token, &[u8]), Unread> {
         let (octets, rest) = octets_at(bytes)?;
         match Token::read(alloc, octets) {
             Ok(token) => Ok((token, rest)),
@@ -128,7 +137,7 @@ impl Field for Token {
     }
 
     #[tactic(auto, unfolding(crate::specs::Fields::token))]
-    fn put(&self, out: &mut Vec<u8>) -> Result<(), NoMemory> {
+    fn put(&self, _edition: Edition, out: &mut Vec<u8>) -> Result<(), NoMemory> {
         put_octets(out, self.as_text().as_bytes())?;
         Ok(())
     }

@@ -2,33 +2,35 @@
 ghost use Rattle.sm_record.specs.Fields.{value, tag, rotation_rules};
 ghost use Rattle.sm_record.specs.Entries.{answer, at};
 
+use crate::edition::Edition;
 use crate::field::Field;
+use crate::since::{put_since, since_at, since_fits};
 use crate::single::{attempt_at, attempt_fits, byte_at, put_attempt};
 use crate::unread::Unread;
 use sm_model::{Answer, At, Bytes, NoMemory, Rules, Stage, Tag, Text, Token, Value};
 use std::alloc::Global;
 
 impl Field for Value {
-    ghost codec = { value };
+    ghost codec = { λ _. value };
 
     #[tactic(auto, unfolding(crate::specs::Fields::value))]
-    fn fits(&self) -> bool {
+    fn fits(&self, edition: Edition) -> bool {
         match self {
-            Value::Text(text) => text.fits(),
-            Value::Bytes(octets) => octets.fits(),
+            Value::Text(text) => text.fits(edition),
+            Value::Bytes(octets) => octets.fits(edition),
         }
     }
 
     #[tactic(auto, unfolding(crate::specs::Fields::value))]
-    fn read_front(alloc: Global, bytes: &[u8]) -> Result<(Value, &[u8]), Unread> {
+    fn read_front(alloc: Global, edition: Edition, bytes: &[u8]) -> Result<(Value, &[u8]), Unread> {
         let (kind, rest) = byte_at(bytes)?;
         match kind {
             1 => {
-                let (text, behind) = Text::read_front(alloc, rest)?;
+                let (text, behind) = Text::read_front(alloc, edition, rest)?;
                 Ok((Value::Text(text), behind))
             }
             2 => {
-                let (octets, behind) = Bytes::read_front(alloc, rest)?;
+                let (octets, behind) = Bytes::read_front(alloc, edition, rest)?;
                 Ok((Value::Bytes(octets), behind))
             }
             _ => Err(Unread::Left(rest.len() + 1)),
@@ -36,16 +38,16 @@ impl Field for Value {
     }
 
     #[tactic(auto, using(std::proofs::lemmas::List::append_assoc), unfolding(crate::specs::Fields::value))]
-    fn put(&self, out: &mut Vec<u8>) -> Result<(), NoMemory> {
+    fn put(&self, edition: Edition, out: &mut Vec<u8>) -> Result<(), NoMemory> {
         match self {
             Value::Text(text) => {
                 out.push(1)?;
-                text.put(out)?;
+                text.put(edition, out)?;
                 Ok(())
             }
             Value::Bytes(octets) => {
                 out.push(2)?;
-                octets.put(out)?;
+                octets.put(edition, out)?;
                 Ok(())
             }
         }
@@ -53,23 +55,23 @@ impl Field for Value {
 }
 
 impl Field for Tag {
-    ghost codec = { tag };
+    ghost codec = { λ _. tag };
 
     #[tactic(auto, unfolding(crate::specs::Fields::tag))]
-    fn fits(&self) -> bool {
-        self.key.fits() && self.value.fits()
+    fn fits(&self, edition: Edition) -> bool {
+        self.key.fits(edition) && self.value.fits(edition)
     }
 
     #[tactic(auto, unfolding(crate::specs::Fields::tag))]
-    fn read_front(alloc: Global, bytes: &[u8]) -> Result<(Tag, &[u8]), Unread> {
-        let ((key, value), rest) = <(Text, Text)>::read_front(alloc, bytes)?;
+    fn read_front(alloc: Global, edition: Edition, bytes: &[u8]) -> Result<(Tag, &[u8]), Unread> {
+        let ((key, value), rest) = <(Text, Text)>::read_front(alloc, edition, bytes)?;
         Ok((Tag { key, value }, rest))
     }
 
     #[tactic(auto, using(std::proofs::lemmas::List::append_assoc, std::proofs::lemmas::Bool::and_parts), unfolding(crate::specs::Fields::tag))]
-    fn put(&self, out: &mut Vec<u8>) -> Result<(), NoMemory> {
-        self.key.put(out)?;
-        self.value.put(out)?;
+    fn put(&self, edition: Edition, out: &mut Vec<u8>) -> Result<(), NoMemory> {
+        self.key.put(edition, out)?;
+        self.value.put(edition, out)?;
         Ok(())
     }
 }
@@ -78,35 +80,37 @@ impl Field for Rules {
     ghost codec = { rotation_rules };
 
     #[tactic(auto, unfolding(crate::specs::Fields::rotation_rules))]
-    fn fits(&self) -> bool {
-        self.days.fits()
+    fn fits(&self, edition: Edition) -> bool {
+        self.days.fits(edition) && since_fits(edition, &self.schedule)
     }
 
     #[tactic(auto, unfolding(crate::specs::Fields::rotation_rules))]
-    fn read_front(alloc: Global, bytes: &[u8]) -> Result<(Rules, &[u8]), Unread> {
-        let (days, rest) = <Option<i64>>::read_front(alloc, bytes)?;
-        Ok((Rules { days }, rest))
+    fn read_front(alloc: Global, edition: Edition, bytes: &[u8]) -> Result<(Rules, &[u8]), Unread> {
+        let (days, rest) = <Option<i64>>::read_front(alloc, edition, bytes)?;
+        let (schedule, behind) = since_at::<Option<Text>>(alloc, edition, rest)?;
+        Ok((Rules { days, schedule }, behind))
     }
 
-    #[tactic(auto, unfolding(crate::specs::Fields::rotation_rules))]
-    fn put(&self, out: &mut Vec<u8>) -> Result<(), NoMemory> {
-        self.days.put(out)?;
+    #[tactic(auto, using(std::proofs::lemmas::List::append_assoc, std::proofs::lemmas::Bool::and_parts), unfolding(crate::specs::Fields::rotation_rules))]
+    fn put(&self, edition: Edition, out: &mut Vec<u8>) -> Result<(), NoMemory> {
+        self.days.put(edition, out)?;
+        put_since(edition, out, &self.schedule)?;
         Ok(())
     }
 }
 
 impl Field for At {
-    ghost codec = { at };
+    ghost codec = { λ _. at };
 
     #[tactic(auto, unfolding(crate::specs::Entries::at))]
-    fn fits(&self) -> bool {
-        self.token.fits() && (self.stage.fits() && attempt_fits(self.attempt))
+    fn fits(&self, edition: Edition) -> bool {
+        self.token.fits(edition) && (self.stage.fits(edition) && attempt_fits(self.attempt))
     }
 
     #[tactic(auto, unfolding(crate::specs::Entries::at))]
-    fn read_front(alloc: Global, bytes: &[u8]) -> Result<(At, &[u8]), Unread> {
-        let (token, rest) = Token::read_front(alloc, bytes)?;
-        let (stage, behind) = Stage::read_front(alloc, rest)?;
+    fn read_front(alloc: Global, edition: Edition, bytes: &[u8]) -> Result<(At, &[u8]), Unread> {
+        let (token, rest) = Token::read_front(alloc, edition, bytes)?;
+        let (stage, behind) = Stage::read_front(alloc, edition, rest)?;
         let (attempt, after) = attempt_at(behind)?;
         Ok((
             At {
@@ -119,31 +123,35 @@ impl Field for At {
     }
 
     #[tactic(auto, using(std::proofs::lemmas::List::append_assoc, std::proofs::lemmas::Bool::and_parts), unfolding(crate::specs::Entries::at))]
-    fn put(&self, out: &mut Vec<u8>) -> Result<(), NoMemory> {
-        self.token.put(out)?;
-        self.stage.put(out)?;
+    fn put(&self, edition: Edition, out: &mut Vec<u8>) -> Result<(), NoMemory> {
+        self.token.put(edition, out)?;
+        self.stage.put(edition, out)?;
         put_attempt(out, self.attempt)?;
         Ok(())
     }
 }
 
 impl Field for Answer {
-    ghost codec = { answer };
+    ghost codec = { λ _. answer };
 
     #[tactic(auto, unfolding(crate::specs::Entries::answer))]
-    fn fits(&self) -> bool {
+    fn fits(&self, edition: Edition) -> bool {
         match self {
-            Answer::Value(value) => value.fits(),
+            Answer::Value(value) => value.fits(edition),
             Answer::Yes | Answer::No | Answer::Failed => true,
         }
     }
 
     #[tactic(auto, unfolding(crate::specs::Entries::answer))]
-    fn read_front(alloc: Global, bytes: &[u8]) -> Result<(Answer, &[u8]), Unread> {
+    fn read_front(
+        alloc: Global,
+        edition: Edition,
+        bytes: &[u8],
+    ) -> Result<(Answer, &[u8]), Unread> {
         let (kind, rest) = byte_at(bytes)?;
         match kind {
             1 => {
-                let (value, behind) = Value::read_front(alloc, rest)?;
+                let (value, behind) = Value::read_front(alloc, edition, rest)?;
                 Ok((Answer::Value(value), behind))
             }
             2 => Ok((Answer::Yes, rest)),
@@ -154,11 +162,11 @@ impl Field for Answer {
     }
 
     #[tactic(auto, using(std::proofs::lemmas::List::append_assoc), unfolding(crate::specs::Entries::answer))]
-    fn put(&self, out: &mut Vec<u8>) -> Result<(), NoMemory> {
+    fn put(&self, edition: Edition, out: &mut Vec<u8>) -> Result<(), NoMemory> {
         match self {
             Answer::Value(value) => {
                 out.push(1)?;
-                value.put(out)?;
+                value.put(edition, out)?;
                 Ok(())
             }
             Answer::Yes => {

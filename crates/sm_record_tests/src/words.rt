@@ -1,7 +1,7 @@
 //! What an entry says, as text.
 use sm_model::{
     Act, Answer, At, Bytes, CreateSecret, DeleteSecret, Entry, List, NoMemory, PutResourcePolicy,
-    PutSecretValue, Request, RotateSecret, Stage, Tag, Text, UpdateSecret,
+    PutSecretValue, RegionsOfSecret, Request, RotateSecret, Rules, Stage, Tag, Text, UpdateSecret,
     UpdateSecretVersionStage, Value,
 };
 use std::alloc::Global;
@@ -86,6 +86,7 @@ impl Words {
 
     fn create(&mut self, create: &CreateSecret) -> Result<(), NoMemory> {
         self.word(b"CreateSecret")?;
+        self.texts(&create.regions)?;
         self.optional(&create.client_request_token)?;
         self.optional(&create.description)?;
         self.optional(&create.kms_key_id)?;
@@ -123,10 +124,7 @@ impl Words {
     fn delete(&mut self, delete: &DeleteSecret) -> Result<(), Fail> {
         self.word(b"DeleteSecret")?;
         self.truth(delete.force_delete_without_recovery)?;
-        match delete.recovery_window_in_days {
-            Some(days) => self.number(days)?,
-            None => self.word(b"-")?,
-        }
+        self.days(delete.recovery_window_in_days)?;
         self.word(delete.secret_id.as_bytes())?;
         Ok(())
     }
@@ -146,19 +144,29 @@ impl Words {
         self.word(put.secret_id.as_bytes())
     }
 
+    fn days(&mut self, days: Option<i64>) -> Result<(), Fail> {
+        match days {
+            Some(days) => self.number(days)?,
+            None => self.word(b"-")?,
+        }
+        Ok(())
+    }
+
+    fn rules(&mut self, rules: &Rules) -> Result<(), Fail> {
+        self.word(b"(")?;
+        self.days(rules.days)?;
+        self.optional(&rules.schedule)?;
+        self.word(b")")?;
+        Ok(())
+    }
+
     fn rotate(&mut self, rotate: &RotateSecret) -> Result<(), Fail> {
         self.word(b"RotateSecret")?;
         self.optional(&rotate.client_request_token)?;
         self.truth(rotate.rotate_immediately)?;
         self.optional(&rotate.rotation_lambda_arn)?;
         match &rotate.rotation_rules {
-            Some(rules) => match rules.days {
-                Some(days) => {
-                    let inside = format!(in self.alloc; "({days})")?;
-                    self.word(inside.as_bytes())?;
-                }
-                None => self.word(b"()")?,
-            },
+            Some(rules) => self.rules(rules)?,
             None => self.word(b"-")?,
         }
         self.word(rotate.secret_id.as_bytes())?;
@@ -168,6 +176,12 @@ impl Words {
     fn named(&mut self, operation: &[u8], secret_id: &Text) -> Result<(), NoMemory> {
         self.word(operation)?;
         self.word(secret_id.as_bytes())
+    }
+
+    fn regions(&mut self, operation: &[u8], of: &RegionsOfSecret) -> Result<(), NoMemory> {
+        self.word(operation)?;
+        self.texts(&of.regions)?;
+        self.word(of.secret_id.as_bytes())
     }
 
     fn request(&mut self, request: &Request) -> Result<(), Fail> {
@@ -192,6 +206,10 @@ impl Words {
             }
             Request::RotateSecret(rotate) => self.rotate(rotate)?,
             Request::CancelRotateSecret(of) => self.named(b"CancelRotateSecret", &of.secret_id)?,
+            Request::ReplicateSecretToRegions(of) => self.regions(b"ReplicateSecretToRegions", of)?,
+            Request::RemoveRegionsFromReplication(of) => {
+                self.regions(b"RemoveRegionsFromReplication", of)?;
+            }
             _ => self.word(b"another request")?,
         }
         Ok(())
@@ -241,8 +259,12 @@ pub fn words_of(alloc: Global, entry: &Entry) -> Result<Vec<u8>, Fail> {
     let moment = format!(in alloc; "{}", entry.moment.0)?;
     words.word(moment.as_bytes())?;
     words.word(entry.caller.as_bytes())?;
+    words.word(entry.by.as_bytes())?;
     words.digits(&entry.drawn)?;
     words.act(&entry.act)?;
+    if entry.prunes {
+        words.word(b"prunes")?;
+    }
     let Words { alloc: _, out } = words;
     Ok(out)
 }

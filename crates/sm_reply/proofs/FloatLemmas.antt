@@ -10,11 +10,12 @@ use Rattle.sm_model.specs.declared.reply.Described.{Described}
 use Rattle.sm_model.specs.declared.reply.GotSecret.{GotSecret}
 use Rattle.sm_model.specs.declared.reply.Reply.{Reply}
 use Rattle.sm_model.specs.declared.reply.Reply.TheVariants as replies
+use Rattle.sm_model.specs.declared.reply.ReplicationStatus.{ReplicationStatus}
 use Rattle.sm_model.specs.declared.reply.RulesShown.{RulesShown}
 use Rattle.sm_model.specs.declared.reply.Staged.{Staged}
 use Rattle.sm_model.specs.declared.reply.VersionItem.{VersionItem}
 use Rattle.sm_reply.specs.Members.{Given, items_of, members_of}
-use Rattle.sm_reply.specs.Shown.{binary, date, count, labels_shown, batch_error_object, got_members, got_object, rules_members, rules_object, tag_object, put_versions, first_members, middle_members, rotation_members, described_end, described_members, listed_end, listed_members, listed_object, version_members, version_object, fault_object, reply_members}
+use Rattle.sm_reply.specs.Shown.{binary, date, count, labels_shown, replication_object, replication_shown, batch_error_object, got_members, got_object, rules_members, rules_object, tag_object, put_versions, first_members, middle_members, rotation_members, described_end, described_members, listed_end, listed_members, listed_object, version_members, version_object, fault_object, reply_members}
 
 -- the value has no float
 abbrev Plain : Data → Type 0
@@ -85,6 +86,12 @@ versions_plain (version ∷ versions) members all =
     versions_plain versions (put version.id (labels_shown version.labels) members)
     (put_plain version.id (labels_shown version.labels) members (labels_plain version.labels) all)
 
+replicas_plain : (regions : List ReplicationStatus) → Plain (replication_shown regions)
+replicas_plain regions = items_plain replication_object (λ _. refl) regions
+
+replicas_if_plain : (regions : Option (List ReplicationStatus)) → IfPlain (option_map replication_shown regions)
+replicas_if_plain regions = if_plain replication_shown replicas_plain regions
+
 binary_plain : (bytes : List ℕ) → Plain (binary bytes)
 binary_plain bytes = refl
 
@@ -110,7 +117,8 @@ count_plain : (n : ℕ) → Plain (count n)
 count_plain n = refl
 
 rules_plain : (rules : RulesShown) → Plain (rules_object rules)
-rules_plain rules = members_plain (rules_members rules) (if_plain count count_plain rules.days, tt)
+rules_plain rules = members_plain (rules_members rules)
+    (if_plain count count_plain rules.days, (text_if_plain rules.schedule, tt))
 
 version_plain : (version : VersionItem) → Plain (version_object version)
 version_plain version = members_plain (version_members version)
@@ -134,8 +142,13 @@ first_plain reply = (
 )
 
 middle_plain : (reply : Described) → AllPlain (middle_members reply)
-middle_plain reply =
-    (refl, (date_if_plain reply.last_rotated_date, (refl, (date_if_plain reply.next_rotation_date, tt))))
+middle_plain reply = (
+  refl,
+  (
+    date_if_plain reply.last_rotated_date,
+    (refl, (date_if_plain reply.next_rotation_date, (replicas_if_plain reply.replication_status, tt))),
+  ),
+)
 
 rotation_plain : (reply : Described) → AllPlain (rotation_members reply)
 rotation_plain reply =
@@ -174,7 +187,8 @@ reply_plain (replies.BatchGetSecretValue r) = (
   (text_if_plain r.next_token, (items_plain got_object got_object_plain r.secret_values, tt)),
 )
 reply_plain (replies.CancelRotateSecret r) = (refl, (refl, (text_if_plain r.version_id, tt)))
-reply_plain (replies.CreateSecret r) = (refl, (refl, (text_if_plain r.version_id, tt)))
+reply_plain (replies.CreateSecret r) =
+    (refl, (refl, (replicas_if_plain r.replication_status, (text_if_plain r.version_id, tt))))
 reply_plain (replies.DeleteResourcePolicy r) = (refl, (refl, tt))
 reply_plain (replies.DeleteSecret r) = (text_if_plain r.arn, (refl, (refl, tt)))
 reply_plain (replies.DescribeSecret r) = described_plain r
@@ -187,8 +201,11 @@ reply_plain (replies.ListSecrets r) =
     (text_if_plain r.next_token, (items_plain listed_object listed_plain r.secret_list, tt))
 reply_plain (replies.PutResourcePolicy r) = (refl, (refl, tt))
 reply_plain (replies.PutSecretValue r) = (refl, (refl, (refl, (labels_plain r.version_stages, tt))))
+reply_plain (replies.RemoveRegionsFromReplication r) = (refl, (replicas_plain r.replication_status, tt))
+reply_plain (replies.ReplicateSecretToRegions r) = (refl, (replicas_plain r.replication_status, tt))
 reply_plain (replies.RestoreSecret r) = (refl, (refl, tt))
 reply_plain (replies.RotateSecret r) = (refl, (refl, (text_if_plain r.version_id, tt)))
+reply_plain (replies.StopReplicationToReplica r) = (refl, tt)
 reply_plain replies.TagResource = tt
 reply_plain replies.UntagResource = tt
 reply_plain (replies.UpdateSecret r) = (refl, (refl, (text_if_plain r.version_id, tt)))

@@ -14,6 +14,7 @@ use Rattle.sm_model.specs.declared.reply.Described.{Described}
 use Rattle.sm_model.specs.declared.reply.GotSecret.{GotSecret}
 use Rattle.sm_model.specs.declared.reply.Reply.{Reply}
 use Rattle.sm_model.specs.declared.reply.Reply.TheVariants as replies
+use Rattle.sm_model.specs.declared.reply.ReplicationStatus.{ReplicationStatus}
 use Rattle.sm_model.specs.declared.reply.RulesShown.{RulesShown}
 use Rattle.sm_model.specs.declared.reply.Staged.{Staged}
 use Rattle.sm_model.specs.declared.reply.ValidationError.{ValidationError}
@@ -21,7 +22,7 @@ use Rattle.sm_model.specs.declared.reply.VersionItem.{VersionItem}
 use Rattle.sm_model.specs.declared.value.Tag.{Tag}
 use Rattle.sm_reply.specs.Laws.{Precedes, Ascends, EachAscends, MembersAscend, Has, ShowsExactly, RepliesAscend, RepliesShowExactly, members_of_refusal, RefusalsAscend, RefusalsShowExactly}
 use Rattle.sm_reply.specs.Members.{Given, items_of, members_of}
-use Rattle.sm_reply.specs.Shown.{binary, date, count, labels_shown, batch_error_members, batch_error_object, got_members, got_object, rules_members, rules_object, tag_members, tag_object, put_versions, first_members, middle_members, rotation_members, described_end, described_members, listed_end, listed_members, listed_object, version_members, version_object, fault_members, fault_object, reply_members}
+use Rattle.sm_reply.specs.Shown.{binary, date, count, labels_shown, replication_members, replication_object, replication_shown, batch_error_members, batch_error_object, got_members, got_object, rules_members, rules_object, tag_members, tag_object, put_versions, first_members, middle_members, rotation_members, described_end, described_members, listed_end, listed_members, listed_object, version_members, version_object, fault_members, fault_object, reply_members}
 use Rattle.sm_reply.proofs.MemberLemmas.{first_holds, second_holds, before_all, ascend}
 
 -- the other way round
@@ -130,6 +131,15 @@ versions_up (version ∷ versions) found all =
     versions_up versions (put version.id (labels_shown version.labels) found)
     (put_up version.id (labels_shown version.labels) found (labels_up version.labels) all)
 
+replica_up : (status : ReplicationStatus) → Ascends (replication_object status)
+replica_up status = members_up (replication_members status) refl (tt, (tt, tt))
+
+replicas_up : (regions : List ReplicationStatus) → Ascends (replication_shown regions)
+replicas_up regions = items_up replication_object replica_up regions
+
+replicas_if_up : (regions : Option (List ReplicationStatus)) → IfUp (option_map replication_shown regions)
+replicas_if_up regions = if_up replication_shown replicas_up regions
+
 tag_up : (tag : Tag) → Ascends (tag_object tag)
 tag_up tag = members_up (tag_members tag) refl (tt, (tt, tt))
 
@@ -164,7 +174,8 @@ count_up : (n : ℕ) → Ascends (count n)
 count_up n = tt
 
 rules_up : (rules : RulesShown) → Ascends (rules_object rules)
-rules_up rules = members_up (rules_members rules) refl (if_up count count_up rules.days, tt)
+rules_up rules = members_up (rules_members rules) refl
+    (if_up count count_up rules.days, (text_if_up rules.schedule, tt))
 
 version_up : (version : VersionItem) → Ascends (version_object version)
 version_up version = members_up (version_members version) refl
@@ -188,8 +199,13 @@ first_up reply = (
 )
 
 middle_up : (reply : Described) → AllUp (middle_members reply)
-middle_up reply =
-    (tt, (date_if_up reply.last_rotated_date, (tt, (date_if_up reply.next_rotation_date, tt))))
+middle_up reply = (
+  tt,
+  (
+    date_if_up reply.last_rotated_date,
+    (tt, (date_if_up reply.next_rotation_date, (replicas_if_up reply.replication_status, tt))),
+  ),
+)
 
 rotation_up : (reply : Described) → AllUp (rotation_members reply)
 rotation_up reply =
@@ -228,7 +244,8 @@ reply_up (replies.BatchGetSecretValue r) = (
   (text_if_up r.next_token, (items_up got_object got_object_up r.secret_values, tt)),
 )
 reply_up (replies.CancelRotateSecret r) = (tt, (tt, (text_if_up r.version_id, tt)))
-reply_up (replies.CreateSecret r) = (tt, (tt, (text_if_up r.version_id, tt)))
+reply_up (replies.CreateSecret r) =
+    (tt, (tt, (replicas_if_up r.replication_status, (text_if_up r.version_id, tt))))
 reply_up (replies.DeleteResourcePolicy r) = (tt, (tt, tt))
 reply_up (replies.DeleteSecret r) = (text_if_up r.arn, (tt, (tt, tt)))
 reply_up (replies.DescribeSecret r) = described_up r
@@ -241,8 +258,11 @@ reply_up (replies.ListSecrets r) =
     (text_if_up r.next_token, (items_up listed_object listed_up r.secret_list, tt))
 reply_up (replies.PutResourcePolicy r) = (tt, (tt, tt))
 reply_up (replies.PutSecretValue r) = (tt, (tt, (tt, (labels_up r.version_stages, tt))))
+reply_up (replies.RemoveRegionsFromReplication r) = (tt, (replicas_up r.replication_status, tt))
+reply_up (replies.ReplicateSecretToRegions r) = (tt, (replicas_up r.replication_status, tt))
 reply_up (replies.RestoreSecret r) = (tt, (tt, tt))
 reply_up (replies.RotateSecret r) = (tt, (tt, (text_if_up r.version_id, tt)))
+reply_up (replies.StopReplicationToReplica r) = (tt, tt)
 reply_up replies.TagResource = tt
 reply_up replies.UntagResource = tt
 reply_up (replies.UpdateSecret r) = (tt, (tt, (text_if_up r.version_id, tt)))
@@ -268,8 +288,11 @@ reply_ascends (replies.ListSecretVersionIds r) = refl
 reply_ascends (replies.ListSecrets r) = refl
 reply_ascends (replies.PutResourcePolicy r) = refl
 reply_ascends (replies.PutSecretValue r) = refl
+reply_ascends (replies.RemoveRegionsFromReplication r) = refl
+reply_ascends (replies.ReplicateSecretToRegions r) = refl
 reply_ascends (replies.RestoreSecret r) = refl
 reply_ascends (replies.RotateSecret r) = refl
+reply_ascends (replies.StopReplicationToReplica r) = refl
 reply_ascends replies.TagResource = tt
 reply_ascends replies.UntagResource = tt
 reply_ascends (replies.UpdateSecret r) = refl
@@ -373,6 +396,9 @@ errors_exact error = shows_exactly (batch_error_members error) refl
 
 pub listed_exact : (secret : Described) → ShowsExactly (listed_members secret)
 listed_exact secret = shows_exactly (listed_members secret) refl
+
+pub replicas_exact : (status : ReplicationStatus) → ShowsExactly (replication_members status)
+replicas_exact status = shows_exactly (replication_members status) refl
 
 pub rules_exact : (rules : RulesShown) → ShowsExactly (rules_members rules)
 rules_exact rules = shows_exactly (rules_members rules) refl

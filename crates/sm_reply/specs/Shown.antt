@@ -8,16 +8,20 @@ use Rattle.serde_json.specs.Written.{compact_text}
 use Rattle.sm_base.specs.declared.moment.Moment.{Moment}
 use Rattle.sm_model.specs.Causes.{error_of, message_of, status_of}
 use Rattle.sm_model.specs.declared.reply.BatchError.{BatchError}
+use Rattle.sm_model.specs.declared.reply.CreatedSecret.{CreatedSecret}
 use Rattle.sm_model.specs.declared.reply.DeletedSecret.{DeletedSecret}
 use Rattle.sm_model.specs.declared.reply.Described.{Described}
 use Rattle.sm_model.specs.declared.reply.GotSecret.{GotSecret}
 use Rattle.sm_model.specs.declared.reply.NamedSecret.{NamedSecret}
 use Rattle.sm_model.specs.declared.reply.PolicyOfSecret.{PolicyOfSecret}
 use Rattle.sm_model.specs.declared.reply.PolicyValidation.{PolicyValidation}
+use Rattle.sm_model.specs.declared.reply.PromotedSecret.{PromotedSecret}
 use Rattle.sm_model.specs.declared.reply.PutValue.{PutValue}
 use Rattle.sm_model.specs.declared.reply.RandomPassword.{RandomPassword}
+use Rattle.sm_model.specs.declared.reply.ReplicatedSecret.{ReplicatedSecret}
+use Rattle.sm_model.specs.declared.reply.ReplicationStatus.{ReplicationStatus}
 use Rattle.sm_model.specs.declared.reply.Reply.{Reply}
-use Rattle.sm_model.specs.declared.reply.Reply.TheVariants.{BatchGetSecretValue, CancelRotateSecret, CreateSecret, DeleteResourcePolicy, DeleteSecret, DescribeSecret, GetRandomPassword, GetResourcePolicy, GetSecretValue, ListSecretVersionIds, ListSecrets, PutResourcePolicy, PutSecretValue, RestoreSecret, RotateSecret, TagResource, UntagResource, UpdateSecret, UpdateSecretVersionStage, ValidateResourcePolicy}
+use Rattle.sm_model.specs.declared.reply.Reply.TheVariants.{BatchGetSecretValue, CancelRotateSecret, CreateSecret, DeleteResourcePolicy, DeleteSecret, DescribeSecret, GetRandomPassword, GetResourcePolicy, GetSecretValue, ListSecretVersionIds, ListSecrets, PutResourcePolicy, PutSecretValue, RemoveRegionsFromReplication, ReplicateSecretToRegions, RestoreSecret, RotateSecret, StopReplicationToReplica, TagResource, UntagResource, UpdateSecret, UpdateSecretVersionStage, ValidateResourcePolicy}
 use Rattle.sm_model.specs.declared.reply.RulesShown.{RulesShown}
 use Rattle.sm_model.specs.declared.reply.SecretBatch.{SecretBatch}
 use Rattle.sm_model.specs.declared.reply.SecretPage.{SecretPage}
@@ -44,7 +48,36 @@ count n = number (unsigned n)
 abbrev pub labels_shown : List (List ℕ) → Data
 labels_shown labels = array (items_of string labels)
 
--- CancelRotateSecret, CreateSecret, RotateSecret and UpdateSecret
+-- a replica region of a secret
+abbrev pub replication_members : ReplicationStatus → List Given
+replication_members status =
+    (codes "Region", Some (string status.region)) ∷ (codes "Status", Some (string status.status)) ∷ []
+
+abbrev pub replication_object : ReplicationStatus → Data
+replication_object status = object (members_of (replication_members status))
+
+abbrev pub replication_shown : List ReplicationStatus → Data
+replication_shown regions = array (items_of replication_object regions)
+
+-- CreateSecret
+abbrev pub created_members : CreatedSecret → List Given
+created_members reply =
+    (codes "ARN", Some (string reply.arn))
+    ∷ (codes "Name", Some (string reply.name))
+    ∷ (codes "ReplicationStatus", option_map replication_shown reply.replication_status)
+    ∷ (codes "VersionId", option_map string reply.version_id) ∷ []
+
+-- RemoveRegionsFromReplication and ReplicateSecretToRegions
+abbrev pub replicated_members : ReplicatedSecret → List Given
+replicated_members reply =
+    (codes "ARN", Some (string reply.arn))
+    ∷ (codes "ReplicationStatus", Some (replication_shown reply.replication_status)) ∷ []
+
+-- StopReplicationToReplica
+abbrev pub promoted_members : PromotedSecret → List Given
+promoted_members reply = (codes "ARN", Some (string reply.arn)) ∷ []
+
+-- CancelRotateSecret, RotateSecret and UpdateSecret
 abbrev pub versioned_members : VersionedSecret → List Given
 versioned_members reply =
     (codes "ARN", Some (string reply.arn))
@@ -102,7 +135,9 @@ deleted_members reply =
 
 -- the rotation rules of a secret
 abbrev pub rules_members : RulesShown → List Given
-rules_members rules = (codes "AutomaticallyAfterDays", option_map count rules.days) ∷ []
+rules_members rules =
+    (codes "AutomaticallyAfterDays", option_map count rules.days)
+    ∷ (codes "ScheduleExpression", option_map string rules.schedule) ∷ []
 
 abbrev pub rules_object : RulesShown → Data
 rules_object rules = object (members_of (rules_members rules))
@@ -136,7 +171,8 @@ middle_members reply =
     (codes "LastChangedDate", Some (date reply.last_changed_date))
     ∷ (codes "LastRotatedDate", option_map date reply.last_rotated_date)
     ∷ (codes "Name", Some (string reply.name))
-    ∷ (codes "NextRotationDate", option_map date reply.next_rotation_date) ∷ []
+    ∷ (codes "NextRotationDate", option_map date reply.next_rotation_date)
+    ∷ (codes "ReplicationStatus", option_map replication_shown reply.replication_status) ∷ []
 
 abbrev pub rotation_members : Described → List Given
 rotation_members reply =
@@ -217,7 +253,7 @@ validation_members reply =
 abbrev pub reply_members : Reply → Option (List Given)
 reply_members (BatchGetSecretValue reply) = Some (batch_members reply)
 reply_members (CancelRotateSecret reply) = Some (versioned_members reply)
-reply_members (CreateSecret reply) = Some (versioned_members reply)
+reply_members (CreateSecret reply) = Some (created_members reply)
 reply_members (DeleteResourcePolicy reply) = Some (named_members reply)
 reply_members (DeleteSecret reply) = Some (deleted_members reply)
 reply_members (DescribeSecret reply) = Some (described_members reply)
@@ -228,8 +264,11 @@ reply_members (ListSecretVersionIds reply) = Some (versions_members reply)
 reply_members (ListSecrets reply) = Some (page_members reply)
 reply_members (PutResourcePolicy reply) = Some (named_members reply)
 reply_members (PutSecretValue reply) = Some (put_members reply)
+reply_members (RemoveRegionsFromReplication reply) = Some (replicated_members reply)
+reply_members (ReplicateSecretToRegions reply) = Some (replicated_members reply)
 reply_members (RestoreSecret reply) = Some (named_members reply)
 reply_members (RotateSecret reply) = Some (versioned_members reply)
+reply_members (StopReplicationToReplica reply) = Some (promoted_members reply)
 reply_members TagResource = None
 reply_members UntagResource = None
 reply_members (UpdateSecret reply) = Some (versioned_members reply)

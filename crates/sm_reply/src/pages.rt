@@ -21,6 +21,7 @@ impl Render for RulesShown {
     fn render(&self, alloc: Global) -> Result<Value, NoMemory> {
         let mut members = Map::new(alloc);
         put_if(alloc, &mut members, "AutomaticallyAfterDays", &self.days)?;
+        put_if(alloc, &mut members, "ScheduleExpression", &self.schedule)?;
         Ok(Value::Object(members))
     }
 }
@@ -96,6 +97,12 @@ fn put_middle(
         members,
         "NextRotationDate",
         &reply.next_rotation_date,
+    )?;
+    put_if(
+        alloc,
+        members,
+        "ReplicationStatus",
+        &reply.replication_status,
     )?;
     Ok(())
 }

@@ -2,18 +2,79 @@
 ghost use Rattle.std.specs.Prelude.{◌≡◌, IfOk};
 ghost use Rattle.serde_json.specs.View.{members_view};
 ghost use Rattle.sm_reply.specs.Members.{members_of};
-ghost use Rattle.sm_reply.specs.Shown.{versioned_members, named_members, put_members, got_members, deleted_members, password_members, policy_members};
+ghost use Rattle.sm_reply.specs.Shown.{created_members, replicated_members, promoted_members, versioned_members, named_members, put_members, got_members, deleted_members, password_members, policy_members};
 
 use crate::members::{put, put_if};
 use crate::render::Render;
 use serde_json::{Map, Value};
 use sm_model::{
-    DeletedSecret, GotSecret, NamedSecret, NoMemory, PolicyOfSecret, PutValue, RandomPassword,
-    VersionedSecret,
+    CreatedSecret, DeletedSecret, GotSecret, NamedSecret, NoMemory, PolicyOfSecret, PromotedSecret,
+    PutValue, RandomPassword, ReplicatedSecret, ReplicationStatus, VersionedSecret,
 };
 use std::alloc::Global;
 
-/// The members of the reply to CancelRotateSecret, CreateSecret, RotateSecret and UpdateSecret.
+// A replica region of a secret.
+impl Render for ReplicationStatus {
+    ghost use Rattle.sm_reply.specs.Shown.{replication_object};
+
+    ghost shows = { replication_object };
+
+    fn render(&self, alloc: Global) -> Result<Value, NoMemory> {
+        let mut members = Map::new(alloc);
+        put(alloc, &mut members, "Region", &self.region)?;
+        put(alloc, &mut members, "Status", &self.status)?;
+        Ok(Value::Object(members))
+    }
+}
+
+/// The members of the reply to CreateSecret.
+pub fn created_members(alloc: Global, reply: &CreatedSecret) -> Result<Map<String, Value>, NoMemory>
+    ensures { IfOk result (λ members. members_view members.entries ≡ members_of (created_members reply.now)) }
+{
+    let mut members = Map::new(alloc);
+    put(alloc, &mut members, "ARN", &reply.arn)?;
+    put(alloc, &mut members, "Name", &reply.name)?;
+    put_if(
+        alloc,
+        &mut members,
+        "ReplicationStatus",
+        &reply.replication_status,
+    )?;
+    put_if(alloc, &mut members, "VersionId", &reply.version_id)?;
+    Ok(members)
+}
+
+/// The members of the reply to RemoveRegionsFromReplication and ReplicateSecretToRegions.
+pub fn replicated_members(
+    alloc: Global,
+    reply: &ReplicatedSecret,
+) -> Result<Map<String, Value>, NoMemory>
+    ensures { IfOk result (λ members. members_view members.entries ≡ members_of (replicated_members reply.now)) }
+{
+    let mut members = Map::new(alloc);
+    put(alloc, &mut members, "ARN", &reply.arn)?;
+    put(
+        alloc,
+        &mut members,
+        "ReplicationStatus",
+        &reply.replication_status,
+    )?;
+    Ok(members)
+}
+
+/// The members of the reply to StopReplicationToReplica.
+pub fn promoted_members(
+    alloc: Global,
+    reply: &PromotedSecret,
+) -> Result<Map<String, Value>, NoMemory>
+    ensures { IfOk result (λ members. members_view members.entries ≡ members_of (promoted_members reply.now)) }
+{
+    let mut members = Map::new(alloc);
+    put(alloc, &mut members, "ARN", &reply.arn)?;
+    Ok(members)
+}
+
+/// The members of the reply to CancelRotateSecret, RotateSecret and UpdateSecret.
 pub fn versioned_members(
     alloc: Global,
     reply: &VersionedSecret,

@@ -13,9 +13,10 @@ use Rattle.sm_model.specs.declared.rows.Stage.TheVariants.{Create, Set, Test, Fi
 use Rattle.sm_model.specs.declared.rows.SecretRow.{SecretRow}
 use Rattle.sm_versions.specs.declared.values.PutDone.{PutDone}
 use Rattle.sm_versions.specs.declared.values.PutDone.TheVariants.{Added, Same, Exists, TooMany, TooManyLabels, Memory}
-use Rattle.sm_versions.specs.Texts.{same_text}
+use Rattle.sm_base.specs.Texts.{same_text}
 use Rattle.sm_versions.specs.Labels.{labels_on}
-use Rattle.sm_versions.specs.Versions.{has_version, has_value, value_of, version_of, same_value, filled}
+use Rattle.sm_versions.specs.Versions.{has_value, value_of, version_of, same_value, filled}
+use Rattle.sm_model.specs.Versions.{has_version}
 use Rattle.sm_versions.specs.Settle.{is_live, is_create}
 use Rattle.sm_versions.specs.Put.{put_held, put_answer, put_answer_on, new_version, added_row, filled_row, put_row, put_row_on}
 use Rattle.sm_versions.specs.Kept.{JobKept, CurrentKept, is_finish}

@@ -4,11 +4,12 @@ use Rattle.std.proofs.lemmas.Bool.{and_parts}
 use Rattle.sm_base.specs.declared.moment.Moment.{Moment}
 use Rattle.sm_model.specs.declared.rows.VersionRow.{VersionRow}
 use Rattle.sm_model.specs.declared.rows.SecretRow.{SecretRow}
-use Rattle.sm_versions.specs.Texts.{aws_current, aws_pending}
-use Rattle.sm_versions.specs.Labels.{holder}
-use Rattle.sm_versions.specs.Versions.{has_version, version_of}
+use Rattle.sm_model.specs.Labels.{aws_current, aws_pending, holder}
+use Rattle.sm_versions.specs.Versions.{version_of}
+use Rattle.sm_model.specs.Versions.{has_version}
 use Rattle.sm_versions.specs.Put.{is_full}
-use Rattle.sm_versions.specs.Due.{is_free_or_held_by, is_due, is_due_for}
+use Rattle.sm_versions.specs.Due.{is_due, is_due_for}
+use Rattle.sm_model.specs.Due.{is_free_or_held_by}
 use Rattle.sm_versions.proofs.VersionLemmas.{has_version_is_some}
 use Rattle.sm_rotation.specs.declared.starting.Began.TheVariants.{Ok as Begun}
 use Rattle.sm_rotation.specs.Begin.{is_of_rotation, begin_new, begin_held, begin_answer}

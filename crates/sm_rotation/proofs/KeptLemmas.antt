@@ -3,7 +3,7 @@ use Rattle.std.proofs.Common.{◌≡◌, ℕ, ◌+◌, ◌*◌, Bool, true, fals
 use Rattle.std.proofs.lemmas.Bool.{or_right, false≢true}
 use Rattle.std.proofs.lemmas.Bool.Decides.{nat_tests}
 use Rattle.sm_base.specs.declared.moment.Moment.{Moment}
-use Rattle.sm_model.specs.declared.limits.TheConstants.{ATTEMPTS_LIMIT}
+use Rattle.sm_base.specs.declared.limits.TheConstants.{ATTEMPTS_LIMIT}
 use Rattle.sm_model.specs.declared.value.Value.{Value}
 use Rattle.sm_model.specs.declared.entry.Answer.{Answer}
 use Rattle.sm_model.specs.declared.rows.Pair.{Pair}
@@ -12,9 +12,11 @@ use Rattle.sm_model.specs.declared.rows.Stage.{Stage}
 use Rattle.sm_model.specs.declared.rows.Stage.TheVariants.{Create, Set, Test, Finish}
 use Rattle.sm_model.specs.declared.rows.VersionRow.{VersionRow}
 use Rattle.sm_model.specs.declared.rows.SecretRow.{SecretRow}
-use Rattle.sm_versions.specs.Texts.{same_text, aws_current, aws_pending}
-use Rattle.sm_versions.specs.Labels.{holder, place}
-use Rattle.sm_versions.specs.Versions.{has_version, has_value, value_of, version_of, filled}
+use Rattle.sm_base.specs.Texts.{same_text}
+use Rattle.sm_model.specs.Labels.{aws_current, aws_pending, holder}
+use Rattle.sm_versions.specs.Labels.{place}
+use Rattle.sm_versions.specs.Versions.{has_value, value_of, version_of, filled}
+use Rattle.sm_model.specs.Versions.{has_version}
 use Rattle.sm_versions.specs.Settle.{is_live, is_create}
 use Rattle.sm_versions.specs.Put.{is_full}
 use Rattle.sm_versions.specs.Kept.{VersionsKept, JobFits, JobKept, KeptUnsettled, CurrentKept, has_none, holder_has_value, is_finish}

@@ -3,8 +3,9 @@ use Rattle.std.proofs.Common.{◌≡◌, ℕ, suc, Bool, true, false, ◌||◌, 
 use Rattle.std.proofs.lemmas.Grind.{common_steps}
 use Rattle.sm_model.specs.declared.value.Value.{Value}
 use Rattle.sm_model.specs.declared.rows.VersionRow.{VersionRow}
-use Rattle.sm_versions.specs.Texts.{same_text}
-use Rattle.sm_versions.specs.Versions.{has_version, value_of, filled}
+use Rattle.sm_base.specs.Texts.{same_text}
+use Rattle.sm_versions.specs.Versions.{value_of, filled}
+use Rattle.sm_model.specs.Versions.{has_version}
 use Rattle.sm_versions.specs.Serials.{version_serials}
 use Rattle.sm_versions.specs.Kept.{ids_once, has_none}
 use Rattle.sm_rotation.specs.Step.{marked}

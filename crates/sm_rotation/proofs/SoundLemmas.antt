@@ -6,7 +6,7 @@ use Rattle.std.proofs.lemmas.Bool.{and_parts, and_from}
 use Rattle.std.proofs.lemmas.Bool.Decides.{nat_tests}
 use Rattle.sm_base.specs.declared.moment.Moment.{Moment}
 use Rattle.sm_base.specs.declared.moment.TheConstants.{LAST_READING}
-use Rattle.sm_model.specs.declared.limits.TheConstants.{VERSIONS_LIMIT, LABELS_LIMIT, ATTEMPTS_LIMIT}
+use Rattle.sm_base.specs.declared.limits.TheConstants.{VERSIONS_LIMIT, LABELS_LIMIT, ATTEMPTS_LIMIT}
 use Rattle.sm_model.specs.declared.value.Value.{Value}
 use Rattle.sm_model.specs.declared.entry.Answer.{Answer}
 use Rattle.sm_model.specs.declared.entry.Answer.TheVariants.{Value as Made, Yes, No, Failed}
@@ -19,8 +19,10 @@ use Rattle.sm_model.specs.declared.rows.VersionRow.{VersionRow}
 use Rattle.sm_model.specs.declared.rows.SecretRow.{SecretRow}
 use Rattle.sm_model.specs.Bounds.{fits, is_small, is_attempt, are_days, is_date, is_rotation_date, is_description}
 use Rattle.sm_dates.specs.Days.{rotation_after, days_after}
-use Rattle.sm_versions.specs.Texts.{same_text, aws_current, aws_previous, aws_pending, is_aws}
-use Rattle.sm_versions.specs.Labels.{holder, own_count, without, moved, with_previous, with_current, place}
+use Rattle.sm_versions.specs.Texts.{is_aws}
+use Rattle.sm_base.specs.Texts.{same_text}
+use Rattle.sm_model.specs.Labels.{aws_current, aws_previous, aws_pending, holder}
+use Rattle.sm_versions.specs.Labels.{own_count, without, moved, with_previous, with_current, place}
 use Rattle.sm_versions.specs.Versions.{filled}
 use Rattle.sm_versions.specs.Put.{is_full}
 use Rattle.sm_versions.specs.Kept.{JobKept}

@@ -1,15 +1,16 @@
 -- The steps of a rotation.
-use Rattle.std.proofs.Common.{◌≡◌, ◌↔◌, ℕ, zero, suc, ◌+◌, ◌<◌, ◌≤◌, Bool, true, false, not, ◌&&◌, cond, List, [], ◌∷◌, length, get_or, set, Option, Some, None, IsTrue, Decides, nat_eq, refl, sym, ap, subst, ◌∙◌, arith}
+use Rattle.std.proofs.Common.{◌≡◌, ◌↔◌, ℕ, zero, suc, ◌+◌, ◌<◌, ◌≤◌, Bool, true, false, not, ◌&&◌, cond, List, [], ◌∷◌, length, get_or, set, slice_get, slice_set, Option, Some, None, IsTrue, Decides, nat_eq, refl, sym, ap, subst, ◌∙◌, arith}
 use Rattle.std.specs.List.{position, position_or_len}
 use Rattle.std.proofs.lemmas.Bool.{and_parts, and_from}
 use Rattle.std.proofs.lemmas.Bool.Decides.{same_from_decides, nat_tests}
 use Rattle.std.proofs.lemmas.List.Quantifiers.{position-Some}
+use Rattle.std.proofs.lemmas.Option.{get_or_from_slice_get}
 use Rattle.sm_model.specs.declared.entry.At.{At}
 use Rattle.sm_model.specs.declared.rows.Job.{Job}
 use Rattle.sm_model.specs.declared.rows.Stage.{Stage}
 use Rattle.sm_model.specs.declared.rows.Stage.TheVariants.{Create, Set, Test, Finish}
 use Rattle.sm_model.specs.declared.rows.VersionRow.{VersionRow}
-use Rattle.sm_versions.specs.Texts.{same_text}
+use Rattle.sm_base.specs.Texts.{same_text}
 use Rattle.sm_versions.proofs.TextLemmas.{same_text_decides}
 use Rattle.sm_rotation.specs.Step.{same_stage, at_of, is_at, marked}
 
@@ -88,6 +89,13 @@ pub marked_found : (vs : List VersionRow) (i : ℕ) (v : VersionRow) (id : List 
 marked_found vs i v id tested found e =
     let p = position-Some (λ w. same_text w.id id) vs i v found in
     ap (λ w. set vs i (record w { rotated = tested })) e ∙ sym (marked_at vs i v id tested p.0 p.2 p.1)
+
+pub marked_by : (vs all after : List VersionRow) (i : ℕ) (v made : VersionRow) (id : List ℕ) (tested : Option ℕ)
+    → all ≡ vs → position (λ w. same_text w.id id) vs ≡ Some i → slice_get vs i ≡ Some v
+    → made ≡ record v { rotated = tested } → after ≡ slice_set all i made → after ≡ marked vs id tested
+marked_by vs all after i v made id tested same found there is e =
+    e ∙ ap (λ ws. slice_set ws i made) same ∙ ap (λ w. slice_set vs i w) is
+    ∙ marked_found vs i v id tested found (sym (get_or_from_slice_get vs i v v there))
 
 -- where no place was found
 pub marked_not_found : (vs : List VersionRow) (id : List ℕ) (tested : Option ℕ)

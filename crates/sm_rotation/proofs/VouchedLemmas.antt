@@ -3,7 +3,7 @@ use Rattle.std.proofs.Common.{◌≡◌, ◌≢◌, ◌⊎◌, inl, inr, ℕ, Bo
 use Rattle.std.proofs.lemmas.Bool.{and_parts, and_from, false≢true}
 use Rattle.sm_base.specs.declared.moment.Moment.{Moment}
 use Rattle.sm_model.specs.Bounds.{fits}
-use Rattle.sm_model.specs.declared.limits.TheConstants.{ATTEMPTS_LIMIT}
+use Rattle.sm_base.specs.declared.limits.TheConstants.{ATTEMPTS_LIMIT}
 use Rattle.sm_model.specs.declared.value.Value.{Value}
 use Rattle.sm_model.specs.declared.entry.Answer.{Answer}
 use Rattle.sm_model.specs.declared.entry.Answer.TheVariants.{Value as Made, Yes, No, Failed}
@@ -12,7 +12,7 @@ use Rattle.sm_model.specs.declared.rows.Job.{Job}
 use Rattle.sm_model.specs.declared.rows.Stage.{Stage}
 use Rattle.sm_model.specs.declared.rows.Stage.TheVariants.{Create, Set, Test, Finish}
 use Rattle.sm_model.specs.declared.rows.SecretRow.{SecretRow}
-use Rattle.sm_versions.specs.Texts.{same_text}
+use Rattle.sm_base.specs.Texts.{same_text}
 use Rattle.sm_versions.specs.Versions.{value_of, has_value, filled}
 use Rattle.sm_versions.specs.Settle.{is_live, is_create, advanced_job, settled_job, settle}
 use Rattle.sm_versions.specs.Kept.{JobKept, CurrentKept, is_finish}

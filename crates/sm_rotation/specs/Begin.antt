@@ -4,14 +4,16 @@
 use Rattle.std.specs.Prelude.{ℕ, ◌+◌, Bool, true, false, List, [], ◌∷◌, ◌++◌, Option, Some, None, Result, Ok, Err, if◌then◌else◌}
 use Rattle.sm_base.specs.declared.memory.NoMemory.{NoMemory}
 use Rattle.sm_base.specs.declared.moment.Moment.{Moment}
-use Rattle.sm_model.specs.declared.limits.TheConstants.{VERSIONS_LIMIT}
+use Rattle.sm_base.specs.declared.limits.TheConstants.{VERSIONS_LIMIT}
 use Rattle.sm_model.specs.declared.rows.VersionRow.{VersionRow}
 use Rattle.sm_model.specs.declared.rows.Job.{Job}
 use Rattle.sm_model.specs.declared.rows.Stage.TheVariants.{Create}
 use Rattle.sm_model.specs.declared.rows.SecretRow.{SecretRow}
-use Rattle.sm_versions.specs.Texts.{same_text, aws_current, aws_pending}
-use Rattle.sm_versions.specs.Labels.{holder, place}
-use Rattle.sm_versions.specs.Versions.{has_version, version_of}
+use Rattle.sm_base.specs.Texts.{same_text}
+use Rattle.sm_model.specs.Labels.{aws_current, aws_pending, holder}
+use Rattle.sm_versions.specs.Labels.{place}
+use Rattle.sm_versions.specs.Versions.{version_of}
+use Rattle.sm_model.specs.Versions.{has_version}
 use Rattle.sm_versions.specs.Put.{is_full}
 use Rattle.sm_rotation.specs.declared.starting.Began.{Began}
 use Rattle.sm_rotation.specs.declared.starting.Began.TheVariants.{Ok as Begun, Same, NoCurrent, Pending, Exists, TooMany, Memory}

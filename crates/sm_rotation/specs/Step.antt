@@ -4,7 +4,7 @@
 use Rattle.std.specs.Prelude.{ℕ, ◌+◌, ◌*◌, Bool, true, false, ◌&&◌, nat_eq, nat_lt, List, [], ◌∷◌, Option, Some, None, Result, Ok, Err, if◌then◌else◌}
 use Rattle.sm_base.specs.declared.memory.NoMemory.{NoMemory}
 use Rattle.sm_base.specs.declared.moment.Moment.{Moment}
-use Rattle.sm_model.specs.declared.limits.TheConstants.{ATTEMPTS_LIMIT}
+use Rattle.sm_base.specs.declared.limits.TheConstants.{ATTEMPTS_LIMIT}
 use Rattle.sm_model.specs.Bounds.{is_small}
 use Rattle.sm_model.specs.declared.value.Value.{Value}
 use Rattle.sm_model.specs.declared.entry.At.{At}
@@ -17,7 +17,8 @@ use Rattle.sm_model.specs.declared.rows.Stage.{Stage}
 use Rattle.sm_model.specs.declared.rows.Stage.TheVariants.{Create, Set, Test, Finish}
 use Rattle.sm_model.specs.declared.rows.SecretRow.{SecretRow}
 use Rattle.sm_dates.specs.Days.{rotation_after}
-use Rattle.sm_versions.specs.Texts.{same_text, aws_current, aws_pending}
+use Rattle.sm_base.specs.Texts.{same_text}
+use Rattle.sm_model.specs.Labels.{aws_current, aws_pending}
 use Rattle.sm_versions.specs.Labels.{place, without}
 use Rattle.sm_versions.specs.Versions.{filled}
 use Rattle.sm_versions.specs.Kept.{is_finish}

@@ -1,7 +1,8 @@
 //! Due rotations (AWS Secrets Manager User Guide, "Rotation schedules").
 ghost use Rattle.std.specs.Prelude.{◌≡◌, ◌≤◌, IsTrue, option_copied};
 ghost use Rattle.sm_base.specs.declared.moment.TheConstants.{LAST_READING};
-ghost use Rattle.sm_versions.specs.Due.{is_reached, is_free_or_held_by, is_due, is_due_for};
+ghost use Rattle.sm_versions.specs.Due.{is_due, is_due_for};
+ghost use Rattle.sm_model.specs.Due.{is_reached, is_free_or_held_by};
 ghost use Rattle.sm_rotation.specs.Begin.{begin_answer};
 ghost use Rattle.sm_rotation.specs.declared.starting.Began.TheVariants.{Ok as Begun};
 

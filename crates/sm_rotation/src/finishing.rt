@@ -1,37 +1,32 @@
 //! The end of a rotation.
 ghost use Rattle.std.specs.Prelude.{◌≡◌, ◌≤◌, IfOk, OnOk, OnErr};
-ghost use Rattle.std.specs.List.{position};
 ghost use Rattle.sm_base.specs.declared.moment.TheConstants.{LAST_READING};
-ghost use Rattle.sm_versions.specs.Texts.{same_text};
 ghost use Rattle.sm_rotation.specs.Step.{marked, finished_labels, finished};
 
 use sm_dates::next_rotation;
 use sm_model::{
     Copied, Job, List, Moment, NoMemory, Pair, SecretRow, SharedList, Token, VersionRow,
 };
-use sm_versions::labels::{current, is_same_id, pending};
+use sm_versions::labels::{current, pending};
 use sm_versions::placing::{place, remove};
+use sm_versions::versions::position_of;
 use std::alloc::Global;
 
-/// The place of the version with this id.
-fn position_of(versions: &[VersionRow], id: &Token) -> Option<usize>
-    ensures { result ≡ position (λ v. same_text v.id id.now) versions.now }
+/// A copy of the version, which remembers the attempt at which it was tested.
+fn tested_version(
+    alloc: Global,
+    version: &VersionRow,
+    tested: Option<u32>,
+) -> Result<VersionRow, NoMemory>
+    ensures { IfOk result (λ v. v ≡ record version.now { rotated = tested }) }
 {
-    versions
-        .iter()
-        .position(|version| is_same_id(&version.id, id))
+    let mut version = version.copy(alloc)?;
+    version.rotated = tested;
+    Ok(version)
 }
 
-/// Remembers in the version with this id the attempt at which it was tested.
-fn mark(versions: &mut Vec<VersionRow>, id: &Token, tested: Option<u32>)
-    ensures { versions.new.items ≡ marked versions.old.items id.now tested }
-{
-    if let Some(i) = position_of(versions.as_slice(), id) {
-        versions[i].rotated = tested;
-    }
-}
-
-/// The versions, of which the one with this id remembers the attempt at which it was tested.
+/// The versions, of which the one with this id remembers the attempt at which it was tested. All others are shared with
+/// those that were.
 fn marked(
     alloc: Global,
     versions: &SharedList<VersionRow>,
@@ -40,9 +35,13 @@ fn marked(
 ) -> Result<SharedList<VersionRow>, NoMemory>
     ensures { IfOk result (λ all. all ≡ marked versions.now id.now tested) }
 {
-    let mut all = versions.to_vec(alloc)?;
-    mark(&mut all, id, tested);
-    SharedList::from_vec(alloc, all)
+    let mut all = versions.copy(alloc)?;
+    if let Some(place) = position_of(versions, id) {
+        if let Some(version) = versions.get(place) {
+            all.replace(alloc, place, tested_version(alloc, version, tested)?)?;
+        }
+    }
+    Ok(all)
 }
 
 /// The pairs with AWSCURRENT placed on the version, and without AWSPENDING.

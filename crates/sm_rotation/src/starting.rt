@@ -2,7 +2,7 @@
 ghost use Rattle.std.specs.Prelude.{◌≡◌, ◌≤◌, false, IfOk, OnOk, OnErr, option_copied, if◌then◌else◌};
 ghost use Rattle.sm_base.specs.Outcomes.{OrMemory};
 ghost use Rattle.sm_base.specs.declared.moment.TheConstants.{LAST_READING};
-ghost use Rattle.sm_versions.specs.Texts.{aws_pending};
+ghost use Rattle.sm_model.specs.Labels.{aws_pending};
 ghost use Rattle.sm_versions.specs.Labels.{place};
 ghost use Rattle.sm_versions.specs.Put.{is_full};
 ghost use Rattle.sm_versions.specs.Versions.{version_of};
@@ -11,7 +11,7 @@ ghost use Rattle.sm_versions.specs.Sound.{UnsettledSound};
 ghost use Rattle.sm_rotation.specs.Begin.{is_of_rotation, begin_if_room, begin_new, begin_held, begin_answer, pending_version, first_job, begin_row, is_begun, has_begun, begin_told};
 ghost use Rattle.sm_rotation.specs.Vouched.{Replies, RowVouched};
 
-use sm_model::limits::{NO_SERIAL, VERSIONS_LIMIT};
+use sm_base::limits::{NO_SERIAL, VERSIONS_LIMIT};
 use sm_model::{Copied, Job, List, Moment, NoMemory, Pair, SecretRow, Stage, Token, VersionRow};
 use sm_versions::labels::{current, holder, is_same_id, pending};
 use sm_versions::placing::place;

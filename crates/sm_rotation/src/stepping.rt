@@ -2,14 +2,14 @@
 ghost use Rattle.std.specs.Prelude.{◌≡◌, ◌≤◌, ◌↔◌, IsTrue, IfOk, IfSome, OnOk, OnErr, if◌then◌else◌};
 ghost use Rattle.sm_base.specs.Outcomes.{OrMemory};
 ghost use Rattle.sm_base.specs.declared.moment.TheConstants.{LAST_READING};
-ghost use Rattle.sm_model.specs.declared.limits.TheConstants.{ATTEMPTS_LIMIT};
+ghost use Rattle.sm_base.specs.declared.limits.TheConstants.{ATTEMPTS_LIMIT};
 ghost use Rattle.sm_versions.specs.Kept.{CurrentKept};
 ghost use Rattle.sm_versions.specs.Sound.{RowSound};
 ghost use Rattle.sm_rotation.specs.Step.{same_stage, at_of, is_at, is_yes, made_value, onward, retried, after_create, after_set, after_test, after_finish, step, apply_answer, applied_row, is_done, has_applied, apply_told};
 ghost use Rattle.sm_rotation.specs.Vouched.{Replies, RowVouched, AcceptsOnly};
 
 use crate::finishing::finish;
-use sm_model::limits::{ATTEMPTS_LIMIT, VALUE_LIMIT};
+use sm_base::limits::{ATTEMPTS_LIMIT, VALUE_LIMIT};
 use sm_model::{Answer, At, Copied, Job, Moment, NoMemory, SecretRow, Stage, Token, Value};
 use sm_versions::labels::is_same_id;
 use sm_versions::settle;

@@ -8,7 +8,7 @@ use Rattle.sm_base.specs.declared.secret_id.SecretId.{SecretId}
 use Rattle.sm_base.specs.SecretId.{secret_id}
 use Rattle.sm_model.specs.declared.entry.Change.{Change}
 use Rattle.sm_model.specs.declared.entry.Change.TheVariants as changes
-use Rattle.sm_model.specs.declared.limits.TheConstants.{VERSIONS_LIMIT}
+use Rattle.sm_base.specs.declared.limits.TheConstants.{VERSIONS_LIMIT}
 use Rattle.sm_model.specs.declared.request.RotateSecret.{RotateSecret}
 use Rattle.sm_model.specs.declared.request.Rules.{Rules}
 use Rattle.sm_model.specs.declared.rows.Rotation.{Rotation}
@@ -21,9 +21,10 @@ use Rattle.sm_model.specs.Bounds.{fits, is_description, are_days, is_date}
 use Rattle.sm_model.specs.Needed.{token_bytes_if}
 use Rattle.sm_forms.specs.RotateSecret.{is_period, rotate_forms}
 use Rattle.sm_forms.proofs.RotateSecretLemmas.{rotate_lambda, rotate_rules}
-use Rattle.sm_versions.specs.Texts.{same_text, aws_current, aws_pending}
-use Rattle.sm_versions.specs.Labels.{holder}
-use Rattle.sm_versions.specs.Versions.{has_version, version_of}
+use Rattle.sm_base.specs.Texts.{same_text}
+use Rattle.sm_model.specs.Labels.{aws_current, aws_pending, holder}
+use Rattle.sm_versions.specs.Versions.{version_of}
+use Rattle.sm_model.specs.Versions.{has_version}
 use Rattle.sm_versions.specs.Put.{is_full}
 use Rattle.sm_versions.specs.Sound.{UnsettledSound}
 use Rattle.sm_rotation.specs.declared.starting.Began.{Began}

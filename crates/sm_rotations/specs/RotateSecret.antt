@@ -6,7 +6,7 @@ use Rattle.std.specs.Option.{option_or}
 use Rattle.sm_base.specs.declared.moment.Moment.{Moment}
 use Rattle.sm_base.specs.SecretId.{secret_id}
 use Rattle.sm_model.specs.declared.entry.Change.TheVariants as changes
-use Rattle.sm_model.specs.declared.limits.TheConstants.{VERSIONS_LIMIT}
+use Rattle.sm_base.specs.declared.limits.TheConstants.{VERSIONS_LIMIT}
 use Rattle.sm_model.specs.declared.reply.Reply.TheVariants as replies
 use Rattle.sm_model.specs.declared.reply.VersionedSecret.{VersionedSecret}
 use Rattle.sm_model.specs.declared.request.RotateSecret.{RotateSecret}
@@ -18,11 +18,11 @@ use Rattle.sm_model.specs.declared.why.What.TheVariants.{Versions}
 use Rattle.sm_model.specs.declared.why.Why.{Why}
 use Rattle.sm_model.specs.declared.why.Why.TheVariants.{NoCurrent, Pending, VersionExists, Limit, Memory}
 use Rattle.sm_dates.specs.Days.{rotation_after}
-use Rattle.sm_versions.specs.Texts.{aws_current, aws_pending}
-use Rattle.sm_versions.specs.Labels.{holder}
-use Rattle.sm_versions.specs.Versions.{has_version, version_of}
+use Rattle.sm_model.specs.Labels.{aws_current, aws_pending, holder}
+use Rattle.sm_versions.specs.Versions.{version_of}
+use Rattle.sm_model.specs.Versions.{has_version}
 use Rattle.sm_versions.specs.Put.{is_full}
-use Rattle.sm_versions.specs.Due.{is_free_or_held_by}
+use Rattle.sm_model.specs.Due.{is_free_or_held_by}
 use Rattle.sm_rotation.specs.declared.starting.Began.{Began}
 use Rattle.sm_rotation.specs.declared.starting.Began.TheVariants as starts
 use Rattle.sm_rotation.specs.Begin.{is_of_rotation, begin_answer, begin_row}

@@ -291,6 +291,7 @@ fn turned_on(alloc: Global, plan: &Plan, kept: &Rotation) -> Result<Rotation, No
         enabled: true,
         lambda: lambda_or(alloc, &plan.lambda, &kept.lambda)?,
         days: days_or(&plan.rules, kept.days),
+        schedule: kept.schedule.copy(alloc)?,
         next: kept.next,
         last: kept.last,
     })

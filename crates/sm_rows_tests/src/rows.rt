@@ -56,10 +56,12 @@ fn fresh(alloc: Global, serial: u64, name: Name, letter: u8) -> Result<SecretRow
             enabled: false,
             lambda: None,
             days: None,
+            schedule: None,
             next: None,
             last: None,
         },
         policy: None,
+        regions: List::empty(alloc),
         job: None,
     })
 }

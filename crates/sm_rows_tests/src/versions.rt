@@ -72,10 +72,12 @@ fn fresh(alloc: Global) -> Result<SecretRow, Fail> {
             enabled: false,
             lambda: None,
             days: None,
+            schedule: None,
             next: None,
             last: None,
         },
         policy: None,
+        regions: List::empty(alloc),
         job: None,
     })
 }

@@ -1,7 +1,7 @@
 //! Runs over disks that hold something, or fail.
 use sm_account::Account;
+use sm_base::limits::JOURNAL_LIMIT;
 use sm_disk::MemoryDisk;
-use sm_model::limits::JOURNAL_LIMIT;
 use sm_model::{Fails, List};
 use sm_rotator::NoRotator;
 use sm_server::Status;

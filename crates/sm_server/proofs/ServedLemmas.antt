@@ -9,7 +9,7 @@ use Rattle.sm_journal.specs.declared.answers.OpenRefused.TheVariants as refusals
 use Rattle.sm_lock.specs.declared.storied.Storied.{Ghosts as StoriedGhosts}
 use Rattle.sm_model.specs.declared.entry.Entry.{Entry}
 use Rattle.sm_model.specs.declared.entry.Mark.{Mark}
-use Rattle.sm_model.specs.declared.limits.TheConstants.{JOURNAL_LIMIT}
+use Rattle.sm_base.specs.declared.limits.TheConstants.{JOURNAL_LIMIT}
 use Rattle.sm_principal.specs.declared.people.People.{People as Persons}
 use Rattle.sm_rotator.specs.declared.rotator.Rotator.{Ghosts as RotatorGhosts}
 use Rattle.sm_store.specs.Entries.{HasEntries}

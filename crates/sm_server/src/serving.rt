@@ -1,6 +1,6 @@
 //! The top call of a server: workers in threads over one account.
 ghost use Rattle.std.specs.Prelude.{◌≡◌, ◌≤◌, All, [], None, length, map, string_bytes};
-ghost use Rattle.sm_model.specs.declared.limits.TheConstants.{JOURNAL_LIMIT};
+ghost use Rattle.sm_base.specs.declared.limits.TheConstants.{JOURNAL_LIMIT, SEATS_LIMIT};
 ghost use Rattle.sm_account.specs.Accounts.{base, began, doors, failed, history, taken};
 ghost use Rattle.sm_account.specs.States.{base_of};
 ghost use Rattle.sm_principal.specs.Callers.{people_of};
@@ -13,10 +13,10 @@ use crate::asked::people_of;
 use crate::run::end_unopened;
 use crate::status::Status;
 use sm_account::Account;
+use sm_base::limits::JOURNAL_LIMIT;
 use sm_disk::Disk;
 use sm_io::{Clock, Edge, Words};
 use sm_lock::BuildRefused;
-use sm_model::limits::JOURNAL_LIMIT;
 use sm_principal::People;
 use sm_rotator::Rotator;
 use sm_words::{Mode, WordsRefused, read_words};
@@ -54,7 +54,7 @@ pub fn run_server<
 ) -> RanBy<Account<D, R>, D>
 where
     E::C: Send,
-    requires many { (1 ≤ length workers.old) × (length workers.old ≤ 128) }
+    requires many { (1 ≤ length workers.old) × (length workers.old ≤ SEATS_LIMIT) }
     requires fresh { All IsFresh workers.old }
     ensures ran { RanAs (views_by E.Edge E.C.Source E.C.Sink C.Clock W.Words R.Rotator) D.Disk
         (settings_of (map string_bytes words.now)) (people_of people.now) disk result workers.old workers.new }
@@ -115,7 +115,7 @@ fn serve_over<
 ) -> RanBy<Account<D, R>, D>
 where
     E::C: Send,
-    requires many { (1 ≤ length workers.old) × (length workers.old ≤ 128) }
+    requires many { (1 ≤ length workers.old) × (length workers.old ≤ SEATS_LIMIT) }
     requires fresh { All IsFresh workers.old }
     ensures ran { LeavesOver (views_by E.Edge E.C.Source E.C.Sink C.Clock W.Words R.Rotator) D.Disk people.now disk
         result workers.old workers.new }
@@ -134,7 +134,7 @@ where
 
 /// How many of the workers are doors.
 fn doors_of<E, D: Disk, C, W, R: Rotator>(workers: &[WorkerBy<E, C, W, R, Account<D, R>>]) -> u32
-    requires { length workers.now ≤ 128 }
+    requires { length workers.now ≤ SEATS_LIMIT }
     ensures { result ≡ doors_in workers.now }
 {
     workers
@@ -170,7 +170,7 @@ fn serve_at<
 ) -> (Status, Account<D, R>)
 where
     E::C: Send,
-    requires many { (1 ≤ length workers.old) × (length workers.old ≤ 128) }
+    requires many { (1 ≤ length workers.old) × (length workers.old ≤ SEATS_LIMIT) }
     requires fresh { All IsFresh workers.old }
     requires empty { history account ≡ [] }
     requires open { doors account ≡ doors_in workers.old }

@@ -1,5 +1,6 @@
 //! Who asks for what by a message.
 ghost use Rattle.std.specs.Prelude.{◌≡◌, ◌≤◌, ◌&&◌, codes, length, map, option_copied, option_map};
+ghost use Rattle.sm_base.specs.declared.limits.TheConstants.{KEY_LIMIT};
 ghost use Rattle.std.specs.Str.{bytes_eq, str_eq_ignore_ascii_case};
 ghost use Rattle.sm_http.specs.Heads.{field_of};
 ghost use Rattle.sm_http.specs.Reading.{content, pair_of};
@@ -19,7 +20,7 @@ use std::alloc::Global;
 /// of its members.
 pub fn read(alloc: Global, people: &People, message: &Message) -> Heard
     ensures hears { Hears result (heard people.now (content message.now)) }
-    ensures short { IfAsks result (λ person. length person.key ≤ 128) }
+    ensures short { IfAsks result (λ person. length person.key ≤ KEY_LIMIT) }
 {
     match operation_of(message) {
         Some(operation) => {
@@ -87,7 +88,7 @@ fn read_body(
 ) -> Heard
     ensures hears { Hears result
         (asked_of (caller_of people.now (option_copied authorization.entry)) operation body.now) }
-    ensures short { IfAsks result (λ person. length person.key ≤ 128) }
+    ensures short { IfAsks result (λ person. length person.key ≤ KEY_LIMIT) }
 {
     match people.caller(alloc, authorization) {
         Ok(person) => ask_as(alloc, person, operation, body),

@@ -4,10 +4,10 @@ ghost use Rattle.sm_lock.specs.Handles.{IsIn};
 
 use crate::gates::for_one;
 use sm_account::Account;
+use sm_base::limits::JOURNAL_LIMIT;
 use sm_disk::MemoryDisk;
 use sm_io::{CountWords, FixedClock, MemoryConn, MemorySink, MemorySource};
 use sm_lock::{Gate, Pass};
-use sm_model::limits::JOURNAL_LIMIT;
 use sm_model::{Bytes, Fails, List, Moment};
 use sm_principal::People;
 use sm_rotator::NoRotator;

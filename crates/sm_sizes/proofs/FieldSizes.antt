@@ -10,22 +10,24 @@ use Rattle.std.proofs.lemmas.Str.{is_utf8-from_IsUtf8, IsUtf8-from_is_utf8, enco
 use Rattle.sm_base.specs.Spelling.{is_run, is_name_byte, is_token, is_token_byte, is_name, is_label, is_arn, is_arn_like, is_secret_id, is_region_byte, IsArnOf}
 use Rattle.sm_base.proofs.ArnShapeLemmas.{arn_has_shape}
 use Rattle.sm_base.proofs.LabelLemmas.{label_is_utf8}
-use Rattle.sm_model.specs.Bounds.{fits, has_at_most, is_attempt, is_description, is_small, is_tag_key, is_tag, reserved_beginning}
-use Rattle.sm_model.specs.declared.limits.TheConstants.{DAYS_LIMIT, DESCRIPTION_LIMIT, POLICY_LIMIT, TAGS_LIMIT, TAG_KEY_LIMIT, TAG_VALUE_LIMIT, VALUE_LIMIT}
+use Rattle.sm_model.specs.Bounds.{fits, is_attempt, is_description, is_small, is_tag_key, is_tag, reserved_beginning}
+use Rattle.sm_base.specs.Texts.{has_at_most}
+use Rattle.sm_base.specs.declared.limits.TheConstants.{DAYS_LIMIT, DESCRIPTION_LIMIT, POLICY_LIMIT, TAGS_LIMIT, TAG_KEY_LIMIT, TAG_VALUE_LIMIT, VALUE_LIMIT, SHORTEST_WINDOW, LONGEST_WINDOW}
 use Rattle.sm_model.specs.declared.request.Rules.{Rules}
 use Rattle.sm_model.specs.declared.rows.Stage.{Stage}
 use Rattle.sm_model.specs.declared.rows.Stage.TheVariants.{Create, Set, Test, Finish}
 use Rattle.sm_model.specs.declared.value.Tag.{Tag}
 use Rattle.sm_model.specs.declared.value.Value.{Value}
 use Rattle.sm_model.specs.declared.value.Value.TheVariants.{Text, Bytes}
-use Rattle.sm_policy.specs.Documents.{has_policy_length, is_policy, is_resource_policy}
+use Rattle.sm_policy_text.specs.Documents.{has_policy_length, is_policy, is_resource_policy}
 use Rattle.sm_versions.specs.Texts.{once}
 use Rattle.sm_versions.specs.Sound.{tag_keys, each_tag}
 use Rattle.sm_forms.specs.DeleteSecret.{is_window}
-use Rattle.sm_forms.specs.declared.delete_secret.TheConstants.{SHORTEST_WINDOW, LONGEST_WINDOW}
 use Rattle.sm_forms.specs.RotateSecret.{is_period}
 use Rattle.sm_forms.specs.UntagResource.{is_untag_key}
 use Rattle.sm_record.specs.Codec.{optional}
+use Rattle.sm_record.specs.Editions.{is_none}
+use Rattle.sm_record.specs.declared.edition.Edition.TheVariants.{First}
 use Rattle.sm_record.specs.Fields.{arn, attempt, count, long, signed, octets, rotation_rules, stage, text, token, truth, listed, tag, value}
 use Rattle.sm_sizes.specs.Texts.{TagTexts, EachText, ValueText}
 
@@ -415,13 +417,16 @@ unfolding optional
 days_fit None is = refl
 days_fit (Some days) is = period_fits days is
 
-pub rules_size : (rules : Option Rules) → length ((optional rotation_rules).spell rules) ≤ 10
+pub rules_size : (rules : Option Rules) → length ((optional (rotation_rules First)).spell rules) ≤ 10
 unfolding optional rotation_rules
 rules_size None = omega arith
-rules_size (Some rules) = omega (arith, window_size rules.days)
+rules_size (Some rules) =
+    let days : List ℕ = (optional signed).spell rules.days in
+    omega (arith, window_size rules.days, length-append days [])
 
 pub rules_fit : (rules : Option Rules) → IfSome rules (λ r. IsTrue (fits is_period r.days))
-    → (optional rotation_rules).fits rules ≡ true
+    → IfSome rules (λ r. r.schedule ≡ None) → (optional (rotation_rules First)).fits rules ≡ true
 unfolding optional rotation_rules
-rules_fit None is = refl
-rules_fit (Some rules) is = days_fit rules.days is
+rules_fit None is none = refl
+rules_fit (Some rules) is none =
+    and_from ((optional signed).fits rules.days) (is_none rules.schedule) (days_fit rules.days is) (ap is_none none)

@@ -1,5 +1,5 @@
 -- How long the requests that make entries are as they are spelled, and that they fit.
-use Rattle.std.proofs.Common.{◌≡◌, ℕ, ◌≤◌, true, false, ◌&&◌, List, ◌++◌, length, Option, Some, None, IfSome, IsSome, arith, length-append}
+use Rattle.std.proofs.Common.{◌≡◌, ℕ, ◌≤◌, true, false, ◌&&◌, List, ◌++◌, length, Option, Some, None, IfSome, IsSome, ap, arith, length-append}
 use Rattle.std.specs.Prelude.{IsTrue, IsUtf8, nat_le, codes}
 use Rattle.std.specs.List.{list_all}
 use Rattle.std.proofs.lemmas.Bool.Decides.{nat_tests}
@@ -9,7 +9,7 @@ use Rattle.sm_base.specs.declared.moment.Moment.{Moment}
 use Rattle.sm_model.specs.Bounds.{is_description}
 use Rattle.sm_model.specs.declared.entry.Act.TheVariants.{Asked}
 use Rattle.sm_model.specs.declared.entry.Change.{Change}
-use Rattle.sm_model.specs.declared.limits.TheConstants.{VALUE_LIMIT, LABELS_LIMIT, TAGS_LIMIT}
+use Rattle.sm_base.specs.declared.limits.TheConstants.{VALUE_LIMIT, LABELS_LIMIT, TAGS_LIMIT}
 use Rattle.sm_model.specs.declared.request.CreateSecret.{CreateSecret}
 use Rattle.sm_model.specs.declared.request.DeleteSecret.{DeleteSecret}
 use Rattle.sm_model.specs.declared.request.OfSecret.{OfSecret}
@@ -53,6 +53,8 @@ use Rattle.sm_upkeep.proofs.TagResourceLemmas.{tag_few}
 use Rattle.sm_core.specs.Histories.{IsDue, LegalAct}
 use Rattle.sm_core.specs.Judging.{judgement}
 use Rattle.sm_record.specs.Codec.{optional}
+use Rattle.sm_record.specs.Editions.{is_empty}
+use Rattle.sm_record.specs.declared.edition.Edition.TheVariants.{First}
 use Rattle.sm_record.specs.Fields.{signed, octets, rotation_rules, text, truth, listed, tag}
 use Rattle.sm_record.specs.Requests.{of_secret, create_secret, delete_secret, put_resource_policy, put_secret_value, rotate_secret, tag_resource, untag_resource, update_secret, update_secret_version_stage}
 use Rattle.sm_sizes.specs.Texts.{CreateTexts, PolicyTexts, PutTexts, RotateTexts, UpdateTexts, MoveTexts, TaggingTexts, UntaggingTexts, HasFewTags}
@@ -78,7 +80,7 @@ descriptions (Some x) utf8 h = description_size x utf8 h
 -- CreateSecret
 module _ (r : CreateSecret) (forms : create_forms r ≡ None) (texts : CreateTexts r)
     (few : IfSome r.tags (λ tags. length tags ≤ TAGS_LIMIT)) where
-  pub create_size : length (create_secret.spell r) ≤ 250000
+  pub create_size : length ((create_secret First).spell r) ≤ 250000
   unfolding create_secret
   create_size =
       let token : List ℕ = (optional text).spell r.client_request_token in
@@ -107,10 +109,11 @@ module _ (r : CreateSecret) (forms : create_forms r ≡ None) (texts : CreateTex
         tags_size r.tags texts.tags (create.create_tags r forms) few,
       )
 
-  pub create_fits : create_secret.fits r ≡ true
+  pub create_fits : (create_secret First).fits r ≡ true
   unfolding create_secret
   create_fits =
-      and_from ((optional text).fits r.client_request_token) _
+      and_from (is_empty r.regions) _ (ap is_empty (create.create_regions r forms))
+      (and_from ((optional text).fits r.client_request_token) _
       (optional_fits r.client_request_token 64 (omega arith) texts.token
       (tokens r.client_request_token (create.create_token r forms)))
       (and_from ((optional text).fits r.description) _
@@ -126,7 +129,7 @@ module _ (r : CreateSecret) (forms : create_forms r ≡ None) (texts : CreateTex
       (and_from ((optional text).fits r.secret_string) _
       (optional_fits r.secret_string VALUE_LIMIT (omega arith) texts.string
       (values r.secret_string (create.create_text r forms)))
-      (tags_fit r.tags texts.tags (create.create_tags r forms) few))))))
+      (tags_fit r.tags texts.tags (create.create_tags r forms) few)))))))
 
 -- PutSecretValue
 few_labels : (t : Option (List (List ℕ))) → labels_form t ≡ None → IfSome t (λ items. length items ≤ 20)
@@ -385,13 +388,13 @@ module _ (r : PutResourcePolicy) (forms : put_policy_forms r ≡ None) (texts : 
 
 -- RotateSecret
 module _ (r : RotateSecret) (forms : rotate_forms r ≡ None) (texts : RotateTexts r) where
-  pub rotate_size : length (rotate_secret.spell r) ≤ 10000
+  pub rotate_size : length ((rotate_secret First).spell r) ≤ 10000
   unfolding rotate_secret
   rotate_size =
       let token : List ℕ = (optional text).spell r.client_request_token in
       let at_once : List ℕ = truth.spell r.rotate_immediately in
       let lambda : List ℕ = (optional text).spell r.rotation_lambda_arn in
-      let rules : List ℕ = (optional rotation_rules).spell r.rotation_rules in
+      let rules : List ℕ = (optional (rotation_rules First)).spell r.rotation_rules in
       let id : List ℕ = text.spell r.secret_id in
       omega (
         arith,
@@ -408,7 +411,7 @@ module _ (r : RotateSecret) (forms : rotate_forms r ≡ None) (texts : RotateTex
         secret_id_size r.secret_id (rotating.rotate_id r forms),
       )
 
-  pub rotate_fits : rotate_secret.fits r ≡ true
+  pub rotate_fits : (rotate_secret First).fits r ≡ true
   unfolding rotate_secret
   rotate_fits =
       and_from ((optional text).fits r.client_request_token) _
@@ -418,8 +421,8 @@ module _ (r : RotateSecret) (forms : rotate_forms r ≡ None) (texts : RotateTex
       (and_from ((optional text).fits r.rotation_lambda_arn) _
       (optional_fits r.rotation_lambda_arn 8192 (omega arith) texts.lambda
       (descriptions r.rotation_lambda_arn texts.lambda (rotating.rotate_lambda r forms)))
-      (and_from ((optional rotation_rules).fits r.rotation_rules) (text.fits r.secret_id)
-      (rules_fit r.rotation_rules (rotating.rotate_rules r forms))
+      (and_from ((optional (rotation_rules First)).fits r.rotation_rules) (text.fits r.secret_id)
+      (rules_fit r.rotation_rules (rotating.rotate_rules r forms) (rotating.rotate_schedule r forms))
       (text_fits r.secret_id texts.id (omega (arith, secret_id_size r.secret_id (rotating.rotate_id r forms)))))))
 
 -- a fact of each change holds where one is due

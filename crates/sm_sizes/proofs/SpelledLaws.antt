@@ -1,11 +1,13 @@
 -- The entry of an act of which one may be made has a spelling, which is never too long for a record.
-use Rattle.std.proofs.Common.{◌≡◌, ℕ, ◌≤◌, Bool, true, false, ◌&&◌, ◌||◌, List, ◌∷◌, ◌++◌, length, Option, Some, None, is_some, refl, arith, length-append}
+use Rattle.std.proofs.Common.{◌≡◌, ℕ, ◌≤◌, Bool, true, false, ◌&&◌, ◌||◌, List, [], ◌∷◌, ◌++◌, length, nat_eq, Option, Some, None, is_some, refl, arith, length-append}
 use Rattle.std.specs.Prelude.{IsTrue, IsUtf8}
 use Rattle.std.proofs.lemmas.Bool.Decides.{nat_tests}
 use Rattle.std.proofs.lemmas.Bool.{and_from}
 use Rattle.sm_base.specs.Spelling.{is_arn, is_token}
 use Rattle.sm_base.specs.declared.moment.Moment.{Moment}
+use Rattle.sm_base.specs.declared.limits.TheConstants.{CALLER_LIMIT}
 use Rattle.sm_base.specs.declared.moment.TheConstants.{LAST_READING}
+use Rattle.sm_model.specs.declared.why.Why.{Why}
 use Rattle.sm_model.specs.Bounds.{is_attempt}
 use Rattle.sm_model.specs.Needed.{token_bytes, token_bytes_if, needed}
 use Rattle.sm_model.specs.declared.entry.Act.{Act}
@@ -17,19 +19,24 @@ use Rattle.sm_model.specs.declared.entry.Entry.{Entry}
 use Rattle.sm_model.specs.declared.request.Request.{Request}
 use Rattle.sm_model.specs.declared.request.Request.TheVariants as requests
 use Rattle.sm_forms.specs.Forms.{forms_of}
+use Rattle.sm_core.specs.Histories.{may_be_by}
 use Rattle.sm_core.specs.Judging.{is_reading}
-use Rattle.sm_record.specs.Entries.{act, answer, at, entry, report, spell_request, fits_request}
+use Rattle.sm_record.specs.Codec.{with_flag}
+use Rattle.sm_record.specs.declared.head.Before.{Before}
+use Rattle.sm_record.specs.Editions.{is_empty, mark}
+use Rattle.sm_record.specs.declared.edition.Edition.TheVariants.{First}
+use Rattle.sm_record.specs.Entries.{act, answer, at, before_of, done, entry, fits_act, fits_request, head, may_begin, may_report, report, spell_act, spell_request}
 use Rattle.sm_record.specs.Fields.{arn, attempt, octets, stage, text, token, moment, long}
 use Rattle.sm_record.specs.Spelling.{spelling, has_spelling, HasSpelling}
-use Rattle.sm_sizes.specs.Spellable.{IsAccepted, IsSpellable, IsStep, is_small_answer}
+use Rattle.sm_sizes.specs.Spellable.{IsAccepted, IsSpellable, IsStep, MayBeMade, is_small_answer}
 use Rattle.sm_sizes.specs.Texts.{ActTexts, AnswerText, TextsOf, HasFewTags}
 use Rattle.sm_sizes.proofs.FieldSizes.{arn_field_fits, arn_field_size, attempt_fits, attempt_size, octets_size, octets_fits, stage_fits, stage_size, text_size, text_fits, token_field_fits, token_field_size, value_fits, value_size}
 use Rattle.sm_sizes.proofs.RequestSizes.{create_size, create_fits, put_size, put_fits, update_size, update_fits, move_size, move_fits, delete_size, delete_fits, named_size, named_fits, put_policy_size, put_policy_fits, rotate_size, rotate_fits, tag_resource_size, tag_resource_fits, untag_resource_size, untag_resource_fits}
 
 -- a request that changes something has a short spelling, and needs few random bytes
 record IsShort (request : Request) : Type 0 where
-  size : length (spell_request request) ≤ 250001
-  fits : fits_request request ≡ true
+  size : length (spell_request First request) ≤ 250001
+  fits : fits_request First request ≡ true
   drawn : needed request ≤ 22
 
 token_need : (t : Option (List ℕ)) → token_bytes t ≤ 16
@@ -43,6 +50,10 @@ token_need_if true t = token_need t
 -- a request that only reads makes no entry
 reads : {A : Type 0} → true ≡ false → A
 reads is = absurd (cc)
+
+-- no operation on replica regions is known
+unknown : {A : Type 0} {why : Why} → Some why ≡ None → A
+unknown is = absurd (cc)
 
 -- the requests that make entries
 is_short : (request : Request) → forms_of request ≡ None → is_reading request ≡ false → TextsOf request
@@ -87,6 +98,9 @@ is_short (requests.UntagResource r) forms changes texts few = record {
   fits = untag_resource_fits r forms texts;
   drawn = omega arith;
 }
+is_short (requests.RemoveRegionsFromReplication r) forms changes texts few = unknown forms
+is_short (requests.ReplicateSecretToRegions r) forms changes texts few = unknown forms
+is_short (requests.StopReplicationToReplica r) forms changes texts few = unknown forms
 is_short (requests.GetSecretValue r) forms changes texts few = reads changes
 is_short (requests.BatchGetSecretValue r) forms changes texts few = reads changes
 is_short (requests.GetRandomPassword r) forms changes texts few = reads changes
@@ -172,26 +186,47 @@ report_fits name place given is token texts from small =
     (and_from (at.fits place) (answer.fits given) (step_fits place token from) (answer_fits given texts small))
 
 -- an act has a short spelling, and few random bytes were drawn for it
-record IsShortAct (drawn : List ℕ) (done : Act) : Type 0 where
-  size : length (act.spell done) ≤ 250001
-  fits : act.fits done ≡ true
+record IsShortAct (before : Before) (drawn : List ℕ) (made : Act) : Type 0 where
+  size : length (spell_act First made) ≤ 250001
+  fits : fits_act First before made ≡ true
   drawn_few : length drawn ≤ 22
 
-short_act : (drawn : List ℕ) (done : Act) → ActTexts done → IsSpellable drawn done → IsShortAct drawn done
-unfolding act
-short_act drawn (Asked request) texts may =
+-- nobody stands with it, and so many bytes were drawn
+starts : (caller by drawn : List ℕ) → (nat_eq (length caller) 0 && nat_eq (length by) 0) ≡ true → length drawn ≡ 16
+    → may_begin (before_of caller by drawn) ≡ true
+starts [] [] drawn nobody sixteen = grind (arith, nat_tests, sixteen)
+starts (c ∷ caller) by drawn nobody sixteen = cc
+starts [] (c ∷ by) drawn nobody sixteen = cc
+
+reports : (caller by drawn : List ℕ) → (nat_eq (length caller) 0 && nat_eq (length by) 0) ≡ true → length drawn ≡ 0
+    → may_report (before_of caller by drawn) ≡ true
+reports [] [] drawn nobody none = grind (arith, nat_tests, none)
+reports (c ∷ caller) by drawn nobody none = cc
+reports [] (c ∷ by) drawn nobody none = cc
+
+short_act : (caller by drawn : List ℕ) (made : Act) → ActTexts made → MayBeMade drawn made
+    → may_be_by caller by made ≡ true → IsShortAct (before_of caller by drawn) drawn made
+short_act caller by drawn (Asked request) texts may whose =
     let short = is_short request may.forms may.changes texts may.few in
     record { size = short.size; fits = short.fits; drawn_few = omega (arith, may.drawn_for, short.drawn) }
-short_act drawn (Begun name) texts may = record {
+short_act caller by drawn (Begun name) texts may whose = record {
   size = omega (arith, arn_field_size name texts);
-  fits = arn_field_fits name texts;
+  fits = and_from (may_begin (before_of caller by drawn)) (arn.fits name) (starts caller by drawn whose may)
+      (arn_field_fits name texts);
   drawn_few = omega (arith, may);
 }
-short_act drawn (Reported name place given) texts may = record {
+short_act caller by drawn (Reported name place given) texts may whose = record {
   size = omega (arith, report_size name place given texts.0 texts.1 may.small);
-  fits = report_fits name place given texts.0 texts.1 texts.2 may.attempt may.small;
+  fits = and_from (may_report (before_of caller by drawn)) (report.fits (name, (place, given)))
+      (reports caller by drawn whose may.none)
+      (report_fits name place given texts.0 texts.1 texts.2 may.attempt may.small);
   drawn_few = omega (arith, may.none);
 }
+
+-- the truth value in its tag makes no act longer
+flagged_size : (flag : Bool) (bytes : List ℕ) → length (with_flag flag bytes) ≡ length bytes
+flagged_size flag [] = refl
+flagged_size flag (tag ∷ rest) = refl
 
 -- the fields of an entry beside its act
 module _ (e : Entry) where
@@ -203,30 +238,39 @@ module _ (e : Entry) where
   unfolding moment long
   moment_fits early = grind (arith, nat_tests, early)
 
-  module _ (caller : length e.caller ≤ 256) (texts : ActTexts e.act) (may : IsSpellable e.drawn e.act) where
-    pub entry_size : length (spelling e) ≤ 1048576
-    unfolding spelling entry
+  absent : (by : List ℕ) → by ≡ [] → is_empty by ≡ true
+  absent [] is = refl
+  absent (b ∷ by) is = cc
+
+  module _ (caller : length e.caller ≤ CALLER_LIMIT) (texts : ActTexts e.act) (may : IsSpellable e) where
+    short : IsShortAct (before_of e.caller e.by e.drawn) e.drawn e.act
+    short = short_act e.caller e.by e.drawn e.act texts may.act may.whose
+
+    pub entry_size : length (spelling First e) ≤ 1048576
+    unfolding spelling entry head done act mark
     entry_size =
-        let short = short_act e.drawn e.act texts may in
-        let tail : List ℕ = act.spell e.act in
+        let tail : List ℕ = with_flag e.prunes (spell_act First e.act) in
+        let front : List ℕ = moment.spell e.moment ++ (text.spell e.caller ++ octets.spell e.drawn) in
         omega (
           arith,
-          length-append (moment.spell e.moment) (text.spell e.caller ++ (octets.spell e.drawn ++ tail)),
-          length-append (text.spell e.caller) (octets.spell e.drawn ++ tail),
-          length-append (octets.spell e.drawn) tail,
+          length-append front tail,
+          length-append (moment.spell e.moment) (text.spell e.caller ++ octets.spell e.drawn),
+          length-append (text.spell e.caller) (octets.spell e.drawn),
           moment_size,
           text_size e.caller,
           octets_size e.drawn,
+          flagged_size e.prunes (spell_act First e.act),
           short.size,
           short.drawn_few,
           caller,
         )
 
-    pub entry_fits : e.moment.0 ≤ LAST_READING → IsUtf8 e.caller → HasSpelling e
-    unfolding has_spelling entry
+    pub entry_fits : e.moment.0 ≤ LAST_READING → IsUtf8 e.caller → HasSpelling First e
+    unfolding has_spelling entry head done act mark
     entry_fits early utf8 =
-        let short = short_act e.drawn e.act texts may in
-        and_from (moment.fits e.moment) _ (moment_fits early)
+        and_from _ (fits_act First (before_of e.caller e.by e.drawn) e.act)
+        (and_from (moment.fits e.moment) _ (moment_fits early)
         (and_from (text.fits e.caller) _ (text_fits e.caller utf8 (omega (arith, caller)))
-        (and_from (octets.fits e.drawn) (act.fits e.act) (octets_fits e.drawn (omega (arith, short.drawn_few)))
-        short.fits))
+        (and_from (is_empty e.by) (octets.fits e.drawn) (absent e.by may.by)
+        (octets_fits e.drawn (omega (arith, short.drawn_few))))))
+        short.fits

@@ -1,6 +1,6 @@
 -- Entries that have a spelling which is not too long for a record of the journal.
 -- AWS Secrets Manager User Guide: "AWS Secrets Manager quotas".
-use Rattle.std.specs.Prelude.{◌≡◌, ℕ, Bool, true, false, List, length, None, IsTrue}
+use Rattle.std.specs.Prelude.{◌≡◌, ℕ, Bool, true, false, List, [], length, None, IsTrue}
 use Rattle.sm_model.specs.Bounds.{is_attempt, is_small}
 use Rattle.sm_model.specs.Needed.{needed}
 use Rattle.sm_model.specs.declared.entry.Act.{Act}
@@ -8,8 +8,10 @@ use Rattle.sm_model.specs.declared.entry.Act.TheVariants.{Asked, Begun, Reported
 use Rattle.sm_model.specs.declared.entry.Answer.{Answer}
 use Rattle.sm_model.specs.declared.entry.Answer.TheVariants as answers
 use Rattle.sm_model.specs.declared.entry.At.{At}
+use Rattle.sm_model.specs.declared.entry.Entry.{Entry}
 use Rattle.sm_model.specs.declared.request.Request.{Request}
 use Rattle.sm_forms.specs.Forms.{forms_of}
+use Rattle.sm_core.specs.Histories.{may_be_by}
 use Rattle.sm_core.specs.Judging.{is_reading}
 use Rattle.sm_sizes.specs.Texts.{HasFewTags}
 
@@ -34,7 +36,13 @@ pub record IsStep (drawn : List ℕ) (at : At) (answer : Answer) : Type 0 where
   pub small : IsTrue (is_small_answer answer)
 
 -- an act, and the random bytes that were drawn for it, of which an entry may be made
-abbrev pub IsSpellable : List ℕ → Act → Type 0
-IsSpellable drawn (Asked request) = IsAccepted drawn request
-IsSpellable drawn (Begun arn) = length drawn ≡ 16
-IsSpellable drawn (Reported arn at answer) = IsStep drawn at answer
+abbrev pub MayBeMade : List ℕ → Act → Type 0
+MayBeMade drawn (Asked request) = IsAccepted drawn request
+MayBeMade drawn (Begun arn) = length drawn ≡ 16
+MayBeMade drawn (Reported arn at answer) = IsStep drawn at answer
+
+-- an entry that may be made: nobody stands with what nobody asks for, and no ARN with any
+pub record IsSpellable (entry : Entry) : Type 0 where
+  pub act : MayBeMade entry.drawn entry.act
+  pub whose : IsTrue (may_be_by entry.caller entry.by entry.act)
+  pub by : entry.by ≡ []

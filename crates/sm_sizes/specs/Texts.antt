@@ -5,7 +5,7 @@ use Rattle.sm_model.specs.declared.entry.Act.{Act}
 use Rattle.sm_model.specs.declared.entry.Act.TheVariants.{Asked, Begun, Reported}
 use Rattle.sm_model.specs.declared.entry.Answer.{Answer}
 use Rattle.sm_model.specs.declared.entry.Answer.TheVariants as answers
-use Rattle.sm_model.specs.declared.limits.TheConstants.{TAGS_LIMIT}
+use Rattle.sm_base.specs.declared.limits.TheConstants.{TAGS_LIMIT}
 use Rattle.sm_model.specs.declared.request.CreateSecret.{CreateSecret}
 use Rattle.sm_model.specs.declared.request.PutResourcePolicy.{PutResourcePolicy}
 use Rattle.sm_model.specs.declared.request.PutSecretValue.{PutSecretValue}

@@ -1,5 +1,6 @@
 //! The spelling of an entry that is due.
 ghost use Rattle.std.specs.Prelude.{◌≡◌, ◌≤◌, length, IfOk, IfSome, IsTrue, IsUtf8};
+ghost use Rattle.sm_base.specs.declared.limits.TheConstants.{CALLER_LIMIT};
 ghost use Rattle.sm_base.specs.declared.moment.TheConstants.{LAST_READING};
 ghost use Rattle.sm_base.specs.Spelling.{is_arn, is_token};
 ghost use Rattle.sm_journal.specs.Records.{body_limit};
@@ -8,20 +9,20 @@ ghost use Rattle.sm_sizes.specs.Spellable.{IsSpellable};
 ghost use Rattle.sm_sizes.specs.Texts.{ActTexts, AnswerText, EachText, TagTexts, TextsOf, ValueText};
 
 use sm_model::{Act, Answer, Arn, Bytes, Entry, List, NoMemory, Request, Tag, Text, Token, Value};
-use sm_record::encode;
+use sm_record::encode_first;
 use std::alloc::Global;
 
 /// The spelling of an entry of an accepted request, of a start of a due rotation or of a report, which is never too
 /// long for a record.
 pub fn spell(alloc: Global, entry: &Entry) -> Result<Bytes, NoMemory>
     requires bound { entry.now.moment.0 ≤ LAST_READING }
-    requires key { length entry.now.caller ≤ 256 }
-    requires act { IsSpellable entry.now.drawn entry.now.act }
+    requires key { length entry.now.caller ≤ CALLER_LIMIT }
+    requires act { IsSpellable entry.now }
     ensures { IfOk result (λ ready. Spells entry.now ready × (length ready ≤ body_limit)) }
 {
     note_text(&entry.caller);
     note_act(&entry.act);
-    let ready = encode(alloc, entry)?;
+    let ready = encode_first(alloc, entry)?;
     Ok(ready)
 }
 

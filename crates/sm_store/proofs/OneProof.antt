@@ -6,6 +6,7 @@ use Rattle.std.specs.Option.{option_map}
 use Rattle.sm_disk.specs.declared.disk.Disk.{Ghosts}
 use Rattle.sm_journal.proofs.OneProof.{recovers_prop, stands_prop}
 use Rattle.sm_model.specs.declared.entry.Entry.{Entry}
+use Rattle.sm_record.specs.declared.edition.Edition.TheVariants.{First}
 use Rattle.sm_record.specs.Spelling.{spelling, has_spelling}
 use Rattle.sm_store.specs.Entries.{AreSpelled, IsSpelled, HasEntries, HasEither}
 use Rattle.sm_store.specs.Stores.{Holds}
@@ -14,14 +15,14 @@ use Rattle.sm_store.proofs.EntryLists.{one_list_of_entries}
 
 spelled_prop : (list : List Entry) → IsProp (AreSpelled list)
 spelled_prop [] = Unit-prop
-spelled_prop (e ∷ list) = ×_prop (Bool-set (has_spelling e) true) (spelled_prop list)
+spelled_prop (e ∷ list) = ×_prop (Bool-set (has_spelling First e) true) (spelled_prop list)
 
 last_prop : (failed : Option Entry) → IsProp (IsSpelled failed)
 last_prop None = Unit-prop
-last_prop (Some e) = Bool-set (has_spelling e) true
+last_prop (Some e) = Bool-set (has_spelling First e) true
 
 pub entries_prop : (bytes : List ℕ) (list : List Entry) → IsProp (HasEntries bytes list)
-entries_prop bytes list = ×_prop (recovers_prop bytes (map spelling list)) (spelled_prop list)
+entries_prop bytes list = ×_prop (recovers_prop bytes (map (spelling First) list)) (spelled_prop list)
 
 -- two sides that exclude each other
 either_side : {A B : Type 0} → IsProp A → IsProp B → (A → B → ⊥) → IsProp (A ⊎ B)
@@ -43,7 +44,8 @@ either_prop list (Some e) bytes = either_side (entries_prop bytes list) (entries
 pub holds_prop : {D : Type 0} {G : Ghosts D} (store : Store D G) (list : List Entry) (failed : Option Entry)
     → IsProp (Holds store list failed)
 holds_prop store list failed a b = λ i. record {
-  stands = stands_prop store.journal (map spelling list) (option_map spelling failed) a.stands b.stands i;
+  stands =
+      stands_prop store.journal (map (spelling First) list) (option_map (spelling First) failed) a.stands b.stands i;
   spelled = spelled_prop list a.spelled b.spelled i;
   last = last_prop failed a.last b.last i;
 }

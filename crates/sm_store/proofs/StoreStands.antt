@@ -15,6 +15,7 @@ use Rattle.sm_journal.specs.declared.journal.Journal.{Journal}
 use Rattle.sm_journal.specs.declared.answers.Appended.{Appended}
 use Rattle.sm_journal.specs.declared.answers.Appended.TheVariants.{Ok, Failed, Full, TooLong}
 use Rattle.sm_model.specs.declared.entry.Entry.{Entry}
+use Rattle.sm_record.specs.declared.edition.Edition.TheVariants.{First}
 use Rattle.sm_record.specs.Spelling.{spelling, HasSpelling}
 use Rattle.sm_store.specs.Entries.{Spells, AreSpelled, IsSpelled, HasEither}
 use Rattle.sm_store.specs.Stores.{disk_of, Holds, AppendsAs, LeavesEither, IsIdle}
@@ -25,13 +26,13 @@ use Rattle.sm_store.proofs.EntryLists.{spelled_push, either_entries}
 -- a crash that leaves bodies leaves entries
 pub either_left : (file : ℕ) (list : List Entry) (failed : Option Entry) (old now : Sight) → file ≡ JOURNAL
     → AreSpelled list → IsSpelled failed
-    → Leaves file (λ _. RecoversEither (map spelling list) (option_map spelling failed))
-    (λ _. RecoversEither (map spelling list) (option_map spelling failed)) old now
+    → Leaves file (λ _. RecoversEither (map (spelling First) list) (option_map (spelling First) failed))
+    (λ _. RecoversEither (map (spelling First) list) (option_map (spelling First) failed)) old now
     → Leaves JOURNAL (λ _. HasEither list failed) (λ _. HasEither list failed) old now
 either_left file list failed old now is all last run =
     subst (λ f. Leaves f (λ _. HasEither list failed) (λ _. HasEither list failed) old now) is
-    (weakened file (λ _. RecoversEither (map spelling list) (option_map spelling failed))
-    (λ _. RecoversEither (map spelling list) (option_map spelling failed))
+    (weakened file (λ _. RecoversEither (map (spelling First) list) (option_map (spelling First) failed))
+    (λ _. RecoversEither (map (spelling First) list) (option_map (spelling First) failed))
     (λ _. HasEither list failed) (λ _. HasEither list failed) old now
     (λ d was y. either_entries list failed all last y) (λ d was y. either_entries list failed all last y) run)
 
@@ -52,8 +53,8 @@ module _ {D : Type 0} {G : Ghosts D} where
   }
 
   -- what `append` answers for the spelling of an entry
-  at_spelling : (old new : Store D G) (e : Entry) (answer : Appended) → HasSpelling e
-      → length (spelling e) ≤ body_limit → journals.AppendsAs old.journal (spelling e) new.journal answer
+  at_spelling : (old new : Store D G) (e : Entry) (answer : Appended) → HasSpelling First e
+      → length (spelling First e) ≤ body_limit → journals.AppendsAs old.journal (spelling First e) new.journal answer
       → AppendsAs old e new answer
   at_spelling old new e (TooLong n) fits within appends = absurd (omega (arith, within, appends.0))
   at_spelling old new e (Full n) fits within appends =
@@ -63,8 +64,8 @@ module _ {D : Type 0} {G : Ghosts D} where
     appends.1,
     appends.2,
     λ list holds.
-        let added = appends.3 (map spelling list) holds.stands in
-        let same = map_push spelling list e in (
+        let added = appends.3 (map (spelling First) list) holds.stands in
+        let same = map_push (spelling First) list e in (
           record {
             stands = subst (λ bodies. journals.Stands new.journal bodies None) (sym same) added.0;
             spelled = spelled_push list e holds.spelled fits;
@@ -78,7 +79,7 @@ module _ {D : Type 0} {G : Ghosts D} where
     appends.1,
     appends.2,
     λ list holds.
-        record { stands = appends.3 (map spelling list) holds.stands; spelled = holds.spelled; last = fits },
+        record { stands = appends.3 (map (spelling First) list) holds.stands; spelled = holds.spelled; last = fits },
   )
 
   -- what `append` answers for a body, it answers for the entry that the body spells
@@ -96,8 +97,8 @@ module _ {D : Type 0} {G : Ghosts D} where
   append_leaves old new e body spells run list holds =
       either_left old.journal.file list (Some e) (G.sight (disk_of old)) (G.sight (journals.disk_of new)) old.in_file
       holds.spelled spells.0
-      (subst (λ (b : List ℕ). journals.LeavesEither (map spelling list) (Some b) old.journal new)
-      (sym spells.1) (run (map spelling list) holds.stands))
+      (subst (λ (b : List ℕ). journals.LeavesEither (map (spelling First) list) (Some b) old.journal new)
+      (sym spells.1) (run (map (spelling First) list) holds.stands))
 
   -- what a crash inside of `mend` leaves
   pub mend_leaves : (old : Store D G) (new : Journal D G) → ((bodies : List (List ℕ)) (failed : Option (List ℕ))
@@ -107,19 +108,19 @@ module _ {D : Type 0} {G : Ghosts D} where
       → LeavesEither G list failed (disk_of old) (journals.disk_of new)
   mend_leaves old new run list failed holds =
       either_left old.journal.file list failed (G.sight (disk_of old)) (G.sight (journals.disk_of new)) old.in_file
-      holds.spelled holds.last (run (map spelling list) (option_map spelling failed) holds.stands)
+      holds.spelled holds.last (run (map (spelling First) list) (option_map (spelling First) failed) holds.stands)
 
   -- what stands goes on standing, in entries
   pub holds_on : (old new : Store D G) (list : List Entry) (failed : Option Entry)
-      → (journals.Stands old.journal (map spelling list) (option_map spelling failed)
-      → journals.Stands new.journal (map spelling list) (option_map spelling failed))
+      → (journals.Stands old.journal (map (spelling First) list) (option_map (spelling First) failed)
+      → journals.Stands new.journal (map (spelling First) list) (option_map (spelling First) failed))
       → Holds old list failed → Holds new list failed
   holds_on old new list failed stands holds =
       record { stands = stands holds.stands; spelled = holds.spelled; last = holds.last }
 
   pub holds_sure : (old new : Store D G) (list : List Entry) (failed : Option Entry)
-      → (journals.Stands old.journal (map spelling list) (option_map spelling failed)
-      → journals.Stands new.journal (map spelling list) None)
+      → (journals.Stands old.journal (map (spelling First) list) (option_map (spelling First) failed)
+      → journals.Stands new.journal (map (spelling First) list) None)
       → Holds old list failed → Holds new list None
   holds_sure old new list failed stands holds =
       record { stands = stands holds.stands; spelled = holds.spelled; last = tt }
@@ -131,6 +132,6 @@ module _ {D : Type 0} {G : Ghosts D} where
       → Holds store list None → IsIdle list (G.sight disk)
   is_idle store disk list idle holds = record {
     spelled = holds.spelled;
-    idle = subst (λ file. making.IsIdle file (map spelling list) (G.sight disk)) store.in_file
-        (idle (map spelling list) holds.stands);
+    idle = subst (λ file. making.IsIdle file (map (spelling First) list) (G.sight disk)) store.in_file
+        (idle (map (spelling First) list) holds.stands);
   }

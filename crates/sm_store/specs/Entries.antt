@@ -1,12 +1,13 @@
 -- A journal's file in entries.
 use Rattle.std.specs.Prelude.{◌≡◌, ◌⊎◌, ℕ, ◌+◌, List, [], ◌∷◌, ◌++◌, map, length, Option, None, Some}
 use Rattle.sm_model.specs.declared.entry.Entry.{Entry}
+use Rattle.sm_record.specs.declared.edition.Edition.TheVariants.{First}
 use Rattle.sm_record.specs.Spelling.{spelling, HasSpelling}
 use Rattle.sm_journal.specs.Records.{size, Recovers}
 
 -- the entry has a spelling, and these bytes are it
 abbrev pub Spells : Entry → List ℕ → Type 0
-Spells e bytes = HasSpelling e × (spelling e ≡ bytes)
+Spells e bytes = HasSpelling First e × (spelling First e ≡ bytes)
 
 -- the bytes are no entry's spelling
 abbrev pub SpellsNone : List ℕ → Type 0
@@ -15,16 +16,16 @@ SpellsNone bytes = (e : Entry) → Spells e bytes → ⊥
 -- each of these entries has a spelling
 abbrev pub AreSpelled : List Entry → Type 0
 AreSpelled [] = Unit {0}
-AreSpelled (e ∷ list) = HasSpelling e × AreSpelled list
+AreSpelled (e ∷ list) = HasSpelling First e × AreSpelled list
 
 -- the entry, if there is one, has a spelling
 abbrev pub IsSpelled : Option Entry → Type 0
 IsSpelled None = Unit {0}
-IsSpelled (Some e) = HasSpelling e
+IsSpelled (Some e) = HasSpelling First e
 
 -- The file's list of entries: the bodies of its counted records are their spellings. It has one proof at most.
 abbrev pub HasEntries : List ℕ → List Entry → Type 0
-HasEntries bytes list = Recovers bytes (map spelling list) × AreSpelled list
+HasEntries bytes list = Recovers bytes (map (spelling First) list) × AreSpelled list
 
 -- the file has this list of entries, or it and one entry more, if there is one
 abbrev pub HasEither : List Entry → Option Entry → List ℕ → Type 0
@@ -37,9 +38,9 @@ pub record IsUnspelledIn (bodies : List (List ℕ)) (at entry : ℕ) : Type 0 wh
   pub body : List ℕ
   pub after : List (List ℕ)
   pub spelled : AreSpelled before
-  pub split : bodies ≡ map spelling before ++ body ∷ after
+  pub split : bodies ≡ map (spelling First) before ++ body ∷ after
   pub none : SpellsNone body
-  pub place : at ≡ 8 + size (map spelling before)
+  pub place : at ≡ 8 + size (map (spelling First) before)
   pub number : entry ≡ length before
 
 -- the file has a list of records, and one of them has a body that is no entry's spelling

@@ -9,6 +9,7 @@ use Rattle.sm_journal.specs.Making as making
 use Rattle.sm_journal.specs.declared.answers.Appended.{Appended}
 use Rattle.sm_journal.specs.declared.answers.Appended.TheVariants.{Ok, Failed, Full, TooLong}
 use Rattle.sm_model.specs.declared.entry.Entry.{Entry}
+use Rattle.sm_record.specs.declared.edition.Edition.TheVariants.{First}
 use Rattle.sm_record.specs.Spelling.{spelling}
 use Rattle.sm_store.specs.Entries.{AreSpelled, IsSpelled, HasEither}
 use Rattle.sm_store.specs.declared.files.TheConstants.{JOURNAL}
@@ -32,17 +33,17 @@ module _ {D : Type 0} {G : Ghosts D} where
   -- The store has these entries, and where a further one is given, its write may have failed in part: a crash leaves
   -- the list, or the list with that entry. It has one proof at most.
   pub record Holds (store : Store D G) (list : List Entry) (failed : Option Entry) : Type 0 where
-    pub stands : journals.Stands store.journal (map spelling list) (option_map spelling failed)
+    pub stands : journals.Stands store.journal (map (spelling First) list) (option_map (spelling First) failed)
     pub spelled : AreSpelled list
     pub last : IsSpelled failed
 
 -- each image of its file is the records of these entries, the closed gate behind them and nothing else
 abbrev pub HoldsJust : {D : Type 0} {G : Ghosts D} → Store D G → List Entry → Type 0
-HoldsJust store list = journals.HoldsJust store.journal (map spelling list)
+HoldsJust store list = journals.HoldsJust store.journal (map (spelling First) list)
 
 -- the file's length with one entry more
 abbrev pub length_with : {D : Type 0} {G : Ghosts D} → Store D G → Entry → ℕ
-length_with store e = length_of store + (5 + length (spelling e))
+length_with store e = length_of store + (5 + length (spelling First e))
 
 -- What each answer of `append` says: full exactly where it is; Ok with the entry at the end of the list; and where the
 -- disk failed the list as before and the entry unsure. No spelling that it takes is too long.
@@ -72,4 +73,4 @@ pub record IsOpened {D : Type 0} {G : Ghosts D} (limit : ℕ) (list : List Entry
 -- is closed, and what one can be opened over.
 pub record IsIdle (list : List Entry) (now : Sight) : Type 0 where
   pub spelled : AreSpelled list
-  pub idle : making.IsIdle JOURNAL (map spelling list) now
+  pub idle : making.IsIdle JOURNAL (map (spelling First) list) now

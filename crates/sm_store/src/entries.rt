@@ -9,7 +9,7 @@ ghost use Rattle.sm_store.specs.declared.entries.EntriesRefused.TheVariants.{Mem
 use sm_base::{Bytes, List};
 use sm_journal::Damage;
 use sm_model::Entry;
-use sm_record::{DecodeRefused, decode};
+use sm_record::{DecodeRefused, Edition, decode};
 use std::alloc::{AllocFailed, Global};
 
 /// Why bodies are not read as entries.
@@ -31,14 +31,14 @@ impl<T: Drop> From<AllocFailed<T>> for EntriesRefused {
 /// The entries that these bodies spell.
 pub fn entries(alloc: Global, bodies: &[Bytes]) -> Result<List<Entry>, EntriesRefused>
     requires { 8 + size bodies.now < 2 ^ 64 }
-    ensures list { IfOk result (λ list. AreSpelled list × (bodies.now ≡ map spelling list)) }
+    ensures list { IfOk result (λ list. AreSpelled list × (bodies.now ≡ map (spelling Edition.First) list)) }
     ensures damaged { (damage : Damage) → result ≡ Err (EntriesRefused.Damaged damage) →
         IsUnspelledIn bodies.now damage.at damage.entry }
 {
     let mut list = Vec::new(alloc);
     let mut at = 8;
     for body in bodies {
-        match decode(alloc, body.as_slice()) {
+        match decode(alloc, Edition::First, body.as_slice()) {
             Ok(entry) => list.push(entry)?,
             Err(DecodeRefused::NoEntry(_)) => {
                 let entry = list.len() as u64;

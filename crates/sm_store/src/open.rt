@@ -1,5 +1,6 @@
 //! The opening of a store.
 ghost use Rattle.std.specs.Prelude.{◌≡◌, ◌≤◌, ◌<◌, ◌+◌, ◌^◌, ℕ, [], IfOk, IfErr, Err};
+ghost use Rattle.sm_base.specs.declared.limits.TheConstants.{JOURNAL_LIMIT};
 ghost use Rattle.sm_disk.specs.Sight.{Image};
 ghost use Rattle.sm_disk.specs.OneFile.{Leaves};
 ghost use Rattle.sm_journal.specs.Openings.{ReadsAs};
@@ -28,7 +29,7 @@ impl<D: Disk> Store<D> {
         disk: D,
         limit: u64,
     ) -> Result<(Store<D>, List<Entry>), OpenRefused<D>>
-        requires { (9 ≤ limit) × (limit ≤ 268435456) }
+        requires { (9 ≤ limit) × (limit ≤ JOURNAL_LIMIT) }
         ensures opened { IfOk result (λ opened. IsOpened limit opened.1 opened.0) }
         ensures list { IfOk result (λ opened.
             ReadsAs JOURNAL (λ bytes. HasEntries bytes opened.1) (D.sight disk)) }

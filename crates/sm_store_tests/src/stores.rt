@@ -7,7 +7,7 @@ ghost use Rattle.sm_store.specs.Entries.{Spells};
 use sm_base::{Bytes, Fails, List, NoMemory};
 use sm_disk::{Disk, MemoryDisk};
 use sm_model::Entry;
-use sm_record::{decode, encode, has_spelling};
+use sm_record::{Edition, decode, encode_first, has_spelling};
 use sm_store::{Appended, Damage, OpenRefused, Store};
 use std::alloc::Global;
 use std::test::Fail;
@@ -104,10 +104,10 @@ fn disk_of(alloc: Global, bytes: &[u8], fails: Fails) -> Result<MemoryDisk, NoMe
 
 /// Whether an entry is spelled so.
 fn is_spelled(alloc: Global, entry: &Entry, body: &[u8]) -> bool {
-    if !has_spelling(entry) {
+    if !has_spelling(Edition::First, entry) {
         return false;
     }
-    match encode(alloc, entry) {
+    match encode_first(alloc, entry) {
         Ok(bytes) => bytes.as_slice() == body,
         Err(_) => false,
     }
@@ -155,8 +155,8 @@ fn files_have_entries_or_are_damaged(rt: HostRuntime) -> Result<(), Fail> {
 fn ready(alloc: Global, body: &[u8]) -> Option<Bytes>
     ensures spelled { IfSome result (λ bytes. (e : Entry) × Spells e bytes) }
 {
-    match decode(alloc, body) {
-        Ok(entry) => encode(alloc, &entry).ok(),
+    match decode(alloc, Edition::First, body) {
+        Ok(entry) => encode_first(alloc, &entry).ok(),
         Err(_) => None,
     }
 }

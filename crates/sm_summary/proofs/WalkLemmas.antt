@@ -5,7 +5,7 @@ use Rattle.std.proofs.lemmas.List.{length-append, append_assoc, append-nil, take
 use Rattle.std.proofs.lemmas.Grind.{take_at_read}
 use Rattle.std.proofs.lemmas.Option.{slice_get_within, get_or_from_slice_get}
 use Rattle.sm_base.specs.declared.moment.Moment.{Moment}
-use Rattle.sm_model.specs.declared.limits.TheConstants.{VERSIONS_LIMIT}
+use Rattle.sm_base.specs.declared.limits.TheConstants.{VERSIONS_LIMIT}
 use Rattle.sm_model.specs.declared.rows.SecretRow.{SecretRow}
 use Rattle.sm_versions.specs.Sound.{RowSound}
 use Rattle.sm_table.specs.Sound.{EachSound}

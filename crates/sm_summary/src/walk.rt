@@ -1,6 +1,6 @@
 //! The summary of an account.
 ghost use Rattle.std.specs.Prelude.{◌≡◌, ◌≤◌, ◌<◌, ◌+◌, ◌*◌, ◌++◌, ◌∷◌, [], List, ℕ, IfOk, OnOk, length, slice_get, Some, string_bytes};
-ghost use Rattle.sm_model.specs.declared.limits.TheConstants.{SECRETS_LIMIT, VERSIONS_LIMIT};
+ghost use Rattle.sm_base.specs.declared.limits.TheConstants.{SECRETS_LIMIT, VERSIONS_LIMIT};
 ghost use Rattle.sm_model.specs.declared.rows.SecretRow.{SecretRow as rows};
 ghost use Rattle.sm_summary.specs.Summary.{IsShown, IsSummary, totals, with_row};
 ghost use Rattle.sm_table.specs.Sound.{Sound};

@@ -7,7 +7,7 @@ use Rattle.sm_model.specs.declared.rows.SecretRow.{SecretRow}
 use Rattle.sm_model.specs.declared.rows.Rows.{Rows}
 use Rattle.sm_base.specs.declared.secret_id.SecretId.{SecretId}
 use Rattle.sm_base.specs.declared.secret_id.SecretId.TheVariants.{Name, Arn}
-use Rattle.sm_versions.specs.Texts.{same_text}
+use Rattle.sm_base.specs.Texts.{same_text}
 use Rattle.sm_versions.specs.Serials.{rises}
 use Rattle.sm_versions.specs.Kept.{CurrentKept}
 use Rattle.sm_table.specs.Sweep.{is_gone, swept}

@@ -5,7 +5,7 @@ use Rattle.std.specs.List.{find, count_by}
 use Rattle.std.proofs.lemmas.List.Recursion.{is_count_by}
 use Rattle.sm_base.specs.declared.moment.Moment.{Moment}
 use Rattle.sm_model.specs.declared.rows.SecretRow.{SecretRow}
-use Rattle.sm_versions.specs.Texts.{same_text}
+use Rattle.sm_base.specs.Texts.{same_text}
 use Rattle.sm_table.specs.Sweep.{is_gone, swept}
 use Rattle.sm_table.specs.Found.{row_named, row_with_arn, row_with_short_arn, short_arn}
 use Rattle.sm_table.specs.Changes.{row_with}

@@ -6,8 +6,9 @@ use Rattle.std.proofs.lemmas.Bool.Decides.{nat_tests}
 use Rattle.std.specs.List.{find}
 use Rattle.sm_base.specs.declared.moment.Moment.{Moment}
 use Rattle.sm_model.specs.declared.rows.SecretRow.{SecretRow}
-use Rattle.sm_versions.specs.Texts.{same_text, is_among, once}
-use Rattle.sm_versions.specs.Due.{is_reached}
+use Rattle.sm_versions.specs.Texts.{is_among, once}
+use Rattle.sm_base.specs.Texts.{same_text}
+use Rattle.sm_model.specs.Due.{is_reached}
 use Rattle.sm_versions.proofs.TextLemmas.{same_text_tells, same_text_itself}
 use Rattle.sm_table.specs.Sweep.{is_gone, swept}
 use Rattle.sm_table.specs.Found.{row_named}

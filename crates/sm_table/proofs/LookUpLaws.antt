@@ -10,7 +10,8 @@ use Rattle.std.specs.Cmp.Lexicographic.{bytes_decides}
 use Rattle.sm_base.specs.declared.moment.Moment.{Moment}
 use Rattle.sm_base.specs.Spelling.{is_run}
 use Rattle.sm_model.specs.declared.rows.SecretRow.{SecretRow}
-use Rattle.sm_versions.specs.Texts.{same_text, once}
+use Rattle.sm_versions.specs.Texts.{once}
+use Rattle.sm_base.specs.Texts.{same_text}
 use Rattle.sm_versions.specs.Sound.{arn_beginning, IsArnOf}
 use Rattle.sm_versions.proofs.TextLemmas.{same_text_decides}
 use Rattle.sm_table.specs.Sweep.{is_gone, swept}

@@ -8,7 +8,8 @@ use Rattle.sm_model.specs.declared.entry.Change.{Change}
 use Rattle.sm_model.specs.declared.entry.Change.TheVariants.{Add, Replace, Drop, Nothing}
 use Rattle.sm_model.specs.declared.rows.SecretRow.{SecretRow}
 use Rattle.sm_model.specs.declared.rows.Rows.{Rows}
-use Rattle.sm_versions.specs.Texts.{same_text, is_among, once}
+use Rattle.sm_versions.specs.Texts.{is_among, once}
+use Rattle.sm_base.specs.Texts.{same_text}
 use Rattle.sm_versions.specs.Sound.{IsArnOf}
 use Rattle.sm_versions.specs.Serials.{rises}
 use Rattle.sm_versions.proofs.TextLemmas.{same_text_tells}

@@ -3,7 +3,7 @@ use Rattle.std.proofs.Common.{◌≡◌, inl, inr, ℕ, ◌≤◌, eqb, Bool, tr
 use Rattle.std.proofs.lemmas.Grind.{common_steps}
 use Rattle.sm_base.specs.declared.moment.Moment.{Moment}
 use Rattle.sm_base.specs.declared.secret_id.SecretId.{SecretId}
-use Rattle.sm_model.specs.declared.limits.TheConstants.{SECRETS_LIMIT}
+use Rattle.sm_base.specs.declared.limits.TheConstants.{SECRETS_LIMIT}
 use Rattle.sm_model.specs.declared.entry.Change.{Change}
 use Rattle.sm_model.specs.declared.entry.Change.TheVariants.{Add, Replace, Drop, Nothing}
 use Rattle.sm_model.specs.declared.rows.SecretRow.{SecretRow}

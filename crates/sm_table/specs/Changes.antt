@@ -1,7 +1,7 @@
 -- Changes of the rows.
 use Rattle.std.specs.Prelude.{◌≡◌, ℕ, ◌+◌, ◌<◌, nat_eq, ⊤, List, [], ◌∷◌, ◌++◌, Option, Some, None, IsSome, IsNone, IsSomeAnd, if◌then◌else◌}
 use Rattle.sm_base.specs.declared.moment.Moment.{Moment}
-use Rattle.sm_model.specs.declared.limits.TheConstants.{NO_SERIAL}
+use Rattle.sm_base.specs.declared.limits.TheConstants.{NO_SERIAL}
 use Rattle.sm_model.specs.declared.entry.Change.{Change}
 use Rattle.sm_model.specs.declared.entry.Change.TheVariants.{Add, Replace, Drop, Nothing}
 use Rattle.sm_model.specs.declared.rows.SecretRow.{SecretRow}

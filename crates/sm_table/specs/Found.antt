@@ -6,7 +6,7 @@ use Rattle.sm_model.specs.declared.rows.SecretRow.{SecretRow}
 use Rattle.sm_model.specs.declared.rows.Rows.{Rows}
 use Rattle.sm_base.specs.declared.secret_id.SecretId.{SecretId}
 use Rattle.sm_base.specs.declared.secret_id.SecretId.TheVariants.{Name, Arn}
-use Rattle.sm_versions.specs.Texts.{same_text}
+use Rattle.sm_base.specs.Texts.{same_text}
 use Rattle.sm_table.specs.Sweep.{sweep}
 
 -- an ARN without its last seven characters, the hyphen and the six that were drawn

@@ -4,7 +4,7 @@ use Rattle.sm_base.specs.declared.moment.Moment.{Moment}
 use Rattle.sm_model.specs.declared.entry.Change.{Change}
 use Rattle.sm_model.specs.declared.entry.Change.TheVariants.{Add, Replace, Drop, Nothing}
 use Rattle.sm_model.specs.declared.rows.SecretRow.{SecretRow}
-use Rattle.sm_versions.specs.Due.{is_reached}
+use Rattle.sm_model.specs.Due.{is_reached}
 use Rattle.sm_table.specs.declared.indexed.Indexed.{Indexed}
 use Rattle.sm_table.specs.declared.indexed.Room.{Room}
 use Rattle.sm_table.specs.Sweep.{is_gone}

@@ -1,7 +1,7 @@
 -- What holds of all rows between any two changes, all of it.
 -- AWS Secrets Manager User Guide: "AWS Secrets Manager quotas".
 use Rattle.std.specs.Prelude.{◌<◌, ◌≤◌, List, [], ◌∷◌, length, IsTrue}
-use Rattle.sm_model.specs.declared.limits.TheConstants.{SECRETS_LIMIT}
+use Rattle.sm_base.specs.declared.limits.TheConstants.{SECRETS_LIMIT}
 use Rattle.sm_model.specs.declared.entry.Change.{Change}
 use Rattle.sm_model.specs.declared.entry.Change.TheVariants.{Add, Replace, Drop, Nothing}
 use Rattle.sm_model.specs.declared.rows.SecretRow.{SecretRow}

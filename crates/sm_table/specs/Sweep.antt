@@ -4,7 +4,7 @@ use Rattle.std.specs.Prelude.{Bool, List, [], ◌∷◌, if◌then◌else◌}
 use Rattle.sm_base.specs.declared.moment.Moment.{Moment}
 use Rattle.sm_model.specs.declared.rows.SecretRow.{SecretRow}
 use Rattle.sm_model.specs.declared.rows.Rows.{Rows}
-use Rattle.sm_versions.specs.Due.{is_reached}
+use Rattle.sm_model.specs.Due.{is_reached}
 
 -- the secret's deletion date is reached
 abbrev pub is_gone : SecretRow → Moment → Bool

@@ -1,8 +1,7 @@
 //! Changes of a list of rows.
-ghost use Rattle.std.specs.Prelude.{◌≡◌, ◌<◌, ◌≤◌, ◌+◌, not, nat_eq, nat_le, nat_lt, length, IfSome, vec_len, vec_capacity};
-ghost use Rattle.std.specs.Prelude.{[], ◌∷◌, ◌++◌};
+ghost use Rattle.std.specs.Prelude.{◌≡◌, ◌<◌, ◌≤◌, ◌+◌, not, nat_eq, nat_le, nat_lt, length, IfSome, vec_len, vec_capacity, [], ◌∷◌, ◌++◌};
 ghost use Rattle.std.specs.List.{position};
-ghost use Rattle.sm_versions.specs.Due.{is_reached};
+ghost use Rattle.sm_model.specs.Due.{is_reached};
 ghost use Rattle.sm_table.specs.Sweep.{is_gone, swept};
 ghost use Rattle.sm_table.specs.Changes.{replaced, dropped};
 ghost use Rattle.sm_table.specs.Kept.{IsRising};

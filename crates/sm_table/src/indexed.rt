@@ -2,7 +2,7 @@
 ghost use Rattle.std.specs.Prelude.{◌≡◌, ◌+◌, ◌<◌, ◌≤◌, ◌^◌, ℕ, suc, false, true, None, [], ◌∷◌, ◌++◌, length, nat_eq, if◌then◌else◌, IsTrue, IsSome, IfOk, IfSome, vec_len, vec_capacity, option_copied};
 ghost use Rattle.std.specs.Vec.{vec_ptr};
 ghost use Rattle.sm_base.specs.declared.moment.Moment.{Moment};
-ghost use Rattle.sm_versions.specs.Due.{is_reached};
+ghost use Rattle.sm_model.specs.Due.{is_reached};
 ghost use Rattle.sm_versions.specs.Texts.{once};
 ghost use Rattle.sm_table.specs.Sweep.{swept};
 ghost use Rattle.sm_table.specs.Found.{row_named};

@@ -1,7 +1,8 @@
 //! Look-ups in a list of rows.
 ghost use Rattle.std.specs.Prelude.{◌≡◌, ◌&&◌, not, nat_eq, length, IsTrue, IfSome, option_copied};
 ghost use Rattle.std.specs.List.{find};
-ghost use Rattle.sm_versions.specs.Texts.{same_text, once};
+ghost use Rattle.sm_versions.specs.Texts.{once};
+ghost use Rattle.sm_base.specs.Texts.{same_text};
 ghost use Rattle.sm_table.specs.Sweep.{is_gone, swept};
 ghost use Rattle.sm_table.specs.Found.{row_named, row_with_arn, row_with_short_arn, row_by_arn, short_arn};
 ghost use Rattle.sm_table.specs.Changes.{row_with};
@@ -34,7 +35,7 @@ fn without_suffix(arn: &[u8]) -> &[u8]
 }
 
 /// Whether the row has the ARN up to the hyphen and the characters that were drawn.
-#[tactic(auto, unfolding(sm_versions::specs::Texts::same_text))]
+#[tactic(auto, unfolding(sm_base::specs::Texts::same_text))]
 fn has_short_arn(row: &SecretRow, arn: &Arn) -> bool
     ensures { result ≡ same_text (short_arn row.now.arn) arn.now }
 {

@@ -12,7 +12,7 @@ use Rattle.sm_model.specs.declared.request.DeleteSecret.{DeleteSecret}
 use Rattle.sm_model.specs.declared.rows.Rows.{Rows}
 use Rattle.sm_model.specs.declared.rows.SecretRow.{SecretRow}
 use Rattle.sm_model.specs.Bounds.{is_date}
-use Rattle.sm_forms.specs.declared.delete_secret.TheConstants.{LONGEST_WINDOW}
+use Rattle.sm_base.specs.declared.limits.TheConstants.{LONGEST_WINDOW}
 use Rattle.sm_forms.specs.DeleteSecret.{is_window, delete_forms}
 use Rattle.sm_forms.proofs.DeleteSecretLemmas.{delete_window}
 use Rattle.sm_dates.specs.Days.{days_after}

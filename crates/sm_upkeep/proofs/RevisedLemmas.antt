@@ -2,7 +2,7 @@
 use Rattle.std.proofs.Common.{◌≤◌, List, length, Option, IsTrue}
 use Rattle.std.proofs.lemmas.Option.{IfSome_then}
 use Rattle.sm_base.specs.declared.moment.Moment.{Moment}
-use Rattle.sm_model.specs.declared.limits.TheConstants.{TAGS_LIMIT}
+use Rattle.sm_base.specs.declared.limits.TheConstants.{TAGS_LIMIT}
 use Rattle.sm_model.specs.declared.rows.Job.{Job}
 use Rattle.sm_model.specs.declared.rows.SecretRow.{SecretRow}
 use Rattle.sm_model.specs.declared.value.Tag.{Tag}

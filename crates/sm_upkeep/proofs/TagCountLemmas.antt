@@ -3,7 +3,8 @@ use Rattle.std.proofs.Common.{◌≡◌, ◌≢◌, inl, inr, ℕ, suc, ◌+◌,
 use Rattle.std.proofs.lemmas.Bool.{and_parts, and_from, or_right, false≢true}
 use Rattle.sm_model.specs.declared.value.Tag.{Tag}
 use Rattle.sm_versions.specs.Labels.{others}
-use Rattle.sm_versions.specs.Texts.{same_text, is_among, once}
+use Rattle.sm_versions.specs.Texts.{is_among, once}
+use Rattle.sm_base.specs.Texts.{same_text}
 use Rattle.sm_versions.specs.Sound.{tag_keys}
 use Rattle.sm_versions.proofs.TextLemmas.{same_text_decides, same_text_itself, same_text_tells}
 use Rattle.sm_upkeep.specs.TagResource.{with_tag, with_tags}

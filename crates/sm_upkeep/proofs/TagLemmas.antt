@@ -7,7 +7,8 @@ use Rattle.std.proofs.lemmas.List.{take_more}
 use Rattle.std.proofs.lemmas.List.Quantifiers.{position-Some}
 use Rattle.sm_model.specs.declared.value.Tag.{Tag}
 use Rattle.sm_model.specs.Bounds.{is_tag}
-use Rattle.sm_versions.specs.Texts.{same_text, is_among, once}
+use Rattle.sm_versions.specs.Texts.{is_among, once}
+use Rattle.sm_base.specs.Texts.{same_text}
 use Rattle.sm_versions.specs.Sound.{tag_keys, each_tag}
 use Rattle.sm_versions.proofs.TextLemmas.{same_text_tells}
 use Rattle.sm_upkeep.specs.TagResource.{with_tag, with_tags}

@@ -5,7 +5,7 @@ use Rattle.sm_base.specs.declared.moment.Moment.{Moment}
 use Rattle.sm_base.specs.declared.secret_id.SecretId.{SecretId}
 use Rattle.sm_base.specs.SecretId.{secret_id}
 use Rattle.sm_model.specs.declared.entry.Change.{Change}
-use Rattle.sm_model.specs.declared.limits.TheConstants.{TAGS_LIMIT}
+use Rattle.sm_base.specs.declared.limits.TheConstants.{TAGS_LIMIT}
 use Rattle.sm_model.specs.declared.request.TagResource.{TagResource}
 use Rattle.sm_model.specs.declared.rows.Rows.{Rows}
 use Rattle.sm_model.specs.declared.rows.SecretRow.{SecretRow}

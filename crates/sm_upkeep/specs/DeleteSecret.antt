@@ -12,7 +12,7 @@ use Rattle.sm_model.specs.declared.rows.Rows.{Rows}
 use Rattle.sm_model.specs.declared.rows.SecretRow.{SecretRow}
 use Rattle.sm_model.specs.declared.why.Why.{Why}
 use Rattle.sm_model.specs.declared.why.Why.TheVariants.{NoSecret}
-use Rattle.sm_forms.specs.declared.delete_secret.TheConstants.{LONGEST_WINDOW}
+use Rattle.sm_base.specs.declared.limits.TheConstants.{LONGEST_WINDOW, DEFAULT_WINDOW}
 use Rattle.sm_dates.specs.Days.{days_after}
 use Rattle.sm_table.specs.Found.{named_by, found}
 use Rattle.sm_table.specs.Changes.{dropped}
@@ -24,7 +24,6 @@ use Rattle.sm_judging.specs.Secrets.{unless_scheduled, finished_row}
 use Rattle.sm_upkeep.specs.declared.delete_secret.DeleteCall.{DeleteCall}
 use Rattle.sm_upkeep.specs.declared.delete_secret.Deletion.{Deletion}
 use Rattle.sm_upkeep.specs.declared.delete_secret.Deletion.TheVariants.{Forced, After}
-use Rattle.sm_upkeep.specs.declared.delete_secret.TheConstants.{DEFAULT_WINDOW}
 
 -- ---- the members
 

@@ -4,7 +4,7 @@ use Rattle.std.specs.Prelude.{Bool, nat_lt, if◌then◌else◌, List, [], ◌�
 use Rattle.sm_base.specs.declared.moment.Moment.{Moment}
 use Rattle.sm_base.specs.SecretId.{secret_id}
 use Rattle.sm_model.specs.declared.entry.Change.TheVariants as changes
-use Rattle.sm_model.specs.declared.limits.TheConstants.{TAGS_LIMIT}
+use Rattle.sm_base.specs.declared.limits.TheConstants.{TAGS_LIMIT}
 use Rattle.sm_model.specs.declared.reply.Reply.TheVariants as replies
 use Rattle.sm_model.specs.declared.request.TagResource.{TagResource}
 use Rattle.sm_model.specs.declared.rows.Rows.{Rows}
@@ -13,7 +13,7 @@ use Rattle.sm_model.specs.declared.value.Tag.{Tag}
 use Rattle.sm_model.specs.declared.why.What.TheVariants.{Tags}
 use Rattle.sm_model.specs.declared.why.Why.{Why}
 use Rattle.sm_model.specs.declared.why.Why.TheVariants.{Limit}
-use Rattle.sm_versions.specs.Texts.{same_text}
+use Rattle.sm_base.specs.Texts.{same_text}
 use Rattle.sm_table.specs.Found.{found}
 use Rattle.sm_judging.specs.declared.judged.Judged.{Judged}
 use Rattle.sm_judging.specs.declared.judged.Judged.TheVariants.{Accept, Refuse}

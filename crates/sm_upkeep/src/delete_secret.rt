@@ -2,11 +2,12 @@
 ghost use Rattle.std.specs.Prelude.{◌≡◌, ◌≤◌, IfOk, IfSome, IsTrue, None};
 ghost use Rattle.sm_base.specs.declared.moment.TheConstants.{LAST_READING};
 ghost use Rattle.sm_forms.specs.DeleteSecret.{is_window, delete_forms};
-ghost use Rattle.sm_forms.specs.declared.delete_secret.TheConstants.{LONGEST_WINDOW};
+ghost use Rattle.sm_base.specs.declared.limits.TheConstants.{LONGEST_WINDOW};
 ghost use Rattle.sm_judging.specs.Secrets.{unless_scheduled};
 ghost use Rattle.sm_upkeep.specs.DeleteSecret.{window_days, deletion_of, HasEnd, delete_call, deleted, deleted_absent, delete_absent, delete_at_once, delete_later, delete_on, delete_judged, delete_judgement};
 
 use sm_base::copy_two;
+use sm_base::limits::DEFAULT_WINDOW;
 use sm_dates::window_end;
 use sm_judging::Judged;
 use sm_judging::members::secret_id;
@@ -17,9 +18,6 @@ use sm_model::{
 };
 use sm_table::Table;
 use std::alloc::Global;
-
-/// The days of a recovery window where none are given.
-pub const DEFAULT_WINDOW: u32 = 30;
 
 /// How a secret is deleted.
 #[derive(Clone, Copy)]

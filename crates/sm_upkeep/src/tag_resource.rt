@@ -4,14 +4,15 @@ ghost use Rattle.std.specs.List.{position};
 ghost use Rattle.sm_forms.specs.TagResource.{tag_forms};
 ghost use Rattle.sm_judging.specs.Secrets.{unless_scheduled};
 ghost use Rattle.sm_versions.specs.Sound.{tag_keys};
-ghost use Rattle.sm_versions.specs.Texts.{once, same_text};
+ghost use Rattle.sm_versions.specs.Texts.{once};
+ghost use Rattle.sm_base.specs.Texts.{same_text};
 ghost use Rattle.sm_upkeep.specs.TagResource.{with_tag, with_tags, has_too_many_tags, tag_on, tag_within_limit, tag_judgement};
 
+use sm_base::limits::TAGS_LIMIT;
 use sm_base::list::copies;
 use sm_judging::Judged;
 use sm_judging::members::secret_id;
 use sm_judging::row_change::finish;
-use sm_model::limits::TAGS_LIMIT;
 use sm_model::{
     Change, Copied, List, Moment, NoMemory, Reply, SecretRow, Tag, TagResource, Text, What, Why,
 };

@@ -6,7 +6,7 @@ use Rattle.std.proofs.lemmas.Grind.{common_steps}
 use Rattle.sm_base.specs.declared.moment.Moment.{Moment}
 use Rattle.sm_model.specs.declared.entry.Change.{Change}
 use Rattle.sm_model.specs.declared.entry.Change.TheVariants as changes
-use Rattle.sm_model.specs.declared.limits.TheConstants.{SECRETS_LIMIT, TAGS_LIMIT}
+use Rattle.sm_base.specs.declared.limits.TheConstants.{SECRETS_LIMIT, TAGS_LIMIT}
 use Rattle.sm_model.specs.declared.reply.Reply.{Reply}
 use Rattle.sm_model.specs.declared.request.CreateSecret.{CreateSecret}
 use Rattle.sm_model.specs.declared.rows.Rows.{Rows}
@@ -19,7 +19,8 @@ use Rattle.sm_model.specs.Bounds.{fits, is_description, is_small, is_date}
 use Rattle.sm_model.specs.Needed.{token_bytes_if}
 use Rattle.sm_forms.specs.CreateSecret.{create_forms}
 use Rattle.sm_forms.proofs.CreateSecretLemmas.{create_text, create_binary, create_description, create_kms, create_tags}
-use Rattle.sm_versions.specs.Texts.{aws_current, is_aws, once}
+use Rattle.sm_versions.specs.Texts.{is_aws, once}
+use Rattle.sm_model.specs.Labels.{aws_current}
 use Rattle.sm_versions.specs.Labels.{own_count}
 use Rattle.sm_versions.specs.Sound.{IsArnOf, tag_keys, each_tag, RowFits}
 use Rattle.sm_versions.proofs.ArnLemmas.{drawn_is_arn_of}

@@ -3,7 +3,7 @@ use Rattle.std.proofs.Common.{◌≡◌, ℕ, ◌≤◌, Bool, true, false, not,
 use Rattle.std.specs.Option.{option_and_then}
 use Rattle.sm_base.specs.declared.moment.Moment.{Moment}
 use Rattle.sm_model.specs.declared.entry.Change.{Change}
-use Rattle.sm_model.specs.declared.limits.TheConstants.{VERSIONS_LIMIT, LABELS_LIMIT}
+use Rattle.sm_base.specs.declared.limits.TheConstants.{VERSIONS_LIMIT, LABELS_LIMIT}
 use Rattle.sm_model.specs.declared.rows.SecretRow.{SecretRow}
 use Rattle.sm_model.specs.declared.rows.VersionRow.{VersionRow}
 use Rattle.sm_model.specs.declared.value.Value.{Value}

@@ -10,8 +10,9 @@ use Rattle.sm_model.specs.Bounds.{is_small, is_date}
 use Rattle.sm_model.specs.Needed.{token_bytes, token_bytes_if}
 use Rattle.sm_forms.specs.PutSecretValue.{put_forms}
 use Rattle.sm_forms.proofs.PutSecretValueLemmas.{put_text, put_binary}
-use Rattle.sm_versions.specs.Texts.{same_text, is_among, aws_current}
-use Rattle.sm_versions.specs.Labels.{holder}
+use Rattle.sm_versions.specs.Texts.{is_among}
+use Rattle.sm_base.specs.Texts.{same_text}
+use Rattle.sm_model.specs.Labels.{aws_current, holder}
 use Rattle.sm_versions.specs.Versions.{same}
 use Rattle.sm_versions.specs.Kept.{will_have_current}
 use Rattle.sm_versions.proofs.TextLemmas.{same_text_itself}

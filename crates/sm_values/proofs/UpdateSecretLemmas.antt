@@ -11,8 +11,7 @@ use Rattle.sm_model.specs.declared.rows.SecretRow.{SecretRow}
 use Rattle.sm_model.specs.Bounds.{fits, is_description, is_small, is_date}
 use Rattle.sm_forms.specs.UpdateSecret.{update_forms}
 use Rattle.sm_forms.proofs.UpdateSecretLemmas.{update_text, update_binary, update_description, update_kms}
-use Rattle.sm_versions.specs.Texts.{aws_current}
-use Rattle.sm_versions.specs.Labels.{holder}
+use Rattle.sm_model.specs.Labels.{aws_current, holder}
 use Rattle.sm_versions.specs.Put.{put_row}
 use Rattle.sm_versions.specs.Kept.{JobFits, will_have_current}
 use Rattle.sm_versions.specs.Sound.{UnsettledSound}

@@ -5,7 +5,8 @@ use Rattle.std.specs.Prelude.{ℕ, ◌+◌, Bool, false, not, ◌||◌, nat_le, 
 use Rattle.sm_base.specs.declared.moment.Moment.{Moment}
 use Rattle.sm_base.specs.Drawn.{drawn_arn}
 use Rattle.sm_model.specs.declared.entry.Change.TheVariants as changes
-use Rattle.sm_model.specs.declared.limits.TheConstants.{SECRETS_LIMIT, TAGS_LIMIT, NO_SERIAL}
+use Rattle.sm_base.specs.declared.limits.TheConstants.{SECRETS_LIMIT, TAGS_LIMIT, NO_SERIAL}
+use Rattle.sm_model.specs.declared.reply.CreatedSecret.{CreatedSecret}
 use Rattle.sm_model.specs.declared.reply.Reply.TheVariants as replies
 use Rattle.sm_model.specs.declared.request.CreateSecret.{CreateSecret}
 use Rattle.sm_model.specs.declared.request.Request.TheVariants as requests
@@ -18,7 +19,7 @@ use Rattle.sm_model.specs.declared.why.What.TheVariants.{Secrets, Tags}
 use Rattle.sm_model.specs.declared.why.Why.{Why}
 use Rattle.sm_model.specs.declared.why.Why.TheVariants.{SecretExists, Limit}
 use Rattle.sm_model.specs.Needed.{needed}
-use Rattle.sm_versions.specs.Texts.{aws_current}
+use Rattle.sm_model.specs.Labels.{aws_current}
 use Rattle.sm_versions.specs.Versions.{same}
 use Rattle.sm_table.specs.Sweep.{swept}
 use Rattle.sm_table.specs.Found.{row_named}
@@ -30,7 +31,7 @@ use Rattle.sm_values.specs.declared.new_value.NewValue.{NewValue}
 use Rattle.sm_values.specs.declared.create_secret.Names.{Names}
 use Rattle.sm_values.specs.declared.create_secret.Details.{Details}
 use Rattle.sm_values.specs.declared.create_secret.CreateCall.{CreateCall}
-use Rattle.sm_values.specs.NewValue.{new_value, token_of, versioned_secret, is_repeat}
+use Rattle.sm_values.specs.NewValue.{new_value, token_of, is_repeat}
 
 -- ---- the members
 
@@ -76,7 +77,7 @@ first_version moment first = record {
 }
 
 abbrev pub no_rotation : Rotation
-no_rotation = record { enabled = false; lambda = None; days = None; next = None; last = None }
+no_rotation = record { enabled = false; lambda = None; days = None; schedule = None; next = None; last = None }
 
 -- the row of a new secret, without a version
 abbrev pub empty_row : ℕ → Moment → Names → Details → SecretRow
@@ -95,6 +96,7 @@ empty_row serial moment names details = record {
   deletion = None;
   rotation = no_rotation;
   policy = None;
+  regions = [];
   job = None;
 }
 
@@ -111,6 +113,11 @@ with_first row moment (Some first) = record row {
 abbrev pub created_row : ℕ → Moment → CreateCall → SecretRow
 created_row serial moment call = with_first (empty_row serial moment call.names call.details) moment call.first
 
+-- the reply that names the secret, and the version where a value was given; there are no replica regions
+abbrev pub created_secret : SecretRow → Option (List ℕ) → CreatedSecret
+created_secret row version_id =
+    record { arn = row.arn; name = row.name; replication_status = None; version_id = version_id }
+
 -- ---- the judgement
 
 -- there are more tags than a secret may have
@@ -124,7 +131,7 @@ is_full rows moment = nat_le SECRETS_LIMIT (length (swept rows.secrets moment)) 
 abbrev pub create_with_room : Rows → Moment → CreateCall → Judged
 create_with_room rows moment call =
     let row = created_row rows.next moment call in
-    Accept (replies.CreateSecret (versioned_secret row (token_of call.first))) (Some (changes.Add row))
+    Accept (replies.CreateSecret (created_secret row (token_of call.first))) (Some (changes.Add row))
 
 abbrev pub create_new : Rows → Moment → CreateCall → Judged
 create_new rows moment call =
@@ -135,7 +142,7 @@ create_new rows moment call =
 -- the name is held: accepted again where the token's version has exactly the value
 abbrev pub create_held : SecretRow → CreateCall → Judged
 create_held row call =
-    if is_repeat row call.first then Accept (replies.CreateSecret (versioned_secret row (token_of call.first))) None
+    if is_repeat row call.first then Accept (replies.CreateSecret (created_secret row (token_of call.first))) None
     else Refuse (SecretExists call.names.name)
 
 abbrev pub create_on : Option SecretRow → Rows → Moment → CreateCall → Judged

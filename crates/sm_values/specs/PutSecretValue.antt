@@ -11,8 +11,7 @@ use Rattle.sm_model.specs.declared.rows.Rows.{Rows}
 use Rattle.sm_model.specs.declared.rows.SecretRow.{SecretRow}
 use Rattle.sm_model.specs.declared.why.Why.{Why}
 use Rattle.sm_model.specs.declared.why.Why.TheVariants.{Form}
-use Rattle.sm_versions.specs.Texts.{aws_current}
-use Rattle.sm_versions.specs.Labels.{holder}
+use Rattle.sm_model.specs.Labels.{aws_current, holder}
 use Rattle.sm_versions.specs.Versions.{same}
 use Rattle.sm_versions.specs.Put.{put_row}
 use Rattle.sm_table.specs.Found.{found}

@@ -3,14 +3,14 @@ ghost use Rattle.std.specs.Prelude.{◌≡◌, ◌≤◌, [], IfOk, None, Some, 
 ghost use Rattle.sm_base.specs.Drawn.{drawn_arn};
 ghost use Rattle.sm_forms.specs.CreateSecret.{create_forms};
 ghost use Rattle.sm_judging.specs.Secrets.{unless_scheduled};
-ghost use Rattle.sm_values.specs.CreateSecret.{create_needs, first_of, names_of, details_of, create_call, first_version, no_rotation, empty_row, created_row, with_first, has_too_many_tags, is_full, create_with_room, create_new, create_held, create_judged, create_judgement};
+ghost use Rattle.sm_values.specs.CreateSecret.{create_needs, first_of, names_of, details_of, create_call, first_version, no_rotation, empty_row, created_row, created_secret, with_first, has_too_many_tags, is_full, create_with_room, create_new, create_held, create_judged, create_judgement};
 
-use crate::new_value::{NewValue, is_repeat, new_value, token_of, versioned_secret};
+use crate::new_value::{NewValue, is_repeat, new_value, token_of};
+use sm_base::limits::{NO_SERIAL, SECRETS_LIMIT, TAGS_LIMIT};
 use sm_judging::Judged;
-use sm_model::limits::{NO_SERIAL, SECRETS_LIMIT, TAGS_LIMIT};
 use sm_model::{
-    Arn, Change, Copied, CreateSecret, List, Moment, Name, NoMemory, Pair, Reply, Rotation,
-    SecretRow, SharedList, Tag, Text, VersionRow, What, Why,
+    Arn, Change, Copied, CreateSecret, CreatedSecret, List, Moment, Name, NoMemory, Pair, Reply,
+    Rotation, SecretRow, SharedList, Tag, Text, Token, VersionRow, What, Why,
 };
 use sm_table::Table;
 use sm_versions::labels::current;
@@ -176,7 +176,7 @@ fn create_held(alloc: Global, row: &SecretRow, call: &CreateCall) -> Result<Judg
         return Ok(Judged::Refuse(Why::SecretExists(call.names.name.as_text().copy(alloc)?)));
     }
     let version_id = token_of(alloc, &call.first)?;
-    let reply = versioned_secret(alloc, row, version_id)?;
+    let reply = created_secret(alloc, row, version_id)?;
     Ok(Judged::Accept(Reply::CreateSecret(reply), None))
 }
 
@@ -223,8 +223,24 @@ fn create_with_room(
 {
     let version_id = token_of(alloc, &call.first)?;
     let row = created_row(alloc, table.next(), moment, call)?;
-    let reply = versioned_secret(alloc, &row, version_id)?;
+    let reply = created_secret(alloc, &row, version_id)?;
     Ok(Judged::Accept(Reply::CreateSecret(reply), Some(Change::Add(row))))
+}
+
+/// The reply that names the secret, and the version where a value was given.
+fn created_secret(
+    alloc: Global,
+    row: &SecretRow,
+    version_id: Option<Token>,
+) -> Result<CreatedSecret, NoMemory>
+    ensures { IfOk result (λ reply. reply ≡ created_secret row.now version_id) }
+{
+    Ok(CreatedSecret {
+        arn: row.arn.as_text().copy(alloc)?,
+        name: row.name.as_text().copy(alloc)?,
+        replication_status: None,
+        version_id,
+    })
 }
 
 // ---- the row
@@ -237,6 +253,7 @@ fn no_rotation() -> Rotation
         enabled: false,
         lambda: None,
         days: None,
+        schedule: None,
         next: None,
         last: None,
     }
@@ -267,6 +284,7 @@ fn empty_row(
         deletion: None,
         rotation: no_rotation(),
         policy: None,
+        regions: List::empty(alloc),
         job: None,
     }
 }

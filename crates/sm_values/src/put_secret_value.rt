@@ -6,8 +6,7 @@ ghost use Rattle.sm_forms.specs.PutSecretValue.{put_forms};
 ghost use Rattle.sm_judging.specs.Secrets.{finished_row, unless_scheduled};
 ghost use Rattle.sm_model.specs.Needed.{token_bytes};
 ghost use Rattle.sm_values.specs.PutSecretValue.{labels_asked, labels_placed, put_value, put_call, put_reply, put_accepted, put_repeated, put_on, put_judged, put_judgement};
-ghost use Rattle.sm_versions.specs.Labels.{holder};
-ghost use Rattle.sm_versions.specs.Texts.{aws_current};
+ghost use Rattle.sm_model.specs.Labels.{holder, aws_current};
 
 use crate::new_value::{NewValue, Placed, new_value, place};
 use sm_judging::Judged;

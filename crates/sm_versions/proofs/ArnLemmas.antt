@@ -9,7 +9,7 @@ use Rattle.std.specs.Char.{is_ascii_alphanumeric}
 use Rattle.std.specs.Cmp.Lexicographic.{pointwise}
 use Rattle.sm_base.specs.Spelling.{is_run}
 use Rattle.sm_base.specs.Drawn.{drawn_arn, suffix_character}
-use Rattle.sm_versions.specs.Texts.{same_text}
+use Rattle.sm_base.specs.Texts.{same_text}
 use Rattle.sm_versions.specs.Sound.{arn_beginning, IsArnOf}
 use Rattle.sm_versions.proofs.TextLemmas.{same_text_itself}
 

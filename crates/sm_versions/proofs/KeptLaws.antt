@@ -12,9 +12,12 @@ use Rattle.sm_model.specs.declared.rows.VersionRow.{VersionRow}
 use Rattle.sm_model.specs.declared.rows.SecretRow.{SecretRow}
 use Rattle.sm_versions.specs.declared.moving.Moved.{Moved}
 use Rattle.sm_versions.specs.declared.moving.Moved.TheVariants.{Ok as Placed, NotThere, HeldBy, KeepsCurrent, Empty, TooManyLabels, Memory}
-use Rattle.sm_versions.specs.Texts.{same_text, is_among, aws_current}
-use Rattle.sm_versions.specs.Labels.{holder, place, place_all, without}
-use Rattle.sm_versions.specs.Versions.{has_version, has_value, version_of, filled}
+use Rattle.sm_versions.specs.Texts.{is_among}
+use Rattle.sm_base.specs.Texts.{same_text}
+use Rattle.sm_model.specs.Labels.{aws_current, holder}
+use Rattle.sm_versions.specs.Labels.{place, place_all, without}
+use Rattle.sm_versions.specs.Versions.{has_value, version_of, filled}
+use Rattle.sm_model.specs.Versions.{has_version}
 use Rattle.sm_versions.specs.Settle.{is_live, is_create, advanced_job, settled_job, settle}
 use Rattle.sm_versions.specs.Put.{new_version, added_row, filled_row, put_row, put_row_on}
 use Rattle.sm_versions.specs.Move.{missing, move_placed, move_to, move_held, unless_missing, move_answer, move_row, is_moved}

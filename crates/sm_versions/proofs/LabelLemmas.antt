@@ -6,8 +6,10 @@ use Rattle.std.proofs.lemmas.List.{take_more, append-nil}
 use Rattle.std.proofs.lemmas.List.Recursion.{is_count_by}
 use Rattle.std.proofs.lemmas.Grind.{common_steps}
 use Rattle.sm_model.specs.declared.rows.Pair.{Pair}
-use Rattle.sm_versions.specs.Texts.{same_text, is_among, is_aws, aws_current}
-use Rattle.sm_versions.specs.Labels.{holder, without, with_current, place, place_each, place_all, others, firsts, labels_on, own_count}
+use Rattle.sm_versions.specs.Texts.{is_among, is_aws}
+use Rattle.sm_base.specs.Texts.{same_text}
+use Rattle.sm_model.specs.Labels.{aws_current, holder}
+use Rattle.sm_versions.specs.Labels.{without, with_current, place, place_each, place_all, others, firsts, labels_on, own_count}
 use Rattle.sm_versions.proofs.TextLemmas.{same_text_itself, same_text_tells}
 
 -- the pairs without a label are those that don't have it

@@ -4,9 +4,11 @@ use Rattle.std.proofs.lemmas.Grind.{common_steps}
 use Rattle.std.proofs.lemmas.Bool.{or_parts}
 use Rattle.sm_model.specs.declared.rows.Pair.{Pair}
 use Rattle.sm_model.specs.declared.rows.VersionRow.{VersionRow}
-use Rattle.sm_versions.specs.Texts.{same_text, is_among, aws_current, aws_previous}
-use Rattle.sm_versions.specs.Labels.{holder, without, moved, with_previous, with_current, place, place_each, others, firsts, in_order, place_all}
-use Rattle.sm_versions.specs.Versions.{has_version}
+use Rattle.sm_versions.specs.Texts.{is_among}
+use Rattle.sm_base.specs.Texts.{same_text}
+use Rattle.sm_model.specs.Labels.{aws_current, aws_previous, holder}
+use Rattle.sm_versions.specs.Labels.{without, moved, with_previous, with_current, place, place_each, others, firsts, in_order, place_all}
+use Rattle.sm_model.specs.Versions.{has_version}
 use Rattle.sm_versions.specs.Kept.{labels_once, pairs_named}
 use Rattle.sm_versions.proofs.TextLemmas.{same_text_tells, same_text_itself}
 use Rattle.sm_versions.proofs.LabelLemmas.{place_all_is}

@@ -5,7 +5,7 @@ use Rattle.std.proofs.lemmas.Bool.{and_parts, and_from}
 use Rattle.std.proofs.lemmas.Bool.Decides.{nat_tests}
 use Rattle.std.proofs.lemmas.Option.{IfSome_then}
 use Rattle.sm_base.specs.declared.moment.Moment.{Moment}
-use Rattle.sm_model.specs.declared.limits.TheConstants.{VERSIONS_LIMIT, LABELS_LIMIT}
+use Rattle.sm_base.specs.declared.limits.TheConstants.{VERSIONS_LIMIT, LABELS_LIMIT}
 use Rattle.sm_model.specs.declared.value.Value.{Value}
 use Rattle.sm_model.specs.declared.rows.Pair.{Pair}
 use Rattle.sm_model.specs.declared.rows.Job.{Job}
@@ -17,8 +17,9 @@ use Rattle.sm_versions.specs.declared.values.PutDone.{PutDone}
 use Rattle.sm_versions.specs.declared.values.PutDone.TheVariants.{Added, Same, Exists, TooMany, TooManyLabels}
 use Rattle.sm_versions.specs.declared.moving.Moved.{Moved}
 use Rattle.sm_versions.specs.declared.moving.Moved.TheVariants as moves
-use Rattle.sm_versions.specs.Texts.{same_text, aws_current}
-use Rattle.sm_versions.specs.Labels.{holder, own_count, without, place, place_all, labels_on}
+use Rattle.sm_base.specs.Texts.{same_text}
+use Rattle.sm_model.specs.Labels.{aws_current, holder}
+use Rattle.sm_versions.specs.Labels.{own_count, without, place, place_all, labels_on}
 use Rattle.sm_versions.specs.Versions.{has_value, same_value, version_of, filled}
 use Rattle.sm_versions.specs.Put.{has_too_many, is_full, put_placed, put_held, put_answer_on, put_answer, new_version, put_row, put_row_on}
 use Rattle.sm_versions.specs.Move.{missing, move_placed, move_to, move_held, unless_missing, move_answer, move_row}

@@ -5,8 +5,9 @@ use Rattle.std.proofs.lemmas.Bool.Decides.{nat_tests}
 use Rattle.sm_model.specs.declared.value.Value.{Value}
 use Rattle.sm_model.specs.declared.rows.Pair.{Pair}
 use Rattle.sm_model.specs.declared.rows.VersionRow.{VersionRow}
-use Rattle.sm_versions.specs.Texts.{same_text}
-use Rattle.sm_versions.specs.Versions.{has_version, has_value, value_of, version_of, filled}
+use Rattle.sm_base.specs.Texts.{same_text}
+use Rattle.sm_versions.specs.Versions.{has_value, value_of, version_of, filled}
+use Rattle.sm_model.specs.Versions.{has_version}
 use Rattle.sm_versions.specs.Serials.{rises, version_serials}
 use Rattle.sm_versions.specs.Kept.{ids_once, pairs_named, has_none}
 use Rattle.sm_versions.proofs.TextLemmas.{same_text_tells}

@@ -1,19 +1,21 @@
 -- Versions of one secret.
-use Rattle.std.proofs.Common.{◌≡◌, ◌↔◌, ℕ, zero, suc, ◌+◌, ◌<◌, ◌≤◌, Bool, true, false, not, cond, List, [], ◌∷◌, length, get_or, set, nat_eq, Option, Some, None, is_some, IsTrue, Decides, refl, sym, ap, ◌∙◌, arith}
+use Rattle.std.proofs.Common.{◌≡◌, ◌↔◌, ℕ, zero, suc, ◌+◌, ◌<◌, ◌≤◌, Bool, true, false, not, cond, List, [], ◌∷◌, length, get_or, set, slice_get, slice_set, nat_eq, Option, Some, None, is_some, IsTrue, Decides, refl, sym, ap, ◌∙◌, arith}
 use Rattle.std.specs.List.{find, position, position_or_len}
 use Rattle.std.specs.Cmp.Lexicographic.{pointwise}
 use Rattle.std.specs.Option.{option_and_then}
 use Rattle.std.proofs.lemmas.Bool.{false≢true}
 use Rattle.std.proofs.lemmas.Bool.Decides.{same_from_decides, nat_tests}
 use Rattle.std.proofs.lemmas.List.Quantifiers.{position-Some}
+use Rattle.std.proofs.lemmas.Option.{slice_get-get_or, get_or_from_slice_get}
 use Rattle.sm_model.specs.declared.value.Value.{Value}
 use Rattle.sm_model.specs.declared.value.Value.TheVariants.{Text, Bytes}
 use Rattle.sm_model.specs.declared.rows.VersionRow.{VersionRow}
-use Rattle.sm_versions.specs.Texts.{same_text}
+use Rattle.sm_base.specs.Texts.{same_text}
 use Rattle.sm_model.specs.declared.rows.SecretRow.{SecretRow}
 use Rattle.sm_versions.specs.declared.values.PutDone.TheVariants.{Same}
 use Rattle.sm_versions.specs.Labels.{labels_on}
-use Rattle.sm_versions.specs.Versions.{same_value, has_version, version_of, value_of, is_value, same, filled}
+use Rattle.sm_versions.specs.Versions.{same_value, version_of, value_of, is_value, same, filled}
+use Rattle.sm_model.specs.Versions.{has_version}
 use Rattle.sm_versions.specs.Put.{put_held, put_answer_on, put_answer}
 use Rattle.sm_versions.proofs.TextLemmas.{same_text_decides}
 
@@ -75,6 +77,27 @@ pub filled_found : (vs : List VersionRow) (i : ℕ) (v : VersionRow) (id : List 
 filled_found vs i v id value found e =
     let p = position-Some (λ w. same_text w.id id) vs i v found in
     ap (λ w. set vs i (record w { value = Some value })) e ∙ sym (filled_at vs i v id value p.0 p.2 p.1)
+
+pub filled_there : (vs : List VersionRow) (i : ℕ) (v : VersionRow) (id : List ℕ) (value : Value)
+    → position (λ w. same_text w.id id) vs ≡ Some i → slice_get vs i ≡ Some v
+    → slice_set vs i (record v { value = Some value }) ≡ filled vs id value
+filled_there vs i v id value found there =
+    filled_found vs i v id value found (sym (get_or_from_slice_get vs i v v there))
+
+pub filled_by : (vs all after : List VersionRow) (i : ℕ) (v made : VersionRow) (id : List ℕ) (value : Value)
+    → all ≡ vs → position (λ w. same_text w.id id) vs ≡ Some i → slice_get vs i ≡ Some v
+    → made ≡ record v { value = Some value } → after ≡ slice_set all i made → after ≡ filled vs id value
+filled_by vs all after i v made id value same found there is e =
+    e ∙ ap (λ ws. slice_set ws i made) same ∙ ap (λ w. slice_set vs i w) is
+    ∙ filled_there vs i v id value found there
+
+-- at the place that was found there is a version
+pub found_there : (vs : List VersionRow) (i : ℕ) (id : List ℕ) → position (λ w. same_text w.id id) vs ≡ Some i
+    → slice_get vs i ≡ None → ⊥
+found_there [] i id found none = cc
+found_there (v ∷ vs) i id found none =
+    let p = position-Some (λ w. same_text w.id id) (v ∷ vs) i v found in
+    let there = slice_get-get_or (v ∷ vs) i v p.0 in cc
 
 -- where no place was found
 pub filled_not_found : (vs : List VersionRow) (id : List ℕ) (value : Value)

@@ -1,32 +1,19 @@
--- A secret whose rotation is due.
+-- A secret whose rotation is due, where all of its versions count.
 -- AWS Secrets Manager User Guide: "Rotation schedules"; API Reference: RotationRulesType (AutomaticallyAfterDays).
-use Rattle.std.specs.Prelude.{ℕ, Bool, false, true, not, ◌&&◌, nat_le, List, Option, Some, None, is_some, is_none}
+use Rattle.std.specs.Prelude.{ℕ, Bool, false, List}
 use Rattle.sm_base.specs.declared.moment.Moment.{Moment}
+use Rattle.sm_model.specs.Due.{is_due_when, is_due_for_when}
+use Rattle.sm_model.specs.Versions.{When}
 use Rattle.sm_model.specs.declared.rows.SecretRow.{SecretRow}
-use Rattle.sm_versions.specs.Texts.{same_text, aws_current, aws_pending}
-use Rattle.sm_versions.specs.Labels.{holder}
-use Rattle.sm_versions.specs.Versions.{has_version}
-use Rattle.sm_versions.specs.Put.{is_full}
 
--- the date is there, and the moment has reached it
-abbrev pub is_reached : Option Moment → Moment → Bool
-is_reached None moment = false
-is_reached (Some date) moment = nat_le date.0 moment.0
+-- at the moment, with all versions
+abbrev pub with_all : Moment → When
+with_all moment = record { moment = moment; prunes = false }
 
--- nobody holds the first label, or who holds the second holds it
-abbrev pub is_free_or_held_by : Option (List ℕ) → Option (List ℕ) → Bool
-is_free_or_held_by None current = true
-is_free_or_held_by (Some pending) None = false
-is_free_or_held_by (Some pending) (Some current) = same_text pending current
-
--- Rotation is on and its next date is reached, the secret is not scheduled for deletion, some version holds AWSCURRENT,
--- AWSPENDING is held by none or by that version, and a version may be added.
+-- its rotation is due at the moment
 abbrev pub is_due : SecretRow → Moment → Bool
-is_due row moment =
-    row.rotation.enabled && is_reached row.rotation.next moment && is_none row.deletion
-    && is_some (holder row.labels aws_current)
-    && is_free_or_held_by (holder row.labels aws_pending) (holder row.labels aws_current) && not (is_full row)
+is_due row moment = is_due_when row (with_all moment)
 
 -- a due rotation may begin with the token: no version has it as its id
 abbrev pub is_due_for : SecretRow → Moment → List ℕ → Bool
-is_due_for row moment token = is_due row moment && not (has_version row.versions token)
+is_due_for row moment token = is_due_for_when row (with_all moment) token

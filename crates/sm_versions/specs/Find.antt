@@ -5,8 +5,8 @@ use Rattle.sm_model.specs.declared.rows.VersionRow.{VersionRow}
 use Rattle.sm_model.specs.declared.rows.SecretRow.{SecretRow}
 use Rattle.sm_versions.specs.declared.lookup.Found.{Found}
 use Rattle.sm_versions.specs.declared.lookup.Found.TheVariants.{Version, None as Missing, Differ}
-use Rattle.sm_versions.specs.Texts.{same_text, aws_current}
-use Rattle.sm_versions.specs.Labels.{holder}
+use Rattle.sm_base.specs.Texts.{same_text}
+use Rattle.sm_model.specs.Labels.{aws_current, holder}
 use Rattle.sm_versions.specs.Versions.{version_of}
 
 -- a version, none, or two that differ

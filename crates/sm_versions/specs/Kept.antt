@@ -2,16 +2,17 @@
 -- AWS Secrets Manager User Guide: "Secret versions" (each label is on one version at a time; a secret always has a
 -- version labelled AWSCURRENT).
 use Rattle.std.specs.Prelude.{◌≡◌, ℕ, ◌≤◌, Bool, true, false, not, ◌&&◌, ◌||◌, List, [], ◌∷◌, Option, Some, None, is_some, is_none, IsTrue, IfSome}
-use Rattle.sm_model.specs.declared.limits.TheConstants.{ATTEMPTS_LIMIT}
+use Rattle.sm_base.specs.declared.limits.TheConstants.{ATTEMPTS_LIMIT}
 use Rattle.sm_model.specs.declared.rows.Pair.{Pair}
 use Rattle.sm_model.specs.declared.rows.VersionRow.{VersionRow}
 use Rattle.sm_model.specs.declared.rows.Job.{Job}
 use Rattle.sm_model.specs.declared.rows.Stage.{Stage}
 use Rattle.sm_model.specs.declared.rows.Stage.TheVariants.{Create, Set, Test, Finish}
 use Rattle.sm_model.specs.declared.rows.SecretRow.{SecretRow}
-use Rattle.sm_versions.specs.Texts.{is_among, aws_current}
-use Rattle.sm_versions.specs.Labels.{holder}
-use Rattle.sm_versions.specs.Versions.{has_version, has_value}
+use Rattle.sm_versions.specs.Texts.{is_among}
+use Rattle.sm_model.specs.Labels.{aws_current, holder}
+use Rattle.sm_versions.specs.Versions.{has_value}
+use Rattle.sm_model.specs.Versions.{has_version}
 use Rattle.sm_versions.specs.Settle.{IsLive, is_create}
 use Rattle.sm_versions.specs.Serials.{rises, version_serials}
 

@@ -1,13 +1,10 @@
 -- The labels of one secret: a list of pairs, each of a label and the id of the version that it is on.
 -- AWS Secrets Manager User Guide: "Secret versions"; API Reference: UpdateSecretVersionStage.
-use Rattle.std.specs.Prelude.{ℕ, Bool, false, ◌+◌, List, [], ◌∷◌, ◌++◌, Option, Some, None, if◌then◌else◌}
+use Rattle.std.specs.Prelude.{ℕ, ◌+◌, List, [], ◌∷◌, ◌++◌, Option, Some, None, if◌then◌else◌}
+use Rattle.sm_base.specs.Texts.{same_text}
+use Rattle.sm_model.specs.Labels.{aws_current, aws_previous, holder}
 use Rattle.sm_model.specs.declared.rows.Pair.{Pair}
-use Rattle.sm_versions.specs.Texts.{same_text, is_among, aws_current, aws_previous, is_aws}
-
--- the id in the first pair with the label, or none
-abbrev pub holder : List Pair → List ℕ → Option (List ℕ)
-holder [] label = None
-holder (p ∷ ps) label = if same_text p.label label then Some p.id else holder ps label
+use Rattle.sm_versions.specs.Texts.{is_among, is_aws}
 
 -- the pairs that don't have the label
 abbrev pub without : List Pair → List ℕ → List Pair
@@ -63,8 +60,3 @@ labels_on (p ∷ ps) id = if same_text p.id id then p.label ∷ labels_on ps id 
 abbrev pub own_count : List Pair → ℕ
 own_count [] = 0
 own_count (p ∷ ps) = if is_aws p.label then own_count ps else own_count ps + 1
-
--- this version is the holder
-abbrev pub is_held_by : Option (List ℕ) → List ℕ → Bool
-is_held_by None id = false
-is_held_by (Some held) id = same_text held id

@@ -2,15 +2,17 @@
 -- AWS Secrets Manager API Reference: UpdateSecretVersionStage.
 use Rattle.std.specs.Prelude.{ℕ, Bool, true, false, List, Option, Some, None, Result, Ok, Err, if◌then◌else◌}
 use Rattle.sm_base.specs.declared.memory.NoMemory.{NoMemory}
-use Rattle.sm_model.specs.declared.limits.TheConstants.{LABELS_LIMIT}
+use Rattle.sm_base.specs.declared.limits.TheConstants.{LABELS_LIMIT}
 use Rattle.sm_model.specs.declared.rows.Pair.{Pair}
 use Rattle.sm_model.specs.declared.rows.VersionRow.{VersionRow}
 use Rattle.sm_model.specs.declared.rows.SecretRow.{SecretRow}
 use Rattle.sm_versions.specs.declared.moving.Moved.{Moved}
 use Rattle.sm_versions.specs.declared.moving.Moved.TheVariants.{Ok as Placed, NotThere, HeldBy, KeepsCurrent, Empty, TooManyLabels, Memory}
-use Rattle.sm_versions.specs.Texts.{same_text, aws_current}
-use Rattle.sm_versions.specs.Labels.{holder, is_held_by, without, place}
-use Rattle.sm_versions.specs.Versions.{has_version, has_value}
+use Rattle.sm_base.specs.Texts.{same_text}
+use Rattle.sm_model.specs.Labels.{aws_current, holder, is_held_by}
+use Rattle.sm_versions.specs.Labels.{without, place}
+use Rattle.sm_versions.specs.Versions.{has_value}
+use Rattle.sm_model.specs.Versions.{has_version}
 use Rattle.sm_versions.specs.Put.{has_too_many}
 
 -- the id, where it is given and names no version

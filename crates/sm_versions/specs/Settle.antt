@@ -5,9 +5,9 @@ use Rattle.sm_model.specs.declared.rows.Job.{Job}
 use Rattle.sm_model.specs.declared.rows.Stage.{Stage}
 use Rattle.sm_model.specs.declared.rows.Stage.TheVariants.{Create, Set, Test, Finish}
 use Rattle.sm_model.specs.declared.rows.SecretRow.{SecretRow}
-use Rattle.sm_versions.specs.Texts.{aws_current, aws_pending}
-use Rattle.sm_versions.specs.Labels.{holder, is_held_by}
-use Rattle.sm_versions.specs.Versions.{has_version, has_value}
+use Rattle.sm_model.specs.Labels.{aws_current, aws_pending, holder, is_held_by}
+use Rattle.sm_versions.specs.Versions.{has_value}
+use Rattle.sm_model.specs.Versions.{has_version}
 
 -- the secret is not scheduled for deletion, and the version of the job's token exists, holds AWSPENDING and does not
 -- hold AWSCURRENT

@@ -5,13 +5,13 @@ use Rattle.std.specs.Prelude.{ℕ, ◌≤◌, Bool, true, ◌&&◌, nat_eq, List
 use Rattle.std.specs.List.{starts_with}
 use Rattle.std.specs.Char.{is_ascii_alphanumeric}
 use Rattle.sm_base.specs.Spelling.{is_run}
-use Rattle.sm_model.specs.declared.limits.TheConstants.{VERSIONS_LIMIT, LABELS_LIMIT, TAGS_LIMIT}
+use Rattle.sm_base.specs.declared.limits.TheConstants.{VERSIONS_LIMIT, LABELS_LIMIT, TAGS_LIMIT}
 use Rattle.sm_model.specs.declared.value.Tag.{Tag}
 use Rattle.sm_model.specs.declared.rows.VersionRow.{VersionRow}
 use Rattle.sm_model.specs.declared.rows.Job.{Job}
 use Rattle.sm_model.specs.declared.rows.Rotation.{Rotation}
 use Rattle.sm_model.specs.declared.rows.SecretRow.{SecretRow}
-use Rattle.sm_policy.specs.Documents.{is_resource_policy}
+use Rattle.sm_policy_text.specs.Documents.{is_resource_policy}
 use Rattle.sm_model.specs.Bounds.{fits, is_description, is_small, is_tag, is_attempt, are_days, is_date, is_rotation_date}
 use Rattle.sm_versions.specs.Texts.{once}
 use Rattle.sm_versions.specs.Labels.{own_count}

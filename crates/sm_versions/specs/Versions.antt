@@ -1,11 +1,11 @@
 -- The versions of one secret and their values.
 -- AWS Secrets Manager User Guide: "Secret versions"; API Reference: PutSecretValue (ClientRequestToken).
-use Rattle.std.specs.Prelude.{ℕ, Bool, false, ◌||◌, List, [], ◌∷◌, Option, Some, None, is_some, if◌then◌else◌}
+use Rattle.std.specs.Prelude.{ℕ, Bool, false, List, [], ◌∷◌, Option, Some, None, is_some, if◌then◌else◌}
 use Rattle.sm_model.specs.declared.value.Value.{Value}
 use Rattle.sm_model.specs.declared.value.Value.TheVariants.{Text, Bytes}
 use Rattle.sm_model.specs.declared.rows.VersionRow.{VersionRow}
 use Rattle.sm_model.specs.declared.rows.SecretRow.{SecretRow}
-use Rattle.sm_versions.specs.Texts.{same_text}
+use Rattle.sm_base.specs.Texts.{same_text}
 
 -- a text and bytes are different values
 abbrev pub same_value : Value → Value → Bool
@@ -13,11 +13,6 @@ same_value (Text a) (Text b) = same_text a b
 same_value (Text a) (Bytes b) = false
 same_value (Bytes a) (Text b) = false
 same_value (Bytes a) (Bytes b) = same_text a b
-
--- some version has the id
-abbrev pub has_version : List VersionRow → List ℕ → Bool
-has_version [] id = false
-has_version (v ∷ vs) id = same_text v.id id || has_version vs id
 
 -- the first version with the id
 abbrev pub version_of : List VersionRow → List ℕ → Option VersionRow

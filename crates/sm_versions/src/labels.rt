@@ -1,14 +1,16 @@
 //! Labels and the versions that they are on.
 ghost use Rattle.std.specs.Prelude.{◌≡◌, IfOk, option_copied};
 ghost use Rattle.std.specs.List.{find};
-ghost use Rattle.sm_versions.specs.Texts.{same_text, is_among, aws_current, aws_previous, aws_pending, is_aws};
-ghost use Rattle.sm_versions.specs.Labels.{holder, is_held_by, labels_on, own_count};
+ghost use Rattle.sm_versions.specs.Texts.{is_among, is_aws};
+ghost use Rattle.sm_base.specs.Texts.{same_text};
+ghost use Rattle.sm_model.specs.Labels.{aws_current, aws_previous, aws_pending, holder, is_held_by};
+ghost use Rattle.sm_versions.specs.Labels.{labels_on, own_count};
 
 use sm_model::{Copied, Label, List, NoMemory, Pair, Text, Token};
 use std::alloc::Global;
 
 /// AWSCURRENT. It takes no memory.
-#[tactic(auto, unfolding(crate::specs::Texts::aws_current))]
+#[tactic(auto, unfolding(sm_model::specs::Labels::aws_current))]
 pub fn current() -> Label
     ensures { result ≡ aws_current }
 {
@@ -16,7 +18,7 @@ pub fn current() -> Label
 }
 
 /// AWSPREVIOUS. It takes no memory.
-#[tactic(auto, unfolding(crate::specs::Texts::aws_previous))]
+#[tactic(auto, unfolding(sm_model::specs::Labels::aws_previous))]
 pub fn previous() -> Label
     ensures { result ≡ aws_previous }
 {
@@ -24,7 +26,7 @@ pub fn previous() -> Label
 }
 
 /// AWSPENDING. It takes no memory.
-#[tactic(auto, unfolding(crate::specs::Texts::aws_pending))]
+#[tactic(auto, unfolding(sm_model::specs::Labels::aws_pending))]
 pub fn pending() -> Label
     ensures { result ≡ aws_pending }
 {

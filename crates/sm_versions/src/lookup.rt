@@ -1,6 +1,6 @@
 //! A version by its id, by a label, or by both (AWS Secrets Manager API Reference, GetSecretValue).
 ghost use Rattle.std.specs.Prelude.{◌≡◌, option_copied};
-ghost use Rattle.sm_versions.specs.Texts.{aws_current};
+ghost use Rattle.sm_model.specs.Labels.{aws_current};
 ghost use Rattle.sm_versions.specs.Find.{looked_up, version_labelled, lookup_of, lookup_of_both, lookup};
 
 use crate::labels::{current, holder, is_same_id};

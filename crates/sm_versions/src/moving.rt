@@ -1,8 +1,7 @@
 //! Labels moved from version to version (AWS Secrets Manager API Reference, UpdateSecretVersionStage).
 ghost use Rattle.std.specs.Prelude.{◌≡◌, ◌⊎◌, IfOk, IsSome, option_copied, if◌then◌else◌};
 ghost use Rattle.sm_base.specs.Outcomes.{OrMemory};
-ghost use Rattle.sm_versions.specs.Texts.{aws_current};
-ghost use Rattle.sm_versions.specs.Labels.{holder};
+ghost use Rattle.sm_model.specs.Labels.{aws_current, holder};
 ghost use Rattle.sm_versions.specs.Move.{missing, may_move, move_placed, move_onto, move_to, move_held, move_answer, move_pairs, move_row, is_moved, is_done, move_told};
 ghost use Rattle.sm_versions.specs.Kept.{KeptUnsettled};
 
@@ -10,7 +9,7 @@ use crate::labels::{holder, is_current, is_same_id};
 use crate::placing::{place, remove};
 use crate::values::has_too_many;
 use crate::versions::{has_value, has_version};
-use sm_model::limits::LABELS_LIMIT;
+use sm_base::limits::LABELS_LIMIT;
 use sm_model::{Copied, Label, List, NoMemory, Pair, SecretRow, SharedList, Token, VersionRow};
 use std::alloc::Global;
 

@@ -1,7 +1,8 @@
 //! Placing labels on versions.
 ghost use Rattle.std.specs.Prelude.{◌≡◌, IfOk, OnOk};
-ghost use Rattle.sm_versions.specs.Texts.{is_among, aws_current};
-ghost use Rattle.sm_versions.specs.Labels.{holder, without, moved, with_previous, with_current, place, place_each, others, firsts, place_all};
+ghost use Rattle.sm_versions.specs.Texts.{is_among};
+ghost use Rattle.sm_model.specs.Labels.{aws_current, holder};
+ghost use Rattle.sm_versions.specs.Labels.{without, moved, with_previous, with_current, place, place_each, others, firsts, place_all};
 
 use crate::labels::{current, holder, is_among, is_current, is_same, is_same_id, previous};
 use sm_model::{Copied, Label, NoMemory, Pair, Token};

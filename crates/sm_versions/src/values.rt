@@ -8,7 +8,7 @@ ghost use Rattle.sm_versions.specs.Kept.{KeptUnsettled, will_have_current};
 use crate::labels::{labels_on, own_count};
 use crate::placing::place_all;
 use crate::versions::{filled, is_same_value, version_of};
-use sm_model::limits::{LABELS_LIMIT, NO_SERIAL, VERSIONS_LIMIT};
+use sm_base::limits::{LABELS_LIMIT, NO_SERIAL, VERSIONS_LIMIT};
 use sm_model::{Copied, Label, List, Moment, NoMemory, Pair, SecretRow, Token, Value, VersionRow};
 use std::alloc::Global;
 

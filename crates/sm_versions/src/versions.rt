@@ -1,11 +1,11 @@
 //! The versions of a secret.
-ghost use Rattle.std.specs.Prelude.{◌≡◌, IfOk, option_copied};
+ghost use Rattle.std.specs.Prelude.{◌≡◌, IfOk, Some, option_copied};
 ghost use Rattle.std.specs.List.{position};
-ghost use Rattle.sm_versions.specs.Texts.{same_text};
-ghost use Rattle.sm_versions.specs.Versions.{same_value, version_of, has_version, has_value, is_value, same, filled};
+ghost use Rattle.sm_base.specs.Texts.{same_text};
+ghost use Rattle.sm_versions.specs.Versions.{same_value, version_of, has_value, is_value, same, filled};
+ghost use Rattle.sm_model.specs.Versions.{has_version};
 
-use crate::labels::is_same_id;
-use sm_model::{NoMemory, SecretRow, SharedList, Token, Value, VersionRow};
+use sm_model::{Copied, NoMemory, SecretRow, SharedList, Token, Value, VersionRow};
 use std::alloc::Global;
 
 /// Whether both are the same text, or the same bytes.
@@ -64,24 +64,28 @@ fn is_value(kept: &Option<Value>, value: &Value) -> bool
 }
 
 /// The place of the version with this id.
-fn position_of(versions: &[VersionRow], id: &Token) -> Option<usize>
+#[tactic(auto, unfolding(sm_base::specs::Texts::same_text))]
+pub fn position_of(versions: &SharedList<VersionRow>, id: &Token) -> Option<usize>
     ensures { result ≡ position (λ v. same_text v.id id.now) versions.now }
 {
-    versions
-        .iter()
-        .position(|version| is_same_id(&version.id, id))
+    versions.position(id.as_text().as_bytes())
 }
 
-/// Gives a value to the version with this id.
-fn fill(versions: &mut Vec<VersionRow>, id: &Token, value: Value)
-    ensures { versions.new.items ≡ filled versions.old.items id.now value }
+/// A copy of the version, with a value.
+fn with_value(alloc: Global, version: &VersionRow, value: Value) -> Result<VersionRow, NoMemory>
+    ensures { IfOk result (λ v. v ≡ record version.now { value = Some value }) }
 {
-    if let Some(i) = position_of(versions.as_slice(), id) {
-        versions[i].value = Some(value);
-    }
+    Ok(VersionRow {
+        id: version.id.copy(alloc)?,
+        serial: version.serial,
+        made: version.made,
+        value: Some(value),
+        rotated: version.rotated,
+        by_rotation: version.by_rotation,
+    })
 }
 
-/// The versions, with a value in the one with this id.
+/// The versions, with a value in the one with this id. All others are shared with those that were.
 pub fn filled(
     alloc: Global,
     versions: &SharedList<VersionRow>,
@@ -90,7 +94,11 @@ pub fn filled(
 ) -> Result<SharedList<VersionRow>, NoMemory>
     ensures { IfOk result (λ all. all ≡ filled versions.now id.now value) }
 {
-    let mut all = versions.to_vec(alloc)?;
-    fill(&mut all, id, value);
-    SharedList::from_vec(alloc, all)
+    let mut all = versions.copy(alloc)?;
+    if let Some(place) = position_of(versions, id) {
+        if let Some(version) = versions.get(place) {
+            all.replace(alloc, place, with_value(alloc, version, value)?)?;
+        }
+    }
+    Ok(all)
 }

@@ -5,5 +5,4 @@ pub mod TurnerLemmas
 pub mod WorkerLemmas
 pub mod GivenLemmas
 pub mod SendLemmas
-pub mod TableSendLemmas
 pub mod RunLemmas

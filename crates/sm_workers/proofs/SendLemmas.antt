@@ -10,13 +10,13 @@ use Rattle.sm_disk.specs.declared.disk.Disk.{Ghosts as DiskGhosts}
 use Rattle.sm_model.proofs.entry.Mark.TheSendSync as mark
 use Rattle.sm_rotator.specs.declared.rotator.Rotator.{Ghosts as RotatorGhosts}
 use Rattle.sm_store.proofs.store.Store.TheSendSync as store
-use Rattle.sm_workers.proofs.TableSendLemmas.{table_send}
+use Rattle.sm_table.proofs.table.Table.TheSendSync as table
 
 books_field_send : (D : RattleType) (d : DiskGhosts D.Denot) → IsSend D → IsSend (books.the_field D d).row
 books_field_send D d sent = struct_send (shape (books.the_type D d)) (
   search sendable,
   (
-    table_send,
+    table.the_send,
     (
       store.the_field_send D d sent,
       (

@@ -1,5 +1,6 @@
 //! Running workers at one account, each in a thread of its own.
 ghost use Rattle.std.specs.Prelude.{◌≡◌, ◌<◌, ◌≤◌, All, IfOk, IfErr, OnOk, OnErr, MatchBool, length, None};
+ghost use Rattle.sm_base.specs.declared.limits.TheConstants.{SEATS_LIMIT};
 ghost use Rattle.sm_account.specs.Accounts.{base, history, began, taken};
 ghost use Rattle.sm_lock.specs.Handles.{built_with, IsIn};
 ghost use Rattle.sm_lock.specs.declared.gate.BuildRefused.TheVariants.{Memory};
@@ -71,7 +72,7 @@ pub fn run_at<
 ) -> Result<Account<D, R>, BuildRefused<Account<D, R>>>
 where
     E::C: Send,
-    requires many { (1 ≤ length workers.old) × (length workers.old ≤ 128) }
+    requires many { (1 ≤ length workers.old) × (length workers.old ≤ SEATS_LIMIT) }
     requires fresh { All IsFresh workers.old }
 
     // All that stands in the last history behind that of the account before was done by the workers: the k-th, counted

@@ -1,4 +1,5 @@
-use Rattle.std.proofs.Common.{◌≤◌, length, sym, subst}
+use Rattle.std.proofs.Common.{◌≤◌, length, refl, sym, subst}
+use Rattle.sm_base.specs.declared.limits.TheConstants.{CALLER_LIMIT}
 use Rattle.sm_base.specs.declared.moment.TheConstants.{LAST_READING}
 use Rattle.sm_model.specs.declared.entry.Entry.{Entry}
 use Rattle.sm_sizes.specs.Spellable.{IsSpellable}
@@ -10,11 +11,15 @@ grow-requires g c =
     record {
       can = c.requires.can;
       bound = subst (λ (e : Entry). e.moment.0 ≤ LAST_READING) (sym is) c.requires.bound;
-      key = subst (λ (e : Entry). length e.caller ≤ 256) (sym is) c.requires.key;
-      act = subst (λ (e : Entry). IsSpellable e.drawn e.act) (sym is) (record {
-        drawn_for = c.requires.drawn;
-        forms = c.requires.forms;
-        changes = c.requires.changes;
-        few = c.requires.few;
+      key = subst (λ (e : Entry). length e.caller ≤ CALLER_LIMIT) (sym is) c.requires.key;
+      act = subst IsSpellable (sym is) (record {
+        act = record {
+          drawn_for = c.requires.drawn;
+          forms = c.requires.forms;
+          changes = c.requires.changes;
+          few = c.requires.few;
+        };
+        whose = refl;
+        by = refl;
       });
     }

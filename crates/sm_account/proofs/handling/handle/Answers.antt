@@ -1,4 +1,4 @@
-use Rattle.std.proofs.Common.{◌≡◌, false, arith}
+use Rattle.std.proofs.Common.{◌≡◌, false, refl, arith}
 use Rattle.sm_table.specs.Changes.{CanMake, StandsAt}
 use Rattle.sm_table.specs.Sound.{ChangeSound}
 use Rattle.sm_table.specs.Sweep.{sweep}
@@ -53,9 +53,11 @@ finish-requires g c =
           (change (CanMake books.table) c.in-Accept.ensures.can)
           (change (StandsAt books.table (record { 0 = c.max.result })) c.in-Accept.ensures.stands)
           (change (Makes books.table entry) c.in-Accept.ensures.makes)
-          (change (ChangeSound (sweep books.table (record { 0 = c.max.result }))) c.in-Accept.ensures.change_sound)
-          (change (λ _. LegalAct books.table (record { 0 = c.max.result }) drawn (Asked request))
-          c.in-Accept.ensures.legal)
+          (change (ChangeSound (sweep books.table (record { 0 = c.max.result }))) c.in-Accept.ensures.change_sound) (
+            refl,
+            change (λ _. LegalAct books.table (record { 0 = c.max.result }) drawn (Asked request))
+                c.in-Accept.ensures.legal,
+          )
           (omega (arith, c.max.ensures))
           (omega (arith, c.max.ensures, c.requires.kept.bound, c.requires.bound));
       room = c.in-Ok.ensures.room;

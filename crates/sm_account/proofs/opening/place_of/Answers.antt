@@ -2,8 +2,8 @@ use Rattle.std.proofs.Common.{ap, arith, length, ◌+◌}
 use Rattle.sm_account.proofs.ReplayLemmas.{spelled_at, sizes_front, sizes_take, sizes_all}
 use Rattle.sm_account.proofs.opening.place_of.Goals as goal
 
-pub encode-requires : goal.encode-requires
-encode-requires c =
+pub encode_first-requires : goal.encode_first-requires
+encode_first-requires c =
     spelled_at c.args.entries.now c.loop-entry.entry-index c.entry-item.result c.requires.spelled c.loop-entry-test.true
     c.entry-item.is
 

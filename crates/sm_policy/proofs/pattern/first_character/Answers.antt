@@ -1,4 +1,4 @@
-use Rattle.std.proofs.Common.{rules, arith, ◌∙◌}
+use Rattle.std.proofs.Common.{arith, ◌∙◌}
 use Rattle.sm_policy.proofs.CharacterLemmas.{each_case, one_byte, two_cut, two_bytes, three_cut, three_cut_later, three_bytes, four_cut, four_cut_later, four_cut_last, four_bytes}
 use Rattle.sm_policy.proofs.pattern.first_character.Goals as goal
 

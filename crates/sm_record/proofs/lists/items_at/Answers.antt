@@ -7,18 +7,18 @@ pub returns-in_err-item : goal.returns-in_err-item
 returns-in_err-item g c =
     let p = err_from_is_err_and c.from_residual.result c.from_residual.ensures.1 in
     rw (p.1, p.2)
-    (ends g.A.Field.codec c.loop.items.items c.args.count c.loop.counter c.loop.rest.now
-    (read_items g.A.Field.codec c.args.count c.args.bytes.now) c.in_err-item.field-0.0 c.loop-test.true
+    (ends (g.A.Field.codec c.args.edition) c.loop.items.items c.args.count c.loop.counter c.loop.rest.now
+    (read_items (g.A.Field.codec c.args.edition) c.args.count c.args.bytes.now) c.in_err-item.field-0.0 c.loop-test.true
     c.in_err-item.ensures c.loop.invariant)
 
 pub loop-preserved : goal.loop-preserved
 loop-preserved g c =
     rw c.in_ok-push.ensures.items
-    (goes_on g.A.Field.codec c.loop.items.items c.args.count c.loop.counter c.loop.rest.now
-    (read_items g.A.Field.codec c.args.count c.args.bytes.now) c.in_ok-item.item c.in_ok-item.behind.now
-    c.loop-test.true c.in_ok-item.ensures c.loop.invariant)
+    (goes_on (g.A.Field.codec c.args.edition) c.loop.items.items c.args.count c.loop.counter c.loop.rest.now
+    (read_items (g.A.Field.codec c.args.edition) c.args.count c.args.bytes.now) c.in_ok-item.item
+    c.in_ok-item.behind.now c.loop-test.true c.in_ok-item.ensures c.loop.invariant)
 
 pub returns : goal.returns
 returns g c =
-    is_done g.A.Field.codec c.loop.items.items c.args.count c.loop.counter c.loop.rest.now
-    (read_items g.A.Field.codec c.args.count c.args.bytes.now) c.loop-test.false c.loop.invariant
+    is_done (g.A.Field.codec c.args.edition) c.loop.items.items c.args.count c.loop.counter c.loop.rest.now
+    (read_items (g.A.Field.codec c.args.edition) c.args.count c.args.bytes.now) c.loop-test.false c.loop.invariant

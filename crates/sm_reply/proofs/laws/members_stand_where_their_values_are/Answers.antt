@@ -1,4 +1,4 @@
-use Rattle.sm_reply.proofs.OrderLemmas.{replies_exact, refusals_exact, got_exact, errors_exact, listed_exact, rules_exact, tags_exact, versions_exact, faults_exact}
+use Rattle.sm_reply.proofs.OrderLemmas.{replies_exact, refusals_exact, got_exact, errors_exact, listed_exact, replicas_exact, rules_exact, tags_exact, versions_exact, faults_exact}
 use Rattle.sm_reply.proofs.laws.members_stand_where_their_values_are.Goals as goal
 
 pub returns-clause-replies : goal.returns-clause-replies
@@ -15,6 +15,9 @@ returns-clause-errors c = errors_exact
 
 pub returns-clause-listed : goal.returns-clause-listed
 returns-clause-listed c = listed_exact
+
+pub returns-clause-replicas : goal.returns-clause-replicas
+returns-clause-replicas c = replicas_exact
 
 pub returns-clause-rules : goal.returns-clause-rules
 returns-clause-rules c = rules_exact

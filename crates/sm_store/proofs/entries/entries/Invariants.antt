@@ -1,9 +1,10 @@
 use Rattle.std.proofs.Common.{◌≡◌, ◌+◌, map, take}
 use Rattle.sm_journal.specs.Records.{size}
+use Rattle.sm_record.specs.declared.edition.Edition.TheVariants.{First}
 use Rattle.sm_record.specs.Spelling.{spelling}
 use Rattle.sm_store.specs.Entries.{AreSpelled}
 use Rattle.sm_store.proofs.entries.entries.Given as goal
 
 abbrev pub invariant-loop-body : goal.invariant-loop-body
-invariant-loop-body l = AreSpelled l.list.items × (map spelling l.list.items ≡ take l.body-index l.bodies)
-    × (l.at ≡ 8 + size (map spelling l.list.items))
+invariant-loop-body l = AreSpelled l.list.items × (map (spelling First) l.list.items ≡ take l.body-index l.bodies)
+    × (l.at ≡ 8 + size (map (spelling First) l.list.items))

@@ -1,5 +1,5 @@
 use Rattle.std.proofs.Common.{◌≤◌, ◌*◌, take}
-use Rattle.sm_model.specs.declared.limits.TheConstants.{VERSIONS_LIMIT}
+use Rattle.sm_base.specs.declared.limits.TheConstants.{VERSIONS_LIMIT}
 use Rattle.sm_table.specs.Sweep.{swept}
 use Rattle.sm_summary.specs.Summary.{IsShown}
 use Rattle.sm_summary.proofs.walk.show_rows.Given as goal

@@ -1,6 +1,6 @@
 use Rattle.std.proofs.Common.{◌≡◌, ◌∙◌, ◌+◌, ◌++◌, ◌∷◌, [], take, sym, ap, arith}
 use Rattle.std.proofs.lemmas.List.{take_more}
-use Rattle.sm_versions.specs.Due.{is_reached}
+use Rattle.sm_model.specs.Due.{is_reached}
 use Rattle.sm_table.proofs.IndexedLemmas.{stay_added}
 use Rattle.sm_table.proofs.indexed.soonest.Goals as goal
 

@@ -1,6 +1,6 @@
 use Rattle.std.proofs.Common.{◌≡◌, true, false, take}
 use Rattle.sm_base.specs.declared.moment.Moment.{Moment}
-use Rattle.sm_versions.specs.Due.{is_reached}
+use Rattle.sm_model.specs.Due.{is_reached}
 use Rattle.sm_table.specs.Indexed.{all_stay}
 use Rattle.sm_table.proofs.indexed.soonest.Given as goal
 

@@ -1,5 +1,5 @@
 use Rattle.std.proofs.Common.{◌≡◌, take}
-use Rattle.sm_versions.specs.Texts.{aws_current}
+use Rattle.sm_model.specs.Labels.{aws_current}
 use Rattle.sm_versions.specs.Labels.{place_each, others, firsts}
 use Rattle.sm_versions.proofs.placing.place_others.Given as goal
 

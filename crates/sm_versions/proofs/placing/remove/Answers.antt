@@ -1,6 +1,6 @@
 use Rattle.std.proofs.Common.{not, ◌∙◌, rules}
 use Rattle.std.proofs.lemmas.Fn.{filter_same}
-use Rattle.sm_versions.specs.Texts.{same_text}
+use Rattle.sm_base.specs.Texts.{same_text}
 use Rattle.sm_versions.proofs.LabelLemmas.{without_is_filter}
 use Rattle.sm_versions.proofs.placing.remove.Goals as goal
 

@@ -1,6 +1,5 @@
-use Rattle.std.proofs.Common.{◌≡◌, ◌++◌, map, reverse}
-use Rattle.sm_base.specs.Links.{newest}
+use Rattle.std.proofs.Common.{◌≡◌, map, take}
 use Rattle.sm_base.proofs.shared_list.SharedList.items.Given as goal
 
-abbrev pub invariant-loop-upto : goal.invariant-loop-upto
-invariant-loop-upto g l = reverse (map (λ item. item.now) l.vec.items ++ newest l.upto) ≡ l.self
+abbrev pub invariant-loop-entry : goal.invariant-loop-entry
+invariant-loop-entry g l = map (λ item. item.now) l.vec.items ≡ take l.entry-index l.entries

@@ -1,6 +1,7 @@
 use Rattle.std.proofs.Common.{map, refl}
 use Rattle.std.specs.Option.{option_map}
 use Rattle.sm_journal.proofs.Standing.{at_err}
+use Rattle.sm_record.specs.declared.edition.Edition.TheVariants.{First}
 use Rattle.sm_record.specs.Spelling.{spelling}
 use Rattle.sm_store.proofs.StoreStands.{store_is, holds_on, holds_sure, mend_leaves}
 use Rattle.sm_store.proofs.store.Store.mend.Goals as goal
@@ -10,7 +11,8 @@ returns-in_err-mend-clause-err g c =
     let kept = c.in_err-mend.ensures.err in
     at_err c.from_residual.result (
       kept.0,
-      λ list failed. holds_on c.args.self.now _ list failed (kept.1 (map spelling list) (option_map spelling failed)),
+      λ list failed. holds_on c.args.self.now _ list failed
+          (kept.1 (map (spelling First) list) (option_map (spelling First) failed)),
     )
 
 pub returns-in_err-mend-clause-any_moment : goal.returns-in_err-mend-clause-any_moment
@@ -22,7 +24,7 @@ returns-clause-ok g c =
     let mended = c.in_ok-mend.ensures.ok in (
       mended.0,
       λ list failed. holds_sure c.args.self.now _ list failed
-          (mended.1 (map spelling list) (option_map spelling failed)),
+          (mended.1 (map (spelling First) list) (option_map (spelling First) failed)),
     )
 
 pub returns-clause-left : goal.returns-clause-left

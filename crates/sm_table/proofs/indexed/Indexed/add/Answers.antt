@@ -1,5 +1,5 @@
 use Rattle.std.proofs.Common.{◌≡◌, ◌∙◌, ◌∷◌, [], suc, sym, ap, arith, length, length-append}
-use Rattle.sm_versions.specs.Due.{is_reached}
+use Rattle.sm_model.specs.Due.{is_reached}
 use Rattle.sm_table.proofs.IndexLemmas.{names_length}
 use Rattle.sm_table.proofs.NameLaws.{names_push}
 use Rattle.sm_table.proofs.IndexedLemmas.{grown_holds, room_next, stay_added}

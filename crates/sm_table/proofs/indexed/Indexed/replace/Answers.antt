@@ -1,5 +1,5 @@
 use Rattle.std.proofs.Common.{◌≡◌, ◌∙◌, sym, ap, arith, length}
-use Rattle.sm_versions.specs.Due.{is_reached}
+use Rattle.sm_model.specs.Due.{is_reached}
 use Rattle.sm_table.specs.Changes.{replaced}
 use Rattle.sm_table.proofs.IndexLemmas.{names_length}
 use Rattle.sm_table.proofs.IndexedLemmas.{stay_put}

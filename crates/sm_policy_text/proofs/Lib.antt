@@ -1,0 +1,5 @@
+pub mod BodyLemmas
+pub mod ItemLemmas
+pub mod MemberLemmas
+pub mod StatementLemmas
+pub mod TextLemmas

@@ -1,0 +1,5 @@
+pub mod Bodies
+pub mod Documents
+pub mod Kinds
+pub mod Members
+pub mod Reads
