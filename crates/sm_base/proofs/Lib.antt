@@ -7,6 +7,7 @@ pub mod FaultLemmas
 pub mod LabelLemmas
 pub mod PartLemmas
 pub mod PersonArnLemmas
+pub mod PlaceLemmas
 pub mod RunLemmas
 pub mod SecretIdLemmas
 pub mod SharedLemmas

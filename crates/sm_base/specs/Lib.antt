@@ -8,6 +8,7 @@ pub mod Outcomes
 pub mod Parts
 pub mod PersonArn
 pub mod Reading
+pub mod Runs
 pub mod SecretId
 pub mod Spelling
 pub mod Sums

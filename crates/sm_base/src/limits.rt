@@ -20,7 +20,7 @@ pub const SECONDS_KEPT: u64 = 86_400;
 /// version.
 pub const LABELS_LIMIT: u64 = 20;
 
-/// How many tags a secret may have.
+/// How many tags a secret may have, and how many a request may name.
 pub const TAGS_LIMIT: u64 = 50;
 
 /// How many replica regions a secret may have, and how many a request may name.

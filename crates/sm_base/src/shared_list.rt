@@ -2,23 +2,13 @@
 ghost use Rattle.std.specs.Prelude.{◌≡◌, ℕ, ◌<◌, ◌++◌, ◌∷◌, [], IfOk, OnOk, OnErr, length, map, filter, slice_get, slice_set, option_copied, nat_eq};
 ghost use Rattle.std.specs.Cmp.Lexicographic.{pointwise};
 ghost use Rattle.std.specs.List.{find, position};
-ghost use Rattle.sm_base.specs.Sums.{mixed, sum_of};
+ghost use Rattle.sm_base.specs.Runs.{passes};
 
+use crate::entry::{Entry, Keyed, sum_of};
 use crate::memory::{Copied, NoMemory};
+use crate::runs::Runs;
 use std::alloc::Global;
 use std::marker::Model;
-use std::sync::Arc;
-
-/// What is found by a key.
-pub trait Keyed {
-    ghost use Rattle.std.specs.Prelude.{List, ℕ};
-
-    /// The bytes of the key.
-    ghost key: { Self → List ℕ };
-
-    fn key(&self) -> &[u8]
-        ensures { result.now ≡ key self.now };
-}
 
 /// What picks the items that stay in a list.
 pub trait Picks<T> {
@@ -31,77 +21,25 @@ pub trait Picks<T> {
         ensures { result ≡ picked self.now item.now };
 }
 
-/// An item that copies share, with the number of its key, which contracts see as the item.
-#[derive(Drop)]
-struct Entry<T: Keyed> {
-    /// Equal keys have equal ones.
-    sum: u32,
-    item: Arc<T>,
-}
-
-impl<T: Keyed> Model for Entry<T> {
-    ghost use Rattle.std.specs.Prelude.{◌≡◌};
-    ghost use Rattle.std.specs.Arc.{arc_value};
-    ghost use Rattle.sm_base.specs.Sums.{sum_of};
-
-    ghost Value = { T };
-
-    ghost view = { λ e. arc_value e.item };
-
-    ghost invariant = { λ e. e.sum ≡ sum_of (T.key (arc_value e.item)) };
-}
-
-impl<T: Keyed> Entry<T> {
-    fn item(&self) -> &T
-        ensures { result.now ≡ self.now }
-    {
-        &self.item
-    }
-
-    /// The same item, shared.
-    fn shared(&self) -> Result<Entry<T>, NoMemory>
-        ensures { IfOk result (λ entry. entry ≡ self.now) }
-    {
-        let item = Arc::try_clone(&self.item)?;
-        Ok(Entry {
-            sum: self.sum,
-            item,
-        })
-    }
-
-    /// Whether the item has the key with this number. An item with another number is not looked at.
-    #[tactic(auto, using(crate::proofs::SharedLemmas::other_key))]
-    fn has_key(&self, sum: u32, key: &[u8]) -> bool
-        requires { sum ≡ sum_of key.now }
-        ensures { result ≡ pointwise nat_eq (T.key self.now) key.now }
-    {
-        self.sum == sum && self.item.key() == key
-    }
-}
-
-impl<T: Keyed + Drop> Entry<T> {
-    fn new(alloc: Global, item: T) -> Result<Entry<T>, NoMemory>
-        ensures { IfOk result (λ entry. entry ≡ item) }
-    {
-        let sum = sum_of(item.key());
-        let item = Arc::new(alloc, item)?;
-        Ok(Entry { sum, item })
-    }
-}
-
-/// A list of items in order, which contracts see as the list itself. A copy shares the items of its original, and costs
-/// a count an item. The numbers of the keys spare most looks at the keys.
+/// A list of items in order, which contracts see as the list itself. A copy shares the items of its original: it costs
+/// their places and a few counts. The numbers of the keys spare most looks at the keys.
 #[derive(Drop)]
 pub struct SharedList<T: Keyed> {
-    entries: Vec<Entry<T>>,
+    /// Where the items stand among those that the list knows, in order.
+    places: Vec<usize>,
+    /// The items, and some that were taken out or replaced since all were gathered.
+    known: Runs<T>,
 }
 
 impl<T: Keyed> Model for SharedList<T> {
-    ghost use Rattle.std.specs.Prelude.{List};
+    ghost use Rattle.std.specs.Prelude.{List, length};
+    ghost use Rattle.sm_base.specs.Runs.{Below, picked};
 
     ghost Value = { List T };
 
-    ghost view = { λ l. l.entries.items };
+    ghost view = { λ l. picked l.known l.places.items };
+
+    ghost invariant = { λ l. Below (length l.known) l.places.items };
 }
 
 impl<T: Keyed> SharedList<T> {
@@ -110,21 +48,34 @@ impl<T: Keyed> SharedList<T> {
         ensures { result ≡ [] }
     {
         SharedList {
-            entries: Vec::new(alloc),
+            places: Vec::new(alloc),
+            known: Runs::empty(alloc),
         }
     }
 
+    #[tactic(auto, using(crate::proofs::PlaceLemmas::length_picked))]
     pub fn len(&self) -> usize
         ensures { result ≡ length self.now }
     {
-        self.entries.len()
+        self.places.len()
+    }
+
+    #[tactic(auto, using(crate::proofs::PlaceLemmas::got_picked, crate::proofs::PlaceLemmas::past_picked))]
+    fn entry(&self, place: usize) -> Option<&Entry<T>>
+        ensures { option_copied result ≡ slice_get self.now place }
+    {
+        if place < self.places.len() {
+            self.known.get(self.places[place])
+        } else {
+            None
+        }
     }
 
     /// The item at a place, counted from 0.
     pub fn get(&self, place: usize) -> Option<&T>
         ensures { option_copied result ≡ slice_get self.now place }
     {
-        match self.entries.get(place) {
+        match self.entry(place) {
             Some(entry) => Some(entry.item()),
             None => None,
         }
@@ -134,25 +85,27 @@ impl<T: Keyed> SharedList<T> {
     pub fn items<'a>(&'a self, alloc: Global) -> Result<Vec<&'a T>, NoMemory>
         ensures { IfOk result (λ vec. map (λ item. item.now) vec.items ≡ self.now) }
     {
-        let entries = self.entries.as_slice();
-        let mut vec = Vec::with_capacity(alloc, entries.len())?;
-        for entry in entries {
-            vec.push(entry.item())?;
+        let mut vec = Vec::with_capacity(alloc, self.len())?;
+        for place in 0..self.len() {
+            if let Some(item) = self.get(place) {
+                vec.push(item)?;
+            }
         }
         Ok(vec)
     }
 
     /// The place of the first item with the key, and nothing where no item has it. An item with another key is looked
     /// at only where both have the same number.
-    #[tactic(auto, using(crate::proofs::SharedLemmas::none_upto, crate::proofs::SharedLemmas::first_at))]
+    #[tactic(auto, using(crate::proofs::PlaceLemmas::not_upto, crate::proofs::PlaceLemmas::there_upto, crate::proofs::PlaceLemmas::found_at))]
     pub fn position(&self, key: &[u8]) -> Option<usize>
         ensures { result ≡ position (λ item. pointwise nat_eq (T.key item) key.now) self.now }
     {
         let sum = sum_of(key);
-        let entries = self.entries.as_slice();
-        for at in 0..entries.len() {
-            if entries[at].has_key(sum, key) {
-                return Some(at);
+        for at in 0..self.len() {
+            if let Some(entry) = self.entry(at) {
+                if entry.has_key(sum, key) {
+                    return Some(at);
+                }
             }
         }
         None
@@ -172,32 +125,66 @@ impl<T: Keyed> SharedList<T> {
 
 impl<T: Keyed + Drop> SharedList<T> {
     /// Adds an item at the end. Without memory the list stays, and the item is dropped.
+    #[tactic(auto, using(crate::proofs::PlaceLemmas::pushed, crate::proofs::PlaceLemmas::stays_picked, crate::proofs::PlaceLemmas::pushed_known, crate::proofs::PlaceLemmas::stays_known))]
     pub fn push(&mut self, alloc: Global, item: T) -> Result<(), NoMemory>
         ensures ok { OnOk result (self.new ≡ self.old ++ item ∷ []) }
         ensures err { OnErr result (self.new ≡ self.old) }
     {
         let entry = Entry::new(alloc, item)?;
-        self.entries.push(entry)?;
+        self.make_room(alloc)?;
+        let place = self.known.add(alloc, entry)?;
+        self.places.push(place)?;
         Ok(())
     }
 
     /// Puts an item at a place. The one that stood there stays in the copies. Without memory the list stays, and the
     /// item is dropped.
+    #[tactic(auto, using(crate::proofs::PlaceLemmas::replaced, crate::proofs::PlaceLemmas::length_picked, crate::proofs::PlaceLemmas::replaced_known))]
     pub fn replace(&mut self, alloc: Global, place: usize, item: T) -> Result<(), NoMemory>
         requires { place < length self.old }
         ensures ok { OnOk result (self.new ≡ slice_set self.old place item) }
         ensures err { OnErr result (self.new ≡ self.old) }
     {
         let entry = Entry::new(alloc, item)?;
-        self.entries[place] = entry;
+        self.make_room(alloc)?;
+        let known = self.known.add(alloc, entry)?;
+        self.places[place] = known;
         Ok(())
     }
 
-    /// Takes out the items that are not picked. The others stay in their order. It takes no memory.
+    /// Takes out the items that are not picked. The others stay in their order. It takes no memory: what is taken out
+    /// is let go where all are gathered next.
     pub fn retain<P: Picks<T>>(&mut self, picks: &P)
         ensures { self.new ≡ filter (P.picked picks.now) self.old }
     {
-        self.entries.retain(|entry| picks.picks(entry.item()));
+        let known = &self.known;
+        self.places
+            .retain(|place| is_picked(known.get(*place), picks));
+    }
+
+    /// Gathers the items where many were added since that was done last. Without memory the list stays.
+    fn make_room(&mut self, alloc: Global) -> Result<(), NoMemory>
+        ensures { self.new ≡ self.old }
+    {
+        if self.known.is_full() {
+            let list = self.gathered(alloc)?;
+            *self = list;
+        }
+        Ok(())
+    }
+
+    /// The same items, and no others known.
+    #[tactic(auto, using(crate::proofs::PlaceLemmas::took_one, crate::proofs::PlaceLemmas::took_none))]
+    fn gathered(&self, alloc: Global) -> Result<SharedList<T>, NoMemory>
+        ensures { IfOk result (λ list. list ≡ self.now) }
+    {
+        let mut entries = Vec::with_capacity(alloc, self.len())?;
+        for place in 0..self.len() {
+            if let Some(entry) = self.entry(place) {
+                entries.push(entry.shared()?)?;
+            }
+        }
+        SharedList::of(alloc, entries)
     }
 
     /// The list of the items of a vector.
@@ -208,19 +195,35 @@ impl<T: Keyed + Drop> SharedList<T> {
         for item in vec {
             entries.push(Entry::new(alloc, item)?)?;
         }
-        Ok(SharedList { entries })
+        SharedList::of(alloc, entries)
+    }
+
+    /// The list of the items of some entries.
+    #[tactic(auto, using(crate::proofs::PlaceLemmas::all_picked, crate::proofs::PlaceLemmas::upto_below))]
+    fn of(alloc: Global, entries: Vec<Entry<T>>) -> Result<SharedList<T>, NoMemory>
+        ensures { IfOk result (λ list. list ≡ entries.items) }
+    {
+        // (with room for one more)
+        let mut places = Vec::with_capacity(alloc, entries.len() + 1)?;
+        for place in 0..entries.len() {
+            places.push(place)?;
+        }
+        let known = Runs::of(alloc, entries)?;
+        Ok(SharedList { places, known })
     }
 }
 
 impl<T: Keyed + Copied> SharedList<T> {
     /// The copies of the items, in order.
+    #[tactic(auto, using(crate::proofs::PlaceLemmas::took_one, crate::proofs::PlaceLemmas::took_none))]
     pub fn to_vec(&self, alloc: Global) -> Result<Vec<T>, NoMemory>
         ensures { IfOk result (λ vec. vec.items ≡ self.now) }
     {
-        let entries = self.entries.as_slice();
-        let mut vec = Vec::with_capacity(alloc, entries.len())?;
-        for entry in entries {
-            vec.push(entry.item().copy(alloc)?)?;
+        let mut vec = Vec::with_capacity(alloc, self.len())?;
+        for place in 0..self.len() {
+            if let Some(item) = self.get(place) {
+                vec.push(item.copy(alloc)?)?;
+            }
         }
         Ok(vec)
     }
@@ -228,27 +231,20 @@ impl<T: Keyed + Copied> SharedList<T> {
 
 impl<T: Keyed + Drop> Copied for SharedList<T> {
     fn copy(&self, alloc: Global) -> Result<SharedList<T>, NoMemory> {
-        let old = self.entries.as_slice();
+        let known = self.known.shared(alloc)?;
         // (with room for one more)
-        let mut entries = Vec::with_capacity(alloc, old.len() + 1)?;
-        for entry in old {
-            entries.push(entry.shared()?)?;
-        }
-        Ok(SharedList { entries })
+        let mut places = Vec::with_capacity(alloc, self.places.len() + 1)?;
+        places.extend_from_slice(self.places.as_slice())?;
+        Ok(SharedList { places, known })
     }
 }
 
-/// The number of a key.
-fn sum_of(key: &[u8]) -> u32
-    ensures { result ≡ sum_of key.now }
+/// Whether there is an item, and it is picked.
+fn is_picked<T: Keyed, P: Picks<T>>(entry: Option<&Entry<T>>, picks: &P) -> bool
+    ensures { result ≡ passes (P.picked picks.now) (option_copied entry.entry) }
 {
-    key.iter().fold(0, |sum, byte| mixed(sum, *byte))
-}
-
-/// The number with another byte.
-#[tactic(auto, unfolding(crate::specs::Sums::mixed))]
-fn mixed(sum: u32, byte: u8) -> u32
-    ensures { result ≡ mixed sum byte }
-{
-    sum.wrapping_mul(31).wrapping_add(byte as u32)
+    match entry {
+        Some(entry) => picks.picks(entry.item()),
+        None => false,
+    }
 }

@@ -180,3 +180,85 @@ fn items_are_replaced_and_taken_out_alone(rt: HostRuntime) -> Result<(), Fail> {
     );
     Ok(())
 }
+
+/// A list to which so many versions were added, each to a copy of the list before it, as a row is changed. Each third
+/// change puts a version with a serial from 1,000 on in the place of an older one too.
+fn changed(alloc: Global, count: usize) -> Result<SharedList<VersionRow>, ReadRefused> {
+    let mut all = SharedList::empty(alloc);
+    for serial in 0..count {
+        let mut next = all.copy(alloc)?;
+        next.push(alloc, version(alloc, serial)?)?;
+        if serial % 3 == 0 && serial / 2 < next.len() {
+            next.replace(alloc, serial / 2, version(alloc, 1000 + serial % 1000)?)?;
+        }
+        all = next;
+    }
+    Ok(all)
+}
+
+/// The serials of these versions, made on a vector.
+fn changed_serials(alloc: Global, count: usize) -> Result<Vec<u64>, NoMemory> {
+    let mut all = Vec::new(alloc);
+    for serial in 0..count {
+        all.push(serial as u64)?;
+        if serial % 3 == 0 && serial / 2 < all.len() {
+            all[serial / 2] = 1000 + (serial % 1000) as u64;
+        }
+    }
+    Ok(all)
+}
+
+/// The serials of those versions that are left when the older ones were taken out, and one was added.
+fn left_serials(alloc: Global, count: usize) -> Result<Vec<u64>, NoMemory> {
+    let mut all = changed_serials(alloc, count)?;
+    all.retain(|serial| *serial < 1000);
+    all.push(count as u64)?;
+    Ok(all)
+}
+
+/// These serials, as `serials` shows those of a list.
+fn shown(serials: &[u64]) -> u64 {
+    let mut shown: u64 = 0;
+    for serial in serials {
+        shown = shown.wrapping_mul(10).wrapping_add(*serial);
+    }
+    shown
+}
+
+/// Whether the versions of the list, in order and by their places, have these serials.
+fn has_serials(
+    alloc: Global,
+    all: &SharedList<VersionRow>,
+    wanted: &[u64],
+) -> Result<bool, NoMemory> {
+    let mut same = all.len() == wanted.len();
+    for place in 0..wanted.len() {
+        same = same && serial_at(all, place) == wanted[place];
+    }
+    Ok(same && serials(alloc, all)? == shown(wanted))
+}
+
+/// Whether a list of so many changes has what it should, before and after its older versions were taken out, and one
+/// was added to what is left; and whether its copy has what it had.
+fn is_right(alloc: Global, count: usize) -> Result<bool, ReadRefused> {
+    let mut all = changed(alloc, count)?;
+    let copy = all.copy(alloc)?;
+    let wanted = changed_serials(alloc, count)?;
+    let before = has_serials(alloc, &all, wanted.as_slice())?;
+    all.retain(&Below { bound: 1000 });
+    all.push(alloc, version(alloc, count)?)?;
+    let copied = has_serials(alloc, &copy, wanted.as_slice())?;
+    let left = left_serials(alloc, count)?;
+    Ok(before && copied && has_serials(alloc, &all, left.as_slice())?)
+}
+
+/// Counts of changes beside those at which items move to another run.
+static COUNTS: [usize; 12] = [0, 1, 2, 8, 9, 17, 40, 41, 49, 90, 130, 250];
+
+#[test]
+fn lists_of_any_length_are_right(rt: HostRuntime) -> Result<(), Fail> {
+    for count in &COUNTS {
+        assert!(rt; is_right(rt.alloc(), *count)?);
+    }
+    Ok(())
+}

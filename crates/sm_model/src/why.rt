@@ -44,7 +44,7 @@ pub enum Why {
     NoCurrent,
     /// The secret is its account's own, and no replica.
     NotReplica,
-    /// The account is a replica, which answers reads alone.
+    /// The account is a replica, which answers GetSecretValue and DescribeSecret alone.
     ReadOnly,
     NoSecret,
     NoVersion,
