@@ -254,7 +254,7 @@ const LABELS: [Exchange; 3] = [
     ),
 ];
 
-/// Members outside their forms, of another type, or not built.
+/// Members outside their forms, or of another type.
 const MEMBERS: [Exchange; 14] = [
     (
         CREATE,

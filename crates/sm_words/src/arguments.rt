@@ -43,11 +43,11 @@ pub fn mode<'a>(alloc: Global) -> Arg<'a>
         alloc,
         "mode",
         "MODE",
-        "What the run does; exec and check are built yet",
-        "What the run does: exec answers the messages of standard input and ends, and check says what a folder holds; \
-         serve is to answer at an address, and drill to make messages of its own and answer them, which are not built \
-         yet.\n\
-         Example: --mode check",
+        "What the run does: exec, serve or check",
+        "What the run does: exec answers the messages of standard input and ends, serve answers at an address until it \
+         is stopped, and check says what a folder holds; drill is to make messages of its own and answer them, and is \
+         not built yet.\n\
+         Example: --mode serve",
     )
     .value_parser(ValueParser::Names(MODES.as_slice()))
     .default_value("exec")
