@@ -1,3 +1,4 @@
 pub mod FilterLemmas
+pub mod FollowLemmas
 pub mod TokenLemmas
 pub mod WalkLemmas

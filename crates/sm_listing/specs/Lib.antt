@@ -1,4 +1,5 @@
 pub mod Filters
+pub mod Following
 pub mod Pages
 pub mod PageTokens
 pub mod Walks
