@@ -1,5 +1,5 @@
 -- The forms of a request, by its operation.
-use Rattle.std.specs.Prelude.{Option, Some}
+use Rattle.std.specs.Prelude.{◌≡◌, Option, Some}
 use Rattle.sm_model.specs.declared.request.Request.{Request}
 use Rattle.sm_model.specs.declared.request.Request.TheVariants as requests
 use Rattle.sm_model.specs.declared.why.Why.{Why}
@@ -12,6 +12,7 @@ use Rattle.sm_forms.specs.GetSecretValue.{get_forms}
 use Rattle.sm_forms.specs.ListSecretVersionIds.{list_versions_forms}
 use Rattle.sm_forms.specs.ListSecrets.{list_forms}
 use Rattle.sm_forms.specs.OfSecret.{of_secret_forms}
+use Rattle.sm_forms.specs.Policies.{OrNoMemory}
 use Rattle.sm_forms.specs.PutResourcePolicy.{put_policy_forms}
 use Rattle.sm_forms.specs.PutSecretValue.{put_forms}
 use Rattle.sm_forms.specs.RotateSecret.{rotate_forms}
@@ -47,3 +48,8 @@ forms_of (requests.UntagResource untag) = untag_forms untag
 forms_of (requests.UpdateSecret update) = update_forms update
 forms_of (requests.UpdateSecretVersionStage update) = move_forms update
 forms_of (requests.ValidateResourcePolicy validate) = validate_forms validate
+
+-- the refusal is the first form that fails; it may be for want of memory only where the text of a policy is read
+abbrev pub Refuses : Request → Option Why → Type 0
+Refuses (requests.PutResourcePolicy put) refusal = OrNoMemory refusal (put_policy_forms put)
+Refuses request refusal = refusal ≡ forms_of request

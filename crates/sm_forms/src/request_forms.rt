@@ -1,5 +1,5 @@
 //! The forms of a request, by its operation.
-ghost use Rattle.sm_forms.specs.Forms.{forms_of};
+ghost use Rattle.sm_forms.specs.Forms.{Refuses, forms_of};
 ghost use Rattle.sm_forms.specs.Policies.{OrNoMemory};
 
 use crate::batch_get_secret_value::batch_forms;
@@ -24,7 +24,8 @@ use std::alloc::Global;
 /// The first form or joint test that fails, or none. `Why::Memory` is want of memory, which only the text of a policy
 /// takes. No operation on replica regions is known.
 pub fn forms(alloc: Global, request: &Request) -> Option<Why>
-    ensures { OrNoMemory result (forms_of request.now) }
+    ensures wanted { OrNoMemory result (forms_of request.now) }
+    ensures exact { Refuses request.now result }
 {
     match request {
         Request::BatchGetSecretValue(batch) => batch_forms(batch),
