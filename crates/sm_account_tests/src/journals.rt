@@ -15,6 +15,15 @@ pub const PUT: &[u8] = b"\0\0\0\0\x65\x53\xf1\0\0\0\0\0\0\0\0\0\x02\
 pub const PUT_EARLIER: &[u8] = b"\0\0\0\0\x65\x53\xf0\xff\0\0\0\0\0\0\0\0\x02\
     \x01\0\0\0\x2422222222-2222-4222-8222-222222222222\0\0\0\0\x06db/app\x01\0\0\0\x01b\0";
 
+/// The forced deletion of `db/app`, at the moment of its creation.
+pub const FORCED: &[u8] = b"\0\0\0\0\x65\x53\xf1\0\0\0\0\0\0\0\0\0\x04\x01\0\0\0\0\x06db/app";
+
+/// The same 30 days later.
+pub const FORCED_LATER: &[u8] = b"\0\0\0\0\x65\x7b\x7e\0\0\0\0\0\0\0\0\0\x04\x01\0\0\0\0\x06db/app";
+
+/// Its deletion in 30 days.
+pub const SCHEDULED: &[u8] = b"\0\0\0\0\x65\x53\xf1\0\0\0\0\0\0\0\0\0\x04\0\0\0\0\0\x06db/app";
+
 /// CancelRotateSecret of the secret `a`.
 pub const CANCELLED: &[u8] = b"\0\0\0\0\x65\x53\xf1\0\0\0\0\0\0\0\0\0\x0c\0\0\0\x01a";
 

@@ -3,7 +3,9 @@ ghost use Rattle.std.specs.Prelude.{◌≤◌};
 ghost use Rattle.sm_base.specs.declared.limits.TheConstants.{JOURNAL_LIMIT};
 
 use crate::asked::{Answer, Kept, create, current, put};
-use crate::journals::{CANCELLED, CREATED, PUT, PUT_EARLIER, disk_of, file_of};
+use crate::journals::{
+    CANCELLED, CREATED, FORCED, FORCED_LATER, PUT, PUT_EARLIER, SCHEDULED, disk_of, file_of,
+};
 use sm_account::{Account, Damage, OpenRefused};
 use sm_base::Fails;
 use sm_model::What;
@@ -21,14 +23,14 @@ enum Found {
 struct Case {
     name: &'static str,
     bodies: &'static [&'static [u8]],
-    /// How many entries there are, and the value that is current then.
+    /// How many entries there are, and the value that is current then, or no text where there is none.
     kept: Option<(u64, &'static str)>,
     damage: Damage,
 }
 
 const WHOLE: Damage = Damage { at: 0, entry: 0 };
 
-const CASES: [Case; 7] = [
+const CASES: [Case; 12] = [
     Case {
         name: "no entries",
         bodies: &[],
@@ -54,6 +56,36 @@ const CASES: [Case; 7] = [
         damage: Damage { at: 8, entry: 0 },
     },
     Case {
+        name: "a deletion of an absent secret",
+        bodies: &[SCHEDULED],
+        kept: None,
+        damage: Damage { at: 8, entry: 0 },
+    },
+    Case {
+        name: "a forced deletion of an absent secret",
+        bodies: &[FORCED],
+        kept: Some((1, "")),
+        damage: WHOLE,
+    },
+    Case {
+        name: "a forced deletion of an absent secret, and its creation",
+        bodies: &[FORCED, CREATED],
+        kept: Some((2, "s3cret")),
+        damage: WHOLE,
+    },
+    Case {
+        name: "a forced deletion, and another one",
+        bodies: &[CREATED, FORCED, FORCED],
+        kept: Some((3, "")),
+        damage: WHOLE,
+    },
+    Case {
+        name: "a forced deletion of a secret whose deletion date is reached",
+        bodies: &[CREATED, SCHEDULED, FORCED_LATER],
+        kept: Some((3, "")),
+        damage: WHOLE,
+    },
+    Case {
         name: "a value of an absent secret",
         bodies: &[PUT, CREATED],
         kept: None,
@@ -75,7 +107,7 @@ const CASES: [Case; 7] = [
 
 fn wanted(alloc: Global, case: &Case) -> Result<Found, Fail> {
     match case.kept {
-        Some((0, _)) => Ok(Found::Entries(0, None)),
+        Some((count, value)) if value.is_empty() => Ok(Found::Entries(count, None)),
         Some((count, value)) => Ok(Found::Entries(count, Some(String::from_str(alloc, value)?))),
         None => Ok(Found::Damaged(case.damage)),
     }

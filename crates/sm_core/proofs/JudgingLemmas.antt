@@ -1,5 +1,5 @@
 -- Judging a request: when it is refused, when it changes nothing, and what its change is.
-use Rattle.std.proofs.Common.{◌≡◌, ℕ, ◌≤◌, Bool, false, ◌||◌, List, length, Option, Some, None, is_none, IsSome, IsTrue, Result, Ok, Err, IfOk, refl, sym, ◌∙◌, subst, arith}
+use Rattle.std.proofs.Common.{◌≡◌, inl, ℕ, ◌≤◌, Bool, false, ◌||◌, List, length, Option, Some, None, is_none, IsSome, IsTrue, Result, Ok, Err, IfOk, refl, sym, ◌∙◌, subst, arith}
 use Rattle.std.proofs.lemmas.Bool.Decides.{nat_tests}
 use Rattle.std.proofs.Math.Bool.{or-false}
 use Rattle.sm_base.specs.declared.memory.NoMemory.{NoMemory}
@@ -249,7 +249,7 @@ judges question rows moment key drawn request judged sound early forms room e =
           (is_unchanged question rows moment drawn request);
       legal = subst (λ j. IfChange j (λ _. LegalAct rows moment drawn (Asked request))) (sym e)
           (if_due model (LegalAct rows moment drawn (Asked request))
-          (λ due. (room, forms, due_alike question rows moment drawn request due)));
+          (λ due. (room, forms, inl (due_alike question rows moment drawn request due))));
       change = subst (λ j. IfChange j (IsChange rows moment (effect rows (entry_of moment key drawn request)))) (sym e)
           (change_is_entry question rows moment key drawn request sound early forms room);
     }

@@ -1,5 +1,9 @@
 pub mod JudgingLemmas
+pub mod NobodyLemmas
 pub mod HistoryLemmas
 pub mod ReplayLemmas
 pub mod VouchedRowLemmas
 pub mod VouchedLemmas
+pub mod StayLemmas
+pub mod StayedRowLemmas
+pub mod TokenLemmas

@@ -28,10 +28,11 @@ use Rattle.sm_rotations.proofs.ReportedLemmas.{reported_agrees}
 use Rattle.sm_core.specs.declared.replaying.Replayed.{Replayed}
 use Rattle.sm_core.specs.declared.replaying.Replayed.TheVariants.{Accept, Refuse, Memory}
 use Rattle.sm_core.specs.Effects.{act_effect, effect}
-use Rattle.sm_core.specs.Histories.{IsDue, LegalAct, LegalEntry, may_stand}
-use Rattle.sm_core.specs.Judging.{judgement, is_batch}
-use Rattle.sm_core.specs.Replaying.{again_told, IfReplayed, AsLegal, change_of, change_unless, replayed_act, replayed}
+use Rattle.sm_core.specs.Histories.{IsDue, MayBeAsked, LegalAct, LegalEntry, may_stand}
+use Rattle.sm_core.specs.Judging.{judgement, is_batch, is_of_nobody}
+use Rattle.sm_core.specs.Replaying.{again_told, IfReplayed, AsLegal, change_of, change_asked, change_unless, replayed_act, replayed}
 use Rattle.sm_core.proofs.JudgingLemmas.{is_kept_date, change_is_entry}
+use Rattle.sm_core.proofs.NobodyLemmas.{nobody_agrees, nobody_changes}
 
 -- the change of what is judged
 judged_agrees : (judged : Judged) (P : Change → Type 0) → IfChange judged P → Agrees (IsDue judged) P (change_of judged)
@@ -57,9 +58,12 @@ pub act_agrees : (rows : Rows) (moment : Moment) (drawn : List ℕ) (act : Act) 
     (replayed_act rows moment drawn act)
 act_agrees rows moment drawn (Asked request) sound early =
     request_agrees (length drawn) (needed request) (nat_eq (length drawn) (needed request)) (forms_of request)
-    (IsDue (judgement rows moment drawn request)) _ (change_of (judgement rows moment drawn request)) refl
-    (λ room forms. judged_agrees (judgement rows moment drawn request) _
+    (MayBeAsked rows moment drawn request) _ (change_asked rows moment drawn request) refl
+    (λ room forms. nobody_agrees (is_of_nobody rows moment request) (IsDue (judgement rows moment drawn request)) _
+    (change_of (judgement rows moment drawn request))
+    (judged_agrees (judgement rows moment drawn request) _
     (change_is_entry no_question rows moment [] drawn request sound early forms room))
+    (nobody_changes rows moment drawn request sound))
 act_agrees rows moment drawn (Begun arn) sound early =
     begun_agrees rows moment drawn arn sound early (is_kept_date moment early)
 act_agrees rows moment drawn (Reported arn at answer) sound early =
@@ -105,7 +109,7 @@ replays rows entry result sound early e =
 
 -- a batch makes no entry
 pub batch_unchanged : (rows : Rows) (moment : Moment) (drawn : List ℕ) (request : Request) → is_batch request ≡ true
-    → None ≡ change_of (judgement rows moment drawn request)
+    → None ≡ change_asked rows moment drawn request
 batch_unchanged rows moment drawn (requests.BatchGetSecretValue batch) is = refl
 batch_unchanged rows moment drawn request is = absurd (cc)
 

@@ -1,7 +1,6 @@
 -- Vouched rows stay vouched along a legal history of allowed entries.
-use Rattle.std.proofs.Common.{◌≡◌, ℕ, ◌≤◌, Bool, true, false, cond, List, [], ◌∷◌, ◌++◌, Option, Some, None, IfSome, IsSome, refl, sym, subst}
+use Rattle.std.proofs.Common.{◌≡◌, ℕ, Bool, true, false, cond, List, [], ◌∷◌, ◌++◌, Option, Some, None, IfSome, IsSome, refl, subst}
 use Rattle.sm_base.specs.declared.moment.Moment.{Moment}
-use Rattle.sm_base.specs.declared.moment.TheConstants.{LAST_READING}
 use Rattle.sm_base.specs.declared.secret_id.SecretId.{SecretId}
 use Rattle.sm_base.specs.SecretId.{secret_id}
 use Rattle.sm_base.specs.Drawn.{drawn_token}
@@ -16,7 +15,6 @@ use Rattle.sm_model.specs.declared.request.RotateSecret.{RotateSecret}
 use Rattle.sm_model.specs.declared.request.UpdateSecret.{UpdateSecret}
 use Rattle.sm_model.specs.declared.request.Request.{Request}
 use Rattle.sm_model.specs.declared.request.Request.TheVariants as requests
-use Rattle.sm_model.specs.declared.rows.Job.{Job}
 use Rattle.sm_model.specs.declared.rows.Rows.{Rows}
 use Rattle.sm_model.specs.declared.rows.SecretRow.{SecretRow}
 use Rattle.sm_versions.specs.declared.values.PutDone.{PutDone}
@@ -27,7 +25,7 @@ use Rattle.sm_versions.specs.Kept.{CurrentKept}
 use Rattle.sm_dates.specs.Days.{days_after}
 use Rattle.sm_rotation.specs.Begin.{begin_row}
 use Rattle.sm_rotation.specs.Vouched.{Replies, RowVouched, AcceptsOnly}
-use Rattle.sm_rotation.proofs.AttemptLemmas.{SameAttempts, same_vouched, put_vouched}
+use Rattle.sm_rotation.proofs.AttemptLemmas.{same_vouched, put_vouched}
 use Rattle.sm_rotation.proofs.VouchedLemmas.{begin_vouched, applied_vouched}
 use Rattle.sm_table.specs.Sweep.{swept, sweep}
 use Rattle.sm_table.specs.Found.{found, found_arn}
@@ -35,7 +33,7 @@ use Rattle.sm_table.specs.Sound.{Sound}
 use Rattle.sm_table.proofs.FoundLaws.{found_is_row}
 use Rattle.sm_table.proofs.SoundLaws.{sound_rows_kept}
 use Rattle.sm_judging.specs.declared.judged.Judged.{Judged}
-use Rattle.sm_judging.specs.declared.judged.Judged.TheVariants.{Accept, Refuse, Memory}
+use Rattle.sm_judging.specs.declared.judged.Judged.TheVariants.{Memory}
 use Rattle.sm_judging.specs.Changes.{change_named, settled}
 use Rattle.sm_judging.specs.Secrets.{unless_scheduled, on_secret, finished_row}
 use Rattle.sm_values.specs.declared.create_secret.CreateCall.{CreateCall}
@@ -50,7 +48,6 @@ use Rattle.sm_labels.specs.UpdateSecretVersionStage.{move_call, move_in}
 use Rattle.sm_policies.specs.Kept.{with_policy}
 use Rattle.sm_rotations.specs.CancelRotateSecret.{cancelled}
 use Rattle.sm_rotations.specs.declared.rotate_secret.Plan.{Plan}
-use Rattle.sm_rotations.specs.Begun.{begun_effect}
 use Rattle.sm_rotations.specs.Reported.{answered, reported_effect}
 use Rattle.sm_rotations.specs.RotateSecret.{plan_of, token_to_start, turned_on_in, waits, rotates}
 use Rattle.sm_rotations.proofs.WholeArnLemmas.{arn_row_sound}
@@ -59,10 +56,10 @@ use Rattle.sm_upkeep.specs.RestoreSecret.{unscheduled}
 use Rattle.sm_upkeep.specs.TagResource.{tagged}
 use Rattle.sm_upkeep.specs.UntagResource.{untagged}
 use Rattle.sm_core.specs.Effects.{request_effect, act_effect, effect}
-use Rattle.sm_core.specs.Histories.{replay, IsDue, LegalAct, Legal, InTime}
-use Rattle.sm_core.specs.Judging.{judgement}
+use Rattle.sm_core.specs.Histories.{replay, IsDue, MayBeAsked, LegalAct, Legal, InTime}
 use Rattle.sm_core.specs.Vouching.{Vouched, IsAllowed, EachAllowed}
 use Rattle.sm_core.proofs.HistoryLemmas.{act_keeps}
+use Rattle.sm_core.proofs.NobodyLemmas.{due_of}
 use Rattle.sm_core.proofs.VouchedRowLemmas.{push_each, settled_each, swept_vouched, stay_vouched, named_vouched, with_arn_vouched, others_vouched, drop_vouched}
 
 -- ---- a row that was found
@@ -77,7 +74,7 @@ unscheduled_due None judged due = due
 unscheduled_due (Some date) judged due = absurd due
 
 -- an entry that is due is due on that row
-on_secret_due : (found : Option SecretRow) (row : SecretRow) (judge : SecretRow → Judged) → found ≡ Some row
+pub on_secret_due : (found : Option SecretRow) (row : SecretRow) (judge : SecretRow → Judged) → found ≡ Some row
     → IsDue (on_secret found judge) → IsDue (judge row)
 on_secret_due None row judge e due = absurd due
 on_secret_due (Some r) row judge e due =
@@ -104,7 +101,7 @@ create_vouched replies rows moment drawn create vouched =
     (created_vouched replies rows.next moment (create_call drawn create)) (swept_vouched replies rows moment vouched))
 
 -- a value that is put where an entry is due was not there
-due_added : (done : PutDone) (after : SecretRow) (token : List ℕ) (accept : SecretRow → Judged) (repeat : Judged)
+pub due_added : (done : PutDone) (after : SecretRow) (token : List ℕ) (accept : SecretRow → Judged) (repeat : Judged)
     → (IsDue repeat → ⊥) → IsDue (judged_by (placed_by done after token) accept repeat) → done ≡ puts.Added
 due_added puts.Added after token accept repeat never due = refl
 due_added (puts.Same labels) after token accept repeat never due = absurd (never due)
@@ -113,10 +110,10 @@ due_added (puts.TooMany limit) after token accept repeat never due = absurd due
 due_added (puts.TooManyLabels limit) after token accept repeat never due = absurd due
 due_added puts.Memory after token accept repeat never due = absurd due
 
-no_change_due : IsSome {T = Change} None → ⊥
+pub no_change_due : IsSome {T = Change} None → ⊥
 no_change_due due = cc
 
-put_on_due : (row : SecretRow) (moment : Moment) (call : PutCall) → IsDue (put_on row moment call)
+pub put_on_due : (row : SecretRow) (moment : Moment) (call : PutCall) → IsDue (put_on row moment call)
     → put_answer row call.value.token call.value.value (labels_placed row call.labels) ≡ puts.Added
 put_on_due row moment call due =
     let labels : List (List ℕ) = labels_placed row call.labels in
@@ -203,16 +200,16 @@ rotates_vouched replies plan (Some token) moment row h =
 -- ---- each request
 
 request_vouched : (replies : Replies) (rows : Rows) (moment : Moment) (drawn : List ℕ) (request : Request) → Sound rows
-    → IsDue (judgement rows moment drawn request) → Vouched replies rows
+    → MayBeAsked rows moment drawn request → Vouched replies rows
     → Vouched replies (settled (request_effect (sweep rows moment) moment drawn request))
 request_vouched replies rows moment drawn (requests.CreateSecret create) sound due vouched =
     create_vouched replies rows moment drawn create vouched
 request_vouched replies rows moment drawn (requests.DeleteSecret delete) sound due vouched =
     delete_vouched replies rows moment delete vouched
 request_vouched replies rows moment drawn (requests.PutSecretValue put) sound due vouched =
-    put_of_vouched replies rows moment (put_call drawn put) sound due vouched
+    put_of_vouched replies rows moment (put_call drawn put) sound (due_of _ due) vouched
 request_vouched replies rows moment drawn (requests.UpdateSecret update) sound due vouched =
-    update_vouched replies rows moment drawn update sound due vouched
+    update_vouched replies rows moment drawn update sound (due_of _ due) vouched
 request_vouched replies rows moment drawn (requests.RotateSecret rotate) sound due vouched =
     named_vouched replies rows moment (secret_id rotate.secret_id)
     (rotates (plan_of rotate) (token_to_start drawn rotate) moment)

@@ -1,10 +1,11 @@
 -- Histories: the accepted changes of an account in order, and the rows that they make.
-use Rattle.std.specs.Prelude.{◌≡◌, ℕ, ◌≤◌, max, Bool, true, not, ◌&&◌, nat_eq, List, [], ◌∷◌, length, None, IsSome, IsTrue}
+use Rattle.std.specs.Prelude.{◌≡◌, ◌⊎◌, ℕ, ◌≤◌, max, Bool, true, not, ◌&&◌, nat_eq, List, [], ◌∷◌, length, None, IsSome, IsTrue}
 use Rattle.sm_base.specs.declared.moment.Moment.{Moment}
 use Rattle.sm_base.specs.declared.moment.TheConstants.{LAST_READING}
 use Rattle.sm_model.specs.declared.entry.Act.{Act}
 use Rattle.sm_model.specs.declared.entry.Act.TheVariants.{Asked, Begun, Reported}
 use Rattle.sm_model.specs.declared.entry.Entry.{Entry}
+use Rattle.sm_model.specs.declared.request.Request.{Request}
 use Rattle.sm_model.specs.declared.rows.Rows.{Rows}
 use Rattle.sm_model.specs.Needed.{needed}
 use Rattle.sm_table.specs.Sound.{Sound}
@@ -13,7 +14,7 @@ use Rattle.sm_judging.specs.declared.judged.Judged.{Judged}
 use Rattle.sm_judging.specs.declared.judged.Judged.TheVariants.{Accept, Refuse, Memory}
 use Rattle.sm_rotations.specs.Begun.{MayBegin}
 use Rattle.sm_rotations.specs.Reported.{MayReport}
-use Rattle.sm_core.specs.Judging.{judgement}
+use Rattle.sm_core.specs.Judging.{judgement, is_of_nobody}
 use Rattle.sm_core.specs.Effects.{effect}
 
 -- no secrets
@@ -44,12 +45,18 @@ IsDue (Accept reply change) = IsSome change
 IsDue (Refuse why) = ⊥
 IsDue Memory = ⊥
 
+-- A request may stand in a history where it makes an entry. So may the forced deletion of a secret that is not there:
+-- it makes none now, and one that stands changes nothing.
+abbrev pub MayBeAsked : Rows → Moment → List ℕ → Request → Type 0
+MayBeAsked rows moment drawn request =
+    IsDue (judgement rows moment drawn request) ⊎ IsTrue (is_of_nobody rows moment request)
+
 -- An entry of a request is legal at rows where the request has as many random bytes as it needs, its forms and all
 -- tests pass, and it is no repeat. The start of a rotation is legal where one is due for the token of its random bytes,
 -- and an answer to a step, which has no random bytes, where the secret's job is at that step.
 abbrev pub LegalAct : Rows → Moment → List ℕ → Act → Type 0
 LegalAct rows moment drawn (Asked request) =
-    (length drawn ≡ needed request) × (forms_of request ≡ None) × IsDue (judgement rows moment drawn request)
+    (length drawn ≡ needed request) × (forms_of request ≡ None) × MayBeAsked rows moment drawn request
 LegalAct rows moment drawn (Begun arn) = MayBegin rows moment drawn arn
 LegalAct rows moment drawn (Reported arn at answer) = (length drawn ≡ 0) × MayReport rows moment arn at
 

@@ -2,4 +2,5 @@ pub mod Judging
 pub mod Effects
 pub mod Histories
 pub mod Vouching
+pub mod Tokens
 pub mod Replaying

@@ -4,8 +4,7 @@ ghost use Rattle.sm_base.specs.Outcomes.{OrMemory};
 ghost use Rattle.sm_base.specs.declared.moment.TheConstants.{LAST_READING};
 ghost use Rattle.sm_core.specs.Effects.{Makes};
 ghost use Rattle.sm_core.specs.Histories.{LegalEntry, may_be_by, may_stand};
-ghost use Rattle.sm_core.specs.Judging.{judgement};
-ghost use Rattle.sm_core.specs.Replaying.{again_told, IfReplayed, AsLegal, change_of, replayed_request, replayed_act, replayed};
+ghost use Rattle.sm_core.specs.Replaying.{again_told, IfReplayed, AsLegal, change_asked, change_kept, is_deletion, or_nothing, replayed_request, replayed_act, replayed};
 ghost use Rattle.sm_forms.specs.Forms.{forms_of};
 ghost use Rattle.sm_model.specs.Needed.{needed};
 ghost use Rattle.sm_rotations.specs.Begun.{begun_change};
@@ -124,7 +123,7 @@ fn replay_request(
 }
 
 /// Judges an entry of a request again whose forms pass. A batch makes no entry.
-#[tactic(auto, using(crate::proofs::ReplayLemmas::batch_unchanged))]
+#[tactic(auto, using(crate::proofs::ReplayLemmas::batch_unchanged, crate::proofs::NobodyLemmas::kept_is_asked))]
 fn replay_formed(
     alloc: Global,
     table: &Table,
@@ -135,13 +134,13 @@ fn replay_formed(
     requires moment { moment.0 ≤ LAST_READING }
     requires forms { forms_of request.now ≡ None }
     requires drawn { length drawn.now ≡ needed request.now }
-    ensures { OrMemory (again_told result) (change_of (judgement table.now moment drawn.now request.now)) }
+    ensures { OrMemory (again_told result) (change_asked table.now moment drawn.now request.now) }
 {
     if is_batch(request) {
         return Replayed::Refuse;
     }
     match judge_alone(alloc, table, moment, drawn, request) {
-        Ok(judged) => replay_judged(judged),
+        Ok(judged) => replay_judged(judged, is_deletion(request)),
         Err(NoMemory) => Replayed::Memory,
     }
 }
@@ -176,14 +175,33 @@ fn replay_reported(
     }
 }
 
-/// The change that was judged, where there is one.
-fn replay_judged(judged: Judged) -> Replayed
-    ensures { OrMemory (again_told result) (change_of judged) }
+/// Whether a request is a deletion: one that is accepted without a change is forced, of a secret that is not there.
+fn is_deletion(request: &Request) -> bool
+    ensures { result ≡ is_deletion request.now }
+{
+    match request {
+        Request::DeleteSecret(_) => true,
+        _ => false,
+    }
+}
+
+/// The change that was judged, where there is one. A deletion that is accepted without one changes nothing.
+fn replay_judged(judged: Judged, deletes: bool) -> Replayed
+    ensures { OrMemory (again_told result) (change_kept deletes judged) }
 {
     match judged {
-        Judged::Accept(_, change) => replay_change(change),
+        Judged::Accept(_, change) => replay_change(or_nothing(change, deletes)),
         Judged::Refuse(_) => Replayed::Refuse,
         Judged::Memory => Replayed::Memory,
+    }
+}
+
+fn or_nothing(change: Option<Change>, deletes: bool) -> Option<Change>
+    ensures { result ≡ or_nothing deletes change }
+{
+    match change {
+        Some(change) => Some(change),
+        None => { if deletes { Some(Change::Nothing) } else { None } }
     }
 }
 

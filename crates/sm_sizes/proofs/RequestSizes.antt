@@ -51,6 +51,7 @@ use Rattle.sm_judging.specs.Judged.{IfChange}
 use Rattle.sm_values.proofs.CreateSecretLemmas.{create_few}
 use Rattle.sm_upkeep.proofs.TagResourceLemmas.{tag_few}
 use Rattle.sm_core.specs.Histories.{IsDue, LegalAct}
+use Rattle.sm_core.proofs.NobodyLemmas.{due_of}
 use Rattle.sm_core.specs.Judging.{judgement}
 use Rattle.sm_record.specs.Codec.{optional}
 use Rattle.sm_record.specs.Editions.{is_empty}
@@ -437,8 +438,8 @@ pub few_tags : (rows : Rows) (moment : Moment) (drawn : List ℕ) (request : Req
     → LegalAct rows moment drawn (Asked request) → HasFewTags request
 few_tags rows moment drawn (requests.CreateSecret r) legal =
     of_due (judgement rows moment drawn (requests.CreateSecret r)) (IfSome r.tags (λ tags. length tags ≤ TAGS_LIMIT))
-    (create_few rows moment drawn r) legal.2
+    (create_few rows moment drawn r) (due_of _ legal.2)
 few_tags rows moment drawn (requests.TagResource r) legal =
     of_due (judgement rows moment drawn (requests.TagResource r)) (length r.tags ≤ TAGS_LIMIT)
-    (tag_few rows moment r legal.1) legal.2
+    (tag_few rows moment r legal.1) (due_of _ legal.2)
 few_tags rows moment drawn request legal = tt
