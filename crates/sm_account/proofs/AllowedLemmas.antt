@@ -57,7 +57,7 @@ module _ {D : Type 0} {G : Ghosts D} (replies : Replies) (old new : Books D G) (
       subst (λ (f : Option entries). IfSome f (IsAllowedAt replies new.table)) (sym failed) tt
   next_by (Failed entry) stays failed is =
       elim failed [
-        | inl same ↦ same_next same stays
+        | inl same ↦ same_next same.0 stays
         | inr torn ↦
             subst (λ (f : Option entries). IfSome f (IsAllowedAt replies new.table)) (sym torn)
             (subst (λ rows. IsAllowedAt replies rows entry) (sym (ap (λ (s : State). s.rows) stays)) is)

@@ -12,15 +12,15 @@ use Rattle.sm_account.specs.declared.books.Books.{Books}
 use Rattle.sm_account.specs.declared.handled.Handled.{Handled}
 use Rattle.sm_account.specs.declared.handled.Handled.TheVariants as handled
 use Rattle.sm_account.specs.Allowed.{DeedAllowed, EntriesAllowed, IsAllowedAt}
-use Rattle.sm_account.specs.Books.{Kept, base_in, disk_in, history_in, state_in}
-use Rattle.sm_account.specs.Handled.{HandledAs, OnDiskFault, marks_of}
-use Rattle.sm_account.specs.Handling.{Acknowledges, Handles, LeavesBy, StaysAfter, handled_by}
+use Rattle.sm_account.specs.Books.{Kept, base_in, history_in, state_in}
+use Rattle.sm_account.specs.Deeds.{Leaves}
+use Rattle.sm_account.specs.Handled.{HandledAs, marks_of}
+use Rattle.sm_account.specs.Handling.{Handles, handled_by}
 use Rattle.sm_account.specs.History.{by_seat}
 use Rattle.sm_account.specs.Outcome.{Outcome, Refuses, Replies, Question, considered, entry_at, limit_passed, moment_at, outcome, outcome_judged, outcome_within}
 use Rattle.sm_account.specs.States.{State, state_at}
 use Rattle.sm_account.proofs.AllowedLemmas.{allowed_after}
-use Rattle.sm_account.proofs.HandledLaws.{fault_so, leaves_so, marks_so, stays_so, sure_so}
-use Rattle.sm_base.specs.Faults.{Rose}
+use Rattle.sm_account.proofs.HandledLaws.{marks_so}
 
 module _ (replies : Relation) (rows : Rows) where
   -- the entry of an outcome, if there is one, is allowed
@@ -78,22 +78,8 @@ module _ {D : Type 0} {G : Ghosts D} (old new : Books D G) (seat : ℕ) (q : Que
       ∙ ap (λ marks. history_in old ++ by_seat seat marks)
       (marks_so result (outcome (state_at (base_in old) (history_in old)) q) told.answer)
 
-  pub stays_told : StaysAfter result old new
-  stays_told =
-      stays_so old new result (outcome (state_at (base_in old) (history_in old)) q) told.answer told.leaves.stays
-
-  pub any_moment_told : LeavesBy G result (outcome (state_at (base_in old) (history_in old)) q) old new
-  any_moment_told =
-      leaves_so old new result (outcome (state_at (base_in old) (history_in old)) q) told.answer
-      told.leaves.any_moment
-
-  pub sure_told : Acknowledges result (outcome (state_at (base_in old) (history_in old)) q) new
-  sure_told = sure_so old new result (outcome (state_at (base_in old) (history_in old)) q) told.leaves.failed
-
-  pub fault_told : OnDiskFault result (Rose (G.faults (disk_in old)) (G.faults (disk_in new)))
-  fault_told =
-      fault_so result (outcome (state_at (base_in old) (history_in old)) q)
-      (Rose (G.faults (disk_in old)) (G.faults (disk_in new))) told.answer told.leaves.fault
+  pub leaves_told : Leaves G old new seat (handled_by result (outcome (state_at (base_in old) (history_in old)) q))
+  leaves_told = told.leaves
 
   pub allowed_told : (replies : Relation) → ∥ EntriesAllowed replies old ∥₁ → ∥ EntriesAllowed replies new ∥₁
   allowed_told replies allowed =

@@ -1,5 +1,5 @@
 -- What calls leave of the books.
-use Rattle.std.proofs.Common.{◌≡◌, ◌⊎◌, ℕ, ◌≤◌, [], ◌∷◌, ◌++◌, List, Option, Some, None, refl, sym, ap, ◌∙◌, subst, append-nil, arith}
+use Rattle.std.proofs.Common.{◌≡◌, ◌⊎◌, ℕ, ◌≤◌, [], ◌∷◌, ◌++◌, List, Option, Some, None, is_some, IsSome, false, inl, inr, refl, sym, ap, ◌∙◌, subst, append-nil, arith}
 use Rattle.sm_base.specs.Faults.{Rose}
 use Rattle.sm_base.specs.declared.moment.Moment.{Moment}
 use Rattle.sm_disk.specs.declared.disk.Disk.{Ghosts}
@@ -9,7 +9,7 @@ use Rattle.sm_model.specs.declared.entry.Mark.TheVariants.{Entry, Claim, Fault}
 use Rattle.sm_account.specs.declared.books.Books.{Books}
 use Rattle.sm_account.specs.Books.{SameOrigin, all_entries, disk_in, history_in, state_in}
 use Rattle.sm_account.specs.Crashes.{Throughout}
-use Rattle.sm_account.specs.Deeds.{Deed, Nothing, Claimed, Made, Failed, FailedBy, Leaves, LeavesTried, StaysBy, marks_by, tried_by}
+use Rattle.sm_account.specs.Deeds.{Deed, Nothing, Claimed, Made, Failed, FailedBy, IfFailed, Leaves, LeavesTried, StaysBy, marks_by, tried_by}
 use Rattle.sm_account.specs.Growing.{SameButRoom}
 use Rattle.sm_account.specs.History.{by_seat, entries_in}
 
@@ -116,7 +116,7 @@ module _ {D : Type 0} {G : Ghosts D} (old new : Books D G) (seat : ℕ) (entry :
   }
 
   pub entry_failed : history_in new ≡ history_in old ++ (seat, Fault) ∷ [] → state_in new ≡ state_in old
-      → (new.failed.value ≡ old.failed.value) ⊎ (new.failed.value ≡ Some entry)
+      → ((new.failed.value ≡ old.failed.value) × IsSome old.failed.value) ⊎ (new.failed.value ≡ Some entry)
       → Rose (G.faults (disk_in old)) (G.faults (disk_in new)) → Leaves G old new seat (Failed entry)
   entry_failed history state failed rose = record {
     history = history;
@@ -127,3 +127,23 @@ module _ {D : Type 0} {G : Ghosts D} (old new : Books D G) (seat : ℕ) (entry :
     later = later;
     fault = rose;
   }
+
+-- an entry whose write failed is there after a deed only where one was before, or where the disk failed
+module _ {D : Type 0} {G : Ghosts D} (old new : Books D G) (seat : ℕ) where
+  abbrev HasRisen : Type 0
+  HasRisen = Rose (G.faults (disk_in old)) (G.faults (disk_in new))
+
+  same_failed : new.failed.value ≡ old.failed.value → IsSome new.failed.value → IsSome old.failed.value
+  same_failed same is = subst (λ (o : Option entries). IsSome o) same is
+
+  unsure_as : (deed : Deed) → FailedBy deed old new → IfFailed deed HasRisen → IsSome new.failed.value
+      → IsSome old.failed.value ⊎ HasRisen
+  unsure_as Nothing failed fault is = inl (same_failed failed is)
+  unsure_as (Claimed arn at moment) failed fault is = inl (same_failed failed is)
+  unsure_as (Made entry) failed fault is =
+      absurd (let h : is_some new.failed.value ≡ false = ap is_some failed in cc)
+  unsure_as (Failed entry) failed fault is = inr fault
+
+  pub unsure_by : (deed : Deed) → Leaves G old new seat deed → IsSome new.failed.value
+      → IsSome old.failed.value ⊎ HasRisen
+  unsure_by deed leaves is = unsure_as deed leaves.failed leaves.fault is

@@ -1,5 +1,5 @@
 -- What a call does: at most one mark of the history, and with it at most one entry on the disk.
-use Rattle.std.specs.Prelude.{◌≡◌, ◌⊎◌, ⊤, ℕ, ◌≤◌, List, [], ◌∷◌, ◌++◌, Option, Some, None}
+use Rattle.std.specs.Prelude.{◌≡◌, ◌⊎◌, ⊤, ℕ, ◌≤◌, List, [], ◌∷◌, ◌++◌, Option, Some, None, IsSome}
 use Rattle.sm_base.specs.Faults.{Rose}
 use Rattle.sm_base.specs.declared.moment.Moment.{Moment}
 use Rattle.sm_disk.specs.declared.disk.Disk.{Ghosts}
@@ -48,12 +48,14 @@ module _ {D : Type 0} {G : Ghosts D} where
   StaysBy (Made entry) old new = ⊤
   StaysBy (Failed entry) old new = state_in new ≡ state_in old
 
-  -- The entry whose write failed last: none once an entry was made, and where the disk fails it may be this one.
+  -- The entry whose write failed last: none once an entry was made. Where the disk fails there is one, so that the tail
+  -- is unsure: that of before, or this one.
   abbrev pub FailedBy : Deed → Books D G → Books D G → Type 0
   FailedBy Nothing old new = new.failed.value ≡ old.failed.value
   FailedBy (Claimed arn at moment) old new = new.failed.value ≡ old.failed.value
   FailedBy (Made entry) old new = new.failed.value ≡ None
-  FailedBy (Failed entry) old new = (new.failed.value ≡ old.failed.value) ⊎ (new.failed.value ≡ Some entry)
+  FailedBy (Failed entry) old new =
+      ((new.failed.value ≡ old.failed.value) × IsSome old.failed.value) ⊎ (new.failed.value ≡ Some entry)
 
 -- What a crash at any moment of the call leaves: where an entry was tried, what `Throughout` says of it, and else the
 -- store was not touched.

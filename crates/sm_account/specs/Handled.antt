@@ -1,6 +1,5 @@
 -- What an account answers to a request, by its outcome, and which marks that leaves.
-use Rattle.std.specs.Prelude.{◌≡◌, ⊤, List, [], ◌∷◌, Option, Some, None}
-use Rattle.sm_model.specs.declared.entry.Entry.{Entry as entries}
+use Rattle.std.specs.Prelude.{◌≡◌, ⊤, List, [], ◌∷◌, Some, None}
 use Rattle.sm_model.specs.declared.entry.Mark.{Mark}
 use Rattle.sm_model.specs.declared.entry.Mark.TheVariants.{Entry, Fault}
 use Rattle.sm_account.specs.declared.handled.Handled.{Handled}
@@ -31,17 +30,6 @@ marks_of (Answered reply) outcome = entry_mark outcome
 marks_of (Refused why) outcome = []
 marks_of DiskFault outcome = Fault ∷ []
 marks_of Memory outcome = []
-
--- the entry that an answer tried to write, where it tried one
-abbrev pub entry_due : Outcome → Option entries
-entry_due (Replies reply entry) = entry
-entry_due (Refuses why) = None
-
-abbrev pub entry_tried : Handled → Outcome → Option entries
-entry_tried (Answered reply) outcome = entry_due outcome
-entry_tried (Refused why) outcome = None
-entry_tried DiskFault outcome = entry_due outcome
-entry_tried Memory outcome = None
 
 -- a fact where the disk failed
 abbrev pub OnDiskFault : Handled → Type 0 → Type 0

@@ -1,5 +1,5 @@
 -- How the books go on when a request is handled.
-use Rattle.std.specs.Prelude.{◌≡◌, ℕ, ◌≤◌, length, Some, None, ⊤}
+use Rattle.std.specs.Prelude.{◌≡◌, ℕ, ◌≤◌, length, Some}
 use Rattle.sm_base.specs.declared.moment.TheConstants.{LAST_READING}
 use Rattle.sm_disk.specs.declared.disk.Disk.{Ghosts}
 use Rattle.sm_journal.specs.Records.{body_limit}
@@ -15,11 +15,10 @@ use Rattle.sm_store.specs.Entries.{Spells}
 use Rattle.sm_account.specs.declared.books.Books.{Books}
 use Rattle.sm_account.specs.declared.due.Due.{Due}
 use Rattle.sm_account.specs.declared.handled.Handled.{Handled}
-use Rattle.sm_account.specs.declared.handled.Handled.TheVariants.{Answered, Refused, DiskFault, Memory}
-use Rattle.sm_account.specs.Books.{state_in}
-use Rattle.sm_account.specs.Deeds.{Deed, Nothing, Made, Failed, Leaves, LeavesTried}
-use Rattle.sm_account.specs.Handled.{HandledAs, entry_tried}
-use Rattle.sm_account.specs.Outcome.{Outcome, Refuses, Replies}
+use Rattle.sm_account.specs.declared.handled.Handled.TheVariants.{Answered, DiskFault}
+use Rattle.sm_account.specs.Deeds.{Deed, Nothing, Made, Failed, Leaves}
+use Rattle.sm_account.specs.Handled.{HandledAs}
+use Rattle.sm_account.specs.Outcome.{Outcome, Replies}
 
 -- An entry that is legal at the books' rows and has a spelling that is not too long for a record.
 pub record MayEnter {D : Type 0} {G : Ghosts D} (books : Books D G) (entry : Entry) : Type 0 where
@@ -41,28 +40,6 @@ pub record LimitsAside {D : Type 0} {G : Ghosts D} (books : Books D G) (due : Du
   pub legal : LegalEntry books.table due.entry
   pub later : books.last.0 ≤ due.entry.moment.0
   pub bound : due.entry.moment.0 ≤ LAST_READING
-
-module _ {D : Type 0} {G : Ghosts D} where
-  -- after a refusal and for want of memory all is as before; after a fault of the disk the rows and the journal's list
-  -- are
-  abbrev pub StaysAfter : Handled → Books D G → Books D G → Type 0
-  StaysAfter (Answered reply) old new = ⊤
-  StaysAfter (Refused why) old new = (state_in new ≡ state_in old) × (new.store ≡ old.store)
-  StaysAfter DiskFault old new = state_in new ≡ state_in old
-  StaysAfter Memory old new = (state_in new ≡ state_in old) × (new.store ≡ old.store)
-
--- What a crash at any moment of the call leaves.
-abbrev pub LeavesBy : {D : Type 0} (G : Ghosts D) → Handled → Outcome → Books D G → Books D G → Type 0
-LeavesBy G result wanted old new = LeavesTried G (entry_tried result wanted) old new
-
--- where an entry was made, no write is unsure
-abbrev pub Acknowledges : {D : Type 0} {G : Ghosts D} → Handled → Outcome → Books D G → Type 0
-Acknowledges (Answered reply) (Replies wanted (Some entry)) new = new.failed.value ≡ None
-Acknowledges (Answered reply) (Replies wanted None) new = ⊤
-Acknowledges (Answered reply) (Refuses why) new = ⊤
-Acknowledges (Refused why) outcome new = ⊤
-Acknowledges DiskFault outcome new = ⊤
-Acknowledges Memory outcome new = ⊤
 
 -- what an answer did with the entry of the outcome
 abbrev pub handled_by : Handled → Outcome → Deed

@@ -41,7 +41,6 @@ impl<D: Disk + Drop, R: Rotator> Drop for Account<D, R> {
 
 impl<D: Disk, R: Rotator> Account<D, R> {
     ghost use Rattle.std.specs.Prelude.{◌≡◌, ◌≤◌, ◌+◌, ◌-◌, ◌++◌, ℕ, length, is_some, option_copied};
-    ghost use Rattle.sm_base.specs.Faults.{Rose};
     ghost use Rattle.sm_base.specs.declared.moment.TheConstants.{LAST_READING};
     ghost use Rattle.sm_disk.specs.OneFile.{EachHas};
     ghost use Rattle.sm_model.specs.Needed.{needed};
@@ -52,9 +51,9 @@ impl<D: Disk, R: Rotator> Account<D, R> {
     ghost use Rattle.sm_account.specs.Books.{IsLegal, MayFollowIf, FaultsBound, faults_of};
     ghost use Rattle.sm_account.specs.Claims.{ClaimsReady, ready_at};
     ghost use Rattle.sm_account.specs.Deeds.{Leaves};
-    ghost use Rattle.sm_account.specs.Handled.{HandledAs, marks_of, OnDiskFault};
+    ghost use Rattle.sm_account.specs.Handled.{HandledAs, marks_of};
     ghost use Rattle.sm_account.specs.History.{by_seat, entries_in, faults_in};
-    ghost use Rattle.sm_account.specs.Handling.{StaysAfter, LeavesBy, Acknowledges};
+    ghost use Rattle.sm_account.specs.Handling.{handled_by};
     ghost use Rattle.sm_account.specs.NextWork.{NextAs, next_by};
     ghost use Rattle.sm_account.specs.Outcome.{outcome};
     ghost use Rattle.sm_account.specs.Report.{ReportsAs, report_at, reported_by};
@@ -105,19 +104,12 @@ impl<D: Disk, R: Rotator> Account<D, R> {
             (outcome (state self.old)
             (record { person = person.now; now = now; drawn = drawn.now; request = request.now }))) }
 
-        // A refusal and want of memory leave rows, journal and disk, and a fault of the disk leaves the rows.
-        ensures stays { StaysAfter result self.old.books self.new.books }
+        // A refusal and want of memory leave rows, journal and disk. Once an entry is acknowledged the tail is sure; a
+        // fault of the disk leaves the rows, and the tail is unsure.
+        ensures leaves { Leaves D.Disk self.old.books self.new.books seat (handled_by result
+            (outcome (state self.old)
+            (record { person = person.now; now = now; drawn = drawn.now; request = request.now }))) }
         ensures origin { SameOrigin self.old self.new }
-
-        // What a crash at any moment of the call leaves. Once an entry is acknowledged, the tail is sure.
-        ensures any_moment { LeavesBy D.Disk result (outcome (state self.old)
-            (record { person = person.now; now = now; drawn = drawn.now; request = request.now }))
-            self.old.books self.new.books }
-        ensures acknowledged { Acknowledges result (outcome (state self.old)
-            (record { person = person.now; now = now; drawn = drawn.now; request = request.now })) self.new.books }
-
-        ensures later { D.faults (disk self.old) ≤ D.faults (disk self.new) }
-        ensures fault { OnDiskFault result (Rose (D.faults (disk self.old)) (D.faults (disk self.new))) }
     {
         handle(&mut self.books, seat, person, now, drawn, request)
     }
@@ -210,7 +202,7 @@ impl<D: Disk, R: Rotator> Account<D, R> {
     pub fn value_of(&self, id: &SecretId, label: &Label, now: Moment) -> Option<&Value>
         requires { now.0 ≤ LAST_READING }
         ensures { option_copied result ≡
-            value_labelled (rows self.now) (later self.now.books.last now) id.now label.now }
+            value_labelled (rows self.now) (later (state self.now).last now) id.now label.now }
     {
         let moment = Moment(self.books.last.0.max(now.0));
         let row = self.books.table.find(id, moment)?;

@@ -1,5 +1,5 @@
 //! Making an entry: on the disk, in the rows and in the history.
-ghost use Rattle.std.specs.Prelude.{◌≡◌, ◌⊎◌, ◌+◌, ◌<◌, ◌≤◌, ◌++◌, ◌∷◌, [], None, Some, vec_len, vec_capacity, OnErr, IsOk};
+ghost use Rattle.std.specs.Prelude.{◌≡◌, ◌⊎◌, ◌+◌, ◌<◌, ◌≤◌, ◌++◌, ◌∷◌, [], None, Some, vec_len, vec_capacity, IsSome, OnErr, IsOk};
 ghost use Rattle.sm_base.specs.declared.limits.TheConstants.{ENTRIES_LIMIT};
 ghost use Rattle.sm_table.specs.Changes.{changed, StandsAt};
 ghost use Rattle.sm_table.specs.Sound.{ChangeSound, Sound};
@@ -31,7 +31,8 @@ pub fn make<D: Disk>(books: &mut Books<D>, seat: u32, due: Due) -> Result<(), Di
     ensures origin { SameOrigin books.old books.new }
     ensures sure { IsOk result → books.new.failed.value ≡ None }
     ensures fault { OnErr result (state_in books.new ≡ state_in books.old) }
-    ensures torn { OnErr result ((books.new.failed.value ≡ books.old.failed.value)
+    ensures torn { OnErr result (
+        ((books.new.failed.value ≡ books.old.failed.value) × IsSome books.old.failed.value)
         ⊎ (books.new.failed.value ≡ Some due.entry)) }
     ensures any_moment { Throughout D.Disk (all_entries books.old) books.old.failed.value due.entry
         (disk_in books.old) (disk_in books.new) }

@@ -1,20 +1,16 @@
 -- A turn of an account that nobody else holds.
-use Rattle.std.proofs.Common.{◌≡◌, ℕ, ◌≤◌, false, Option, None, IsSome, is_some, ap, subst, inl, inr, arith}
+use Rattle.std.proofs.Common.{ℕ, ◌≤◌, Option, None, subst, inl, inr, arith}
 use Rattle.std.specs.Prelude.{◌⊎◌}
 use Rattle.sm_base.specs.Faults.{Rose}
 use Rattle.sm_base.proofs.FaultCounts.{rose_within}
-use Rattle.sm_disk.specs.declared.disk.Disk.{Ghosts}
 use Rattle.sm_model.specs.declared.entry.At.{At}
-use Rattle.sm_model.specs.declared.entry.Entry.{Entry}
 use Rattle.sm_rotation.specs.Vouched.{Replies}
 use Rattle.sm_rotator.specs.declared.work.Work.{Work}
-use Rattle.sm_account.specs.declared.books.Books.{Books}
 use Rattle.sm_account.specs.declared.report.Reported.{Reported}
 use Rattle.sm_account.specs.declared.report.Reported.TheVariants as reports
 use Rattle.sm_account.specs.declared.start_due.StartedDue.{StartedDue}
 use Rattle.sm_account.specs.declared.start_due.StartedDue.TheVariants as starts
-use Rattle.sm_account.specs.Books.{disk_in}
-use Rattle.sm_account.specs.Deeds.{Claimed, Deed, Failed, FailedBy, IfFailed, Leaves, Made, Nothing}
+use Rattle.sm_account.specs.Deeds.{IfFailed}
 use Rattle.sm_account.specs.Efforts.{Due, Effort, Over, Undue}
 use Rattle.sm_account.specs.Report.{ReportsAs, reported_by}
 use Rattle.sm_account.specs.StartDue.{StartsAs, started_by}
@@ -25,26 +21,6 @@ use Rattle.sm_pool.specs.Alone.{IsStale, NoGap, OnDisk}
 use Rattle.sm_pool.specs.Ends.{due_ends, report_ends}
 use Rattle.sm_pool.specs.Holds.{hold_shape}
 use Rattle.sm_pool.specs.Turns.{Asked, Begins, Course, LateApart, Passing, Rests, Starts, TurnDone, Unasked, Undrawn, Wants, Works, done_of, holds_of}
-
--- the entry whose write failed last, after a deed
-module _ {D : Type 0} {G : Ghosts D} (old new : Books D G) (seat : ℕ) where
-  abbrev HasRisen : Type 0
-  HasRisen = Rose (G.faults (disk_in old)) (G.faults (disk_in new))
-
-  same_failed : new.failed.value ≡ old.failed.value → IsSome new.failed.value → IsSome old.failed.value
-  same_failed same is = subst (λ (o : Option Entry). IsSome o) same is
-
-  unsure_as : (deed : Deed) → FailedBy deed old new → IfFailed deed HasRisen → IsSome new.failed.value
-      → IsSome old.failed.value ⊎ HasRisen
-  unsure_as Nothing failed fault is = inl (same_failed failed is)
-  unsure_as (Claimed arn at moment) failed fault is = inl (same_failed failed is)
-  unsure_as (Made entry) failed fault is =
-      absurd (let h : is_some new.failed.value ≡ false = ap is_some failed in cc)
-  unsure_as (Failed entry) failed fault is = inr fault
-
-  pub unsure_by : (deed : Deed) → Leaves G old new seat deed → IsSome new.failed.value
-      → IsSome old.failed.value ⊎ HasRisen
-  unsure_by deed leaves is = unsure_as deed leaves.failed leaves.fault is
 
 -- a disk that failed is the cause of trouble with it
 module _ (P : Type 0) where

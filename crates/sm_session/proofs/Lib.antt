@@ -1,7 +1,6 @@
 pub mod HearLemmas
 pub mod ReplyLemmas
 pub mod TurnLemmas
-pub mod UnsureLemmas
 pub mod StreamLemmas
 pub mod WireLemmas
 pub mod SessionLemmas

@@ -42,8 +42,6 @@ pub fn turn<D: Disk, R: Rotator>(
         ⊎ Rose (D.faults (disk account.old)) (D.faults (disk account.new)) }
     ensures later { D.faults (disk account.old) ≤ D.faults (disk account.new) }
 {
-    account.standing();
     let handled = account.handle(seat, person, now, drawn, request);
-    account.standing();
     say_handled(alloc, handled)
 }

@@ -64,7 +64,7 @@ returns-in-Unmended g c =
       sure = λ is. absurd (false≢true is);
       fault = faulted_state old new mid.store c.args.seat c.requires.kept c.write_ready.ensures.same still.1 history
           length;
-      torn = inl (ap (λ f. f.value) still.0);
+      torn = inl (ap (λ f. f.value) still.0, sym c.requires.kept.sure ∙ c.in-Unmended.ensures.answer.0);
       any_moment =
           subst (λ s. Throughout g.D.Disk (all_entries old) old.failed.value due.entry (disk_in old) (stores.disk_of s))
           (sym stored) c.write_ready.ensures.any_moment;

@@ -1,7 +1,7 @@
 use Rattle.std.proofs.Common.{refl}
 use Rattle.sm_account.specs.Outcome.{Question}
 use Rattle.sm_account.proofs.AccountLemmas.{same_origin}
-use Rattle.sm_account.proofs.AnswerLemmas.{allowed_told, any_moment_told, fault_told, handled_told, history_told, stays_told, sure_told}
+use Rattle.sm_account.proofs.AnswerLemmas.{allowed_told, handled_told, history_told, leaves_told}
 use Rattle.sm_account.proofs.account.Account.handle.Goals as goal
 
 pub invariant_of-self : goal.invariant_of-self
@@ -33,10 +33,6 @@ returns g c =
     record {
       handled = handled_told old.books new c.args.seat q c.handle.result old.kept h;
       history = history_told old.books new c.args.seat q c.handle.result old.kept h;
-      stays = stays_told old.books new c.args.seat q c.handle.result old.kept h;
+      leaves = leaves_told old.books new c.args.seat q c.handle.result old.kept h;
       origin = same_origin old _ h.leaves.origin refl;
-      any_moment = any_moment_told old.books new c.args.seat q c.handle.result old.kept h;
-      acknowledged = sure_told old.books new c.args.seat q c.handle.result old.kept h;
-      later = h.leaves.later;
-      fault = fault_told old.books new c.args.seat q c.handle.result old.kept h;
     }
