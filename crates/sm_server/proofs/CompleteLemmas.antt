@@ -298,7 +298,7 @@ module _ (course : Course) (before after : Outside) (trace : Trace)
           opened e
 
 -- a run under these orders that ended so
-pub ran_by : (replies : Replies) (orders : Orders) (status : Status) (before after : Outside) (story : Story)
+unfoldable pub ran_by : (replies : Replies) (orders : Orders) (status : Status) (before after : Outside) (story : Story)
     → WordsDecide status (settings_of orders.words) story.task
     → PeopleDecide status (people_of orders.people) story.people
     → Runs (course_of replies story) status before after → Ran replies orders status before after story

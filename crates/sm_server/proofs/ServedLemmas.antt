@@ -1,5 +1,5 @@
 -- Servers: their words, and what they leave.
-use Rattle.std.proofs.Common.{◌≡◌, ◌≤◌, ◌+◌, min, ℕ, List, [], Option, None, Some, IsSome, Result, Ok, Err, sym, ap, ◌∙◌, subst, inl, inr, arith}
+use Rattle.std.proofs.Common.{◌≡◌, ◌≤◌, ◌+◌, min, ℕ, List, [], Option, None, Some, IsSome, Result, Ok, Err, sym, ap, ◌∙◌, subst, inl, inr, arith, All}
 use Rattle.std.proofs.lemmas.Bool.{false≢true}
 use Rattle.sm_base.specs.Faults.{Rose}
 use Rattle.sm_disk.specs.declared.disk.Disk.{Ghosts as DiskGhosts}
@@ -32,6 +32,7 @@ use Rattle.sm_server.specs.declared.serving.RanBy.TheVariants.{Opened, Unopened}
 use Rattle.sm_server.specs.declared.status.Status.{Status}
 use Rattle.sm_server.specs.declared.status.Status.TheVariants as statuses
 use Rattle.sm_server.specs.Asked.{FollowsPeople}
+use Rattle.sm_workers.specs.Workers.{HasNoPass}
 use Rattle.sm_server.specs.Served.{EndsServed, EndsServer, EndsWorkers, FollowsOrders, LeavesAt, LeavesOver, OpenedOver, RanAs, UnopenedOver, end_of_server, end_of_serving}
 use Rattle.sm_server.specs.Stored.{disk_unopened, status_unopened}
 
@@ -88,30 +89,30 @@ module _ {E K C W R A O D : Type 0} {g : StoriedGhosts A O Mark} (views : Views 
     {V : RotatorGhosts R} (people : Persons) (old new : List (WorkerBy E C W R A O Mark g)) where
   -- workers that ran
   ends_at : (account : Account D R G V) (status : Status) → EndsWorkers status new
-      → Closed views people (base account) [] (history account) old new
+      → Closed views people (base account) [] (history account) old new → All HasNoPass new
       → EndsServed views G people account status old new
-  ends_at account statuses.Done ends closed = (closed, ends)
-  ends_at account statuses.Words ends closed = absurd ends
-  ends_at account (statuses.Damaged at entry) ends closed = absurd ends
-  ends_at account statuses.OpenFault ends closed = absurd ends
-  ends_at account statuses.Memory ends closed = absurd ends
-  ends_at account (statuses.People line) ends closed = absurd ends
-  ends_at account (statuses.SinkFault counted) ends closed = absurd ends
-  ends_at account statuses.SourceFault ends closed = absurd ends
-  ends_at account statuses.EdgeFault ends closed = (closed, ends)
-  ends_at account (statuses.Cut bytes) ends closed = absurd ends
-  ends_at account (statuses.BadMessage place) ends closed = absurd ends
-  ends_at account statuses.Enough ends closed = absurd ends
-  ends_at account statuses.NotBuilt ends closed = absurd ends
+  ends_at account statuses.Done ends closed left = (closed, ends, left)
+  ends_at account statuses.Words ends closed left = absurd ends
+  ends_at account (statuses.Damaged at entry) ends closed left = absurd ends
+  ends_at account statuses.OpenFault ends closed left = absurd ends
+  ends_at account statuses.Memory ends closed left = absurd ends
+  ends_at account (statuses.People line) ends closed left = absurd ends
+  ends_at account (statuses.SinkFault counted) ends closed left = absurd ends
+  ends_at account statuses.SourceFault ends closed left = absurd ends
+  ends_at account statuses.EdgeFault ends closed left = (closed, ends, left)
+  ends_at account (statuses.Cut bytes) ends closed left = absurd ends
+  ends_at account (statuses.BadMessage place) ends closed left = absurd ends
+  ends_at account statuses.Enough ends closed left = absurd ends
+  ends_at account statuses.NotBuilt ends closed left = absurd ends
 
   pub ends_closed : (before after : Account D R G V) (status : Status) → EndsWorkers status new
       → history before ≡ [] → base after ≡ base before
-      → Closed views people (base before) (history before) (history after) old new
+      → Closed views people (base before) (history before) (history after) old new → All HasNoPass new
       → EndsServed views G people after status old new
-  ends_closed before after status ends fresh based closed =
+  ends_closed before after status ends fresh based closed left =
       ends_at after status ends
       (subst (λ (b : Base). Closed views people b [] (history after) old new) (sym based)
-      (subst (λ (h : History). Closed views people (base before) h (history after) old new) fresh closed))
+      (subst (λ (h : History). Closed views people (base before) h (history after) old new) fresh closed)) left
 
   -- an account that was opened over a disk
   pub opened_over : (first : D) (doors : ℕ) (before after : Account D R G V) (status : Status)

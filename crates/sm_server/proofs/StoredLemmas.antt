@@ -1,5 +1,6 @@
 -- What stands on the disk after a run.
-use Rattle.std.proofs.Common.{◌≡◌, ◌⊎◌, ◌≤◌, ℕ, false, Option, None, IsSome, is_some, ap, inl, inr, arith}
+use Rattle.std.proofs.Math.Logic.{∥∥₁_map}
+use Rattle.std.proofs.Common.{◌≡◌, ◌⊎◌, ◌≤◌, ℕ, false, [], ◌∷◌, ◌++◌, Option, Some, None, IfSome, IsSome, is_some, ap, sym, subst, ◌∙◌, inl, inr, arith}
 use Rattle.sm_base.specs.Faults.{Rose}
 use Rattle.sm_disk.specs.declared.disk.Disk.{Ghosts}
 use Rattle.sm_model.specs.declared.entry.Entry.{Entry}
@@ -7,7 +8,17 @@ use Rattle.sm_server.specs.declared.status.Status.{Status}
 use Rattle.sm_server.specs.declared.status.Status.TheVariants.{Done, Words, Damaged, OpenFault, Memory, People, SinkFault, SourceFault, EdgeFault, Cut, BadMessage, Enough, NotBuilt}
 use Rattle.sm_server.specs.Ran.{Story}
 use Rattle.sm_server.specs.Status.{WasOpened}
-use Rattle.sm_server.specs.Stored.{Records, Leaves}
+use Rattle.sm_account.specs.Accounts.{base, failed, history, rows, taken}
+use Rattle.sm_account.specs.Allowed.{StayVouched}
+use Rattle.sm_account.specs.History.{entries_in}
+use Rattle.sm_account.specs.declared.account.Account.{Account}
+use Rattle.sm_account.proofs.StateLaws.{replay_joined}
+use Rattle.sm_core.specs.Effects.{effect}
+use Rattle.sm_core.specs.Histories.{no_rows, replay}
+use Rattle.sm_core.specs.Vouching.{Vouched}
+use Rattle.sm_rotation.specs.Vouched.{Replies}
+use Rattle.sm_rotator.specs.declared.rotator.Rotator.{Ghosts as RotatorGhosts}
+use Rattle.sm_server.specs.Stored.{Records, Leaves, StaysVouched, VouchedAgain, all_of}
 
 -- where the account was opened its story is recorded
 pub leaves_opened : {D : Type 0} (G : Ghosts D) (status : Status) (story : Story) (old new : D) → WasOpened status
@@ -34,3 +45,32 @@ cause_since before failed began opened now none unsure lower some =
       | inl was ↦ absurd (let h : is_some before ≡ false = ap is_some none in cc)
       | inr rose ↦ omega (arith, rose, lower)
     ]
+
+-- what always holds of an account says that its secrets stay vouched
+module _ {D R : Type 0} {G : Ghosts D} {V : RotatorGhosts R} (replies : Replies) (account : Account D R G V)
+    (rows_are : rows account ≡ replay (base account).rows (entries_in (history account))) where
+  all_are : rows account ≡ replay no_rows (taken account ++ entries_in (history account))
+  all_are = rows_are ∙ sym (replay_joined no_rows (taken account) (entries_in (history account)))
+
+  stays : StayVouched replies account.books → StaysVouched replies (taken account) (history account) (failed account)
+  stays vouched = record {
+    now = λ first. subst (Vouched replies) all_are (vouched.now first);
+    next = λ first. subst (λ r. IfSome (failed account) (λ entry. Vouched replies (effect r entry))) all_are
+        (vouched.next first);
+  }
+
+  pub stays_vouched : ∥ StayVouched replies account.books ∥₁
+      → ∥ StaysVouched replies (taken account) (history account) (failed account) ∥₁
+  stays_vouched vouched = ∥∥₁_map vouched stays
+
+-- nothing was recovered, and nothing happened
+pub none_vouched : (replies : Replies) → ∥ StaysVouched replies [] [] None ∥₁
+none_vouched replies = ∣ record { now = λ first. first; next = λ first. tt } ∣₁
+
+pub vouched_again : VouchedAgain
+vouched_again replies story stays entries (inl all) first = rw all (stays.now first)
+vouched_again replies story stays entries (inr (entry, failed, more)) first =
+    let last : IfSome (Some entry) (λ e. Vouched replies (effect (replay no_rows (all_of story)) e)) =
+    subst (λ f. IfSome f (λ e. Vouched replies (effect (replay no_rows (all_of story)) e))) failed
+    (stays.next first) in
+    rw more (rw (replay_joined no_rows (all_of story) (entry ∷ [])) last)

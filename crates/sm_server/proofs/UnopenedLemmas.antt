@@ -1,5 +1,6 @@
 -- Runs whose account was not opened.
-use Rattle.std.proofs.Common.{◌≡◌, ◌⊎◌, ◌≤◌, ℕ, [], Option, None, Some, Result, Ok, Err, refl, sym, ap, ◌∙◌, subst, inl, inr, arith}
+use Rattle.std.proofs.Common.{◌≡◌, ◌⊎◌, ◌≤◌, ℕ, List, [], Option, None, Some, Result, Ok, Err, refl, sym, ap, ◌∙◌, subst, inl, inr, arith}
+use Rattle.std.specs.Bool.{⊤}
 use Rattle.sm_base.specs.Faults.{Rose}
 use Rattle.sm_disk.specs.declared.disk.Disk.{Ghosts}
 use Rattle.sm_journal.specs.declared.answers.OpenRefused.{OpenRefused}
@@ -24,8 +25,9 @@ use Rattle.sm_server.specs.Asked.{end_of_people, task_of_mode, task_of_words, Fo
 use Rattle.sm_server.specs.Outside.{Outside, Trace}
 use Rattle.sm_server.specs.Ran.{Course, Story, course_of, AreAnswered, EndedAt, Ended, Runs}
 use Rattle.sm_server.specs.Status.{WasFollowed, WasUnderstood}
-use Rattle.sm_server.specs.Stored.{status_unopened, disk_unopened, Leaves}
+use Rattle.sm_server.specs.Stored.{status_unopened, disk_unopened, Leaves, StaysVouched, WantsBy}
 use Rattle.sm_server.specs.Turns.{brought_nothing}
+use Rattle.sm_server.proofs.StoredLemmas.{none_vouched}
 use Rattle.sm_server.proofs.RunLemmas.{counts_in, trace_of, passed_by}
 
 -- nothing was opened, and nothing happened
@@ -82,12 +84,6 @@ module _ (replies : Replies) (task : Task) (people : Persons) (before after : Ou
     }
 
 module _ {D : Type 0} (G : Ghosts D) (replies : Replies) (task : Task) (people : Persons) (old : D) where
-  pub leaves_unopened : (refused : OpenRefused D) → IsRefused G old refused
-      → Leaves G (status_unopened refused) (no_story task people) old (disk_unopened refused)
-  leaves_unopened (Damaged now damage) r = r
-  leaves_unopened (Failed now) r = r
-  leaves_unopened (Memory now) r = inr (inl r)
-
   -- the disk's count did not fall
   pub later_unopened : (refused : OpenRefused D) → IsRefused G old refused
       → G.faults old ≤ G.faults (disk_unopened refused)
@@ -96,19 +92,41 @@ module _ {D : Type 0} (G : Ghosts D) (replies : Replies) (task : Task) (people :
   later_unopened (Failed now) r = r.1
   later_unopened (Memory now) r = r.1
 
-  -- the run whose account was not opened
-  pub runs_unopened : (refused : OpenRefused D) (before after : Outside) → IsRefused G old refused
-      → before.counts.disk ≡ G.faults old → after.counts.disk ≡ G.faults (disk_unopened refused)
-      → Still before after → Runs (course_of replies (no_story task people)) (status_unopened refused) before after
-  runs_unopened (Damaged now damage) before after r first last still =
-      runs_still replies task people before after still (statuses.Damaged damage.at damage.entry)
-      (refl, (refl, refl, refl))
-  runs_unopened (Failed now) before after r first last still =
-      let rose : Rose before.counts.disk after.counts.disk = omega (arith, r.2, first, last) in
-      runs_still replies task people before after still statuses.OpenFault (refl, (refl, refl, refl), rose)
-  runs_unopened (Memory now) before after r first last still =
-      runs_still replies task people before after still statuses.Memory
-      (memory_ended replies task people before after still)
+  -- The run whose account was not opened, and what it leaves.
+  abbrev pub Unopened : Status → Outside → Outside → D → Type 0
+  Unopened status before after now =
+      (runs : Runs (course_of replies (no_story task people)) status before after)
+      × Leaves G status (no_story task people) old now
+      × (status ≡ statuses.Memory → WantsBy G ⊤ (no_story task people) runs.input runs.trace old now)
+      × ∥ StaysVouched replies [] [] None ∥₁
+
+  pub unopened : (refused : OpenRefused D) (now : D) (before after : Outside) → IsRefused G old refused
+      → disk_unopened refused ≡ now → before.counts.disk ≡ G.faults old → after.counts.disk ≡ G.faults now
+      → Still before after → Unopened (status_unopened refused) before after now
+  unfolding runs_still
+  unopened (Damaged d damage) now before after r same first last still = (
+    runs_still replies task people before after still (statuses.Damaged damage.at damage.entry)
+        (refl, (refl, refl, refl)),
+    subst (λ x. Leaves G (statuses.Damaged damage.at damage.entry) (no_story task people) old x) same r,
+    λ wants. absurd (cc),
+    none_vouched replies,
+  )
+  unopened (Failed d) now before after r same first last still =
+      let d_last : after.counts.disk ≡ G.faults d = last ∙ ap G.faults (sym same) in
+      let rose : Rose before.counts.disk after.counts.disk = omega (arith, r.2, first, d_last) in (
+        runs_still replies task people before after still statuses.OpenFault (refl, (refl, refl, refl), rose),
+        subst (λ x. Leaves G statuses.OpenFault (no_story task people) old x) same r,
+        λ wants. absurd (cc),
+        none_vouched replies,
+      )
+  unopened (Memory d) now before after r same first last still =
+      let refused : IsRefused G old (Memory now) = subst (λ x. IsRefused G old (Memory x)) same r in (
+        runs_still replies task people before after still statuses.Memory
+            (memory_ended replies task people before after still),
+        inr (inl refused),
+        λ wants. inl (refl, (refl, refl, refl), inr refused),
+        none_vouched replies,
+      )
 
   pub unopened_followed : (refused : OpenRefused D) → WasFollowed (status_unopened refused)
   unopened_followed (Damaged now damage) = tt
@@ -168,6 +186,20 @@ module _ (replies : Replies) (task : Task) (people : Persons) where
       runs_still replies task people outside outside still statuses.Memory
       (memory_ended replies task people outside outside still)
 
+  -- A run that did nothing, and what it leaves.
+  abbrev pub Unfollowed : {D : Type 0} → Ghosts D → Type 0 → D → Outside → Status → Type 0
+  Unfollowed G Followed disk outside status =
+      (runs : Runs (course_of replies (no_story task people)) status outside outside)
+      × Leaves G status (no_story task people) disk disk
+      × (status ≡ statuses.Memory → WantsBy G Followed (no_story task people) runs.input runs.trace disk disk)
+      × ∥ StaysVouched replies [] [] None ∥₁
+
+  none_wanted : {D : Type 0} (G : Ghosts D) (Followed : Type 0) (disk : D) (outside : Outside)
+      → Unfollowed G Followed disk outside statuses.Memory
+  unfolding runs_no_memory runs_still
+  none_wanted G Followed disk outside =
+      (runs_no_memory outside, inl refl, λ wants. inl (refl, (refl, refl, refl), inl refl), none_vouched replies)
+
   -- a run whose text of the people was refused
   module _ (read : Result Persons ℕ) where
     -- by how it ends
@@ -180,16 +212,12 @@ module _ (replies : Replies) (task : Task) (people : Persons) where
       pub people_refused : PeopleDecide status read people
       people_refused = by_people (λ s. PeopleDecide s read people) status follows tt (λ line is. is)
 
-      pub runs_refused : (outside : Outside)
-          → Runs (course_of replies (no_story task people)) status outside outside
-      runs_refused outside =
-          by_people (λ s. Runs (course_of replies (no_story task people)) s outside outside) status follows
-          (runs_no_memory outside) (λ line is. runs_no_people line outside)
-
-      pub leaves_refused : {D : Type 0} (G : Ghosts D) (disk : D)
-          → Leaves G status (no_story task people) disk disk
-      leaves_refused G disk =
-          by_people (λ s. Leaves G s (no_story task people) disk disk) status follows (inl refl) (λ line is. refl)
+      -- the run, and what it leaves
+      pub refused : {D : Type 0} (G : Ghosts D) (Followed : Type 0) (disk : D) (outside : Outside)
+          → Unfollowed G Followed disk outside status
+      refused G Followed disk outside =
+          by_people (Unfollowed G Followed disk outside) status follows (none_wanted G Followed disk outside)
+          (λ line is. (runs_no_people line outside, refl, λ wants. absurd (cc), none_vouched replies))
 
       pub understood_refused : WasUnderstood status
       understood_refused = by_people WasUnderstood status follows tt (λ line is. tt)
@@ -198,23 +226,34 @@ module _ (replies : Replies) (task : Task) (people : Persons) where
     pub words_decide : WordsDecide status asked task
     words_decide = by_end (λ s. WordsDecide s asked task) status asked ends tt (λ is. sym is) (λ is. sym is)
 
-    pub runs_words : (outside : Outside)
-        → Runs (course_of replies (no_story task people)) status outside outside
-    runs_words outside =
-        let still = still_outside outside in
-        by_end (λ s. Runs (course_of replies (no_story task people)) s outside outside) status asked ends
-        (runs_still replies task people outside outside still statuses.Memory
-        (memory_ended replies task people outside outside still))
-        (λ is. runs_still replies task people outside outside still statuses.Words (refl, (refl, refl, refl)))
-        (λ is. runs_still replies task people outside outside still statuses.NotBuilt (refl, (refl, refl, refl)))
-
     pub people_undecided : (read : Result Persons ℕ) → PeopleDecide status read people
     people_undecided read = by_end (λ s. PeopleDecide s read people) status asked ends tt (λ is. tt) (λ is. tt)
 
-    pub leaves_words : {D : Type 0} (G : Ghosts D) (disk : D) → Leaves G status (no_story task people) disk disk
-    leaves_words G disk =
-        by_end (λ s. Leaves G s (no_story task people) disk disk) status asked ends (inl refl) (λ is. refl)
-        (λ is. refl)
+    -- the run, and what it leaves
+    pub unfollowed : {D : Type 0} (G : Ghosts D) (Followed : Type 0) (disk : D) (outside : Outside)
+        → Unfollowed G Followed disk outside status
+    unfollowed G Followed disk outside =
+        let still = still_outside outside in
+        by_end (Unfollowed G Followed disk outside) status asked ends (none_wanted G Followed disk outside)
+        (λ is. (
+          runs_still replies task people outside outside still statuses.Words (refl, (refl, refl, refl)),
+          refl,
+          λ wants. absurd (cc),
+          none_vouched replies,
+        ))
+        (λ is. (
+          runs_still replies task people outside outside still statuses.NotBuilt (refl, (refl, refl, refl)),
+          refl,
+          λ wants. absurd (cc),
+          none_vouched replies,
+        ))
+
+-- what was followed further
+pub wants_more : {D : Type 0} (G : Ghosts D) {Less More : Type 0} (story : Story) (input : List ℕ) (trace : Trace)
+    (old new : D) → (Less → More) → WantsBy G Less story input trace old new
+    → WantsBy G More story input trace old new
+wants_more G story input trace old new further (inl none) = inl none
+wants_more G story input trace old new further (inr (followed, records)) = inr (further followed, records)
 
 -- words that are followed
 pub followed : (asked : Option Settings) (task : Task) → FollowsWords (Ok task) asked → task_of_words asked ≡ Ok task

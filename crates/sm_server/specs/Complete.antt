@@ -1,14 +1,16 @@
 -- What a run gives where nothing of the outside failed.
-use Rattle.std.specs.Prelude.{◌≡◌, ℕ, ◌⊎◌, List, [], ◌∷◌, ◌++◌, take, Option, Some, Result}
+use Rattle.std.specs.Prelude.{◌≡◌, ℕ, ◌⊎◌, List, [], ◌∷◌, ◌++◌, take, Option, Some, Result, Ok}
 use Rattle.sm_base.specs.Faults.{Rose}
 use Rattle.sm_model.specs.declared.why.Why.{Why}
 use Rattle.sm_rotation.specs.Vouched.{Replies}
 use Rattle.sm_account.specs.States.{Base}
 use Rattle.sm_http.specs.Messages.{Message, End, Messages}
 use Rattle.sm_principal.specs.declared.people.People.{People}
+use Rattle.sm_principal.specs.declared.people.People.{People as Persons}
 use Rattle.sm_principal.specs.Callers.{people_of}
 use Rattle.sm_reply.specs.Shown.{Answered}
 use Rattle.sm_words.specs.Reading.{settings_of}
+use Rattle.sm_words.specs.declared.settings.Settings.{Settings}
 use Rattle.sm_spells.specs.Spells.{History}
 use Rattle.sm_session.specs.Answer.{Asked, heard}
 use Rattle.sm_session.specs.Endings.{joined}
@@ -18,7 +20,7 @@ use Rattle.sm_server.specs.declared.asked.Task.{Task}
 use Rattle.sm_server.specs.declared.asked.Task.TheVariants.{Answer}
 use Rattle.sm_server.specs.declared.status.Status.{Status}
 use Rattle.sm_server.specs.declared.status.Status.TheVariants.{Done, Memory}
-use Rattle.sm_server.specs.Asked.{WordsDecide, PeopleDecide}
+use Rattle.sm_server.specs.Asked.{task_of_words, WordsDecide, PeopleDecide}
 use Rattle.sm_server.specs.Outside.{Counts, Outside}
 use Rattle.sm_server.specs.Ran.{Course, Story, course_of, Runs}
 use Rattle.sm_server.specs.Status.{WasOpened}
@@ -62,6 +64,10 @@ AnswersEach course input written = (all : List Message) (end : End) → Messages
 abbrev pub ReadsWhole : Task → Status → Option (List ℕ) → Type 0
 ReadsWhole task status left =
     task ≡ Answer → (bytes : List ℕ) → left ≡ Some bytes → AreWhole bytes → (status ≡ Done) ⊎ (status ≡ Memory)
+
+-- the words ask for what the story does, and the text of the people names who may ask in it
+abbrev pub AreFollowed : Option Settings → Result Persons ℕ → Story → Type 0
+AreFollowed asked read story = (task_of_words asked ≡ Ok story.task) × (read ≡ Ok story.people)
 
 -- what a run is asked for: its words, and the text of the people
 pub record Orders : Type 0 where

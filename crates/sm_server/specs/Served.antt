@@ -1,5 +1,5 @@
 -- What a server does over its disk with its workers, and how it ends.
-use Rattle.std.specs.Prelude.{◌≡◌, ◌⊎◌, ◌≤◌, ℕ, Bool, true, false, List, [], Option, Some, None, IsSome, Result, Ok, Err}
+use Rattle.std.specs.Prelude.{◌≡◌, ◌⊎◌, ◌≤◌, ℕ, Bool, true, false, List, [], All, Option, Some, None, IsSome, Result, Ok, Err}
 use Rattle.std.specs.List.{count_by}
 use Rattle.sm_base.specs.Faults.{Rose}
 use Rattle.sm_disk.specs.declared.disk.Disk.{Ghosts as DiskGhosts}
@@ -27,7 +27,7 @@ use Rattle.sm_workers.specs.declared.worker.Task.TheVariants.{Door, Turner}
 use Rattle.sm_workers.specs.declared.worker.WorkerBy.{WorkerBy}
 use Rattle.sm_workers.specs.Closed.{Closed}
 use Rattle.sm_workers.specs.Views.{Views}
-use Rattle.sm_workers.specs.Workers.{NoneFailed, SomeFailed}
+use Rattle.sm_workers.specs.Workers.{HasNoPass, NoneFailed, SomeFailed}
 use Rattle.sm_server.specs.declared.serving.RanBy.{RanBy}
 use Rattle.sm_server.specs.declared.serving.RanBy.TheVariants.{Opened, Unopened}
 use Rattle.sm_server.specs.declared.status.Status.{Status}
@@ -91,13 +91,14 @@ UnopenedBy G asked read status old new =
 module _ {E K C W R A O D : Type 0} {g : StoriedGhosts A O Mark} (views : Views E K C W R) (G : DiskGhosts D)
     {V : RotatorGhosts R} where
   -- How a server ends that opened this account. At 0 each door ended since its edge has no connection left; where it
-  -- ends by an edge, some edge failed; without memory for the lock nobody worked.
+  -- ends by an edge, some edge failed; in both cases the pass of each worker came back. Without memory for the lock
+  -- nobody worked.
   abbrev pub EndsServed : Persons → Account D R G V → Status → List (WorkerBy E C W R A O Mark g)
       → List (WorkerBy E C W R A O Mark g) → Type 0
   EndsServed people account Done old new =
-      Closed views people (base account) [] (history account) old new × NoneFailed new
+      Closed views people (base account) [] (history account) old new × NoneFailed new × All HasNoPass new
   EndsServed people account EdgeFault old new =
-      Closed views people (base account) [] (history account) old new × SomeFailed new
+      Closed views people (base account) [] (history account) old new × SomeFailed new × All HasNoPass new
   EndsServed people account Memory old new = (history account ≡ []) × (new ≡ old)
   EndsServed people account other old new = ⊥
 

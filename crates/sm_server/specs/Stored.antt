@@ -1,5 +1,5 @@
 -- What stands on the disk after a run.
-use Rattle.std.specs.Prelude.{◌≡◌, ◌⊎◌, ◌++◌, List, IsSome}
+use Rattle.std.specs.Prelude.{◌≡◌, ℕ, ◌⊎◌, [], ◌∷◌, ◌++◌, List, Option, Some, IfSome, IsSome}
 use Rattle.sm_base.specs.Faults.{Rose}
 use Rattle.sm_disk.specs.declared.disk.Disk.{Ghosts}
 use Rattle.sm_disk.specs.OneFile.{EachHas}
@@ -14,7 +14,13 @@ use Rattle.sm_account.specs.History.{entries_in}
 use Rattle.sm_account.specs.Openings.{IsRefused}
 use Rattle.sm_server.specs.declared.status.Status.{Status}
 use Rattle.sm_server.specs.declared.status.Status.TheVariants.{Words, Damaged, OpenFault, Memory, People, NotBuilt}
-use Rattle.sm_server.specs.Ran.{Story}
+use Rattle.sm_core.specs.Effects.{effect}
+use Rattle.sm_core.specs.Histories.{no_rows, replay}
+use Rattle.sm_core.specs.Vouching.{Vouched}
+use Rattle.sm_rotation.specs.Vouched.{Replies}
+use Rattle.sm_spells.specs.Spells.{History}
+use Rattle.sm_server.specs.Outside.{Trace}
+use Rattle.sm_server.specs.Ran.{NothingDone, Story}
 
 -- the recovered entries and those of the history
 abbrev pub all_of : Story → List Entry
@@ -57,3 +63,32 @@ Leaves G (Damaged at entry) story old new =
 Leaves G OpenFault story old new = IsRefused G old (refusals.Failed new)
 Leaves G Memory story old new = (new ≡ old) ⊎ (IsRefused G old (refusals.Memory new) ⊎ Records G story old new)
 Leaves G status story old new = Records G story old new
+
+-- A run that ended for want of memory either opened no account: it read no byte and made no mark, nothing was written,
+-- read from the clock or drawn, and the disk has what such an opening leaves; or it had come this far, and the disk has
+-- its story.
+abbrev pub WantsBy : {D : Type 0} → Ghosts D → Type 0 → Story → List ℕ → Trace → D → D → Type 0
+WantsBy G Followed story input trace old new =
+    ((input ≡ []) × NothingDone story.history trace × ((new ≡ old) ⊎ IsRefused G old (refusals.Memory new)))
+    ⊎ (Followed × Records G story old new)
+
+-- If each attempt that a recovered secret remembers is one at which its rotator may have accepted the test, this is so
+-- of the secrets after the history, and it would be with the entry whose write failed last.
+pub record StaysVouched (replies : Replies) (taken : List Entry) (history : History) (failed : Option Entry) : Type 0
+  where
+    pub now : Vouched replies (replay no_rows taken)
+        → Vouched replies (replay no_rows (taken ++ entries_in history))
+    pub next : Vouched replies (replay no_rows taken)
+        → IfSome failed (λ entry. Vouched replies (effect (replay no_rows (taken ++ entries_in history)) entry))
+
+-- the entries that a disk recovers to after a run, or while its last write is unsure
+abbrev pub IsRecovered : Story → List Entry → Type 0
+IsRecovered story entries =
+    (entries ≡ all_of story) ⊎ ((entry : Entry) × (story.failed ≡ Some entry) × (entries ≡ all_of story ++ entry ∷ []))
+
+-- a run over what another left has vouched secrets at its beginning if the other had
+abbrev pub VouchedAgain : Type 0
+VouchedAgain =
+    (replies : Replies) → (story : Story) → StaysVouched replies story.taken story.history story.failed
+    → (entries : List Entry) → IsRecovered story entries → Vouched replies (replay no_rows story.taken)
+    → Vouched replies (replay no_rows entries)

@@ -1,5 +1,5 @@
 //! The top call over one stream.
-ghost use Rattle.std.specs.Prelude.{◌≡◌, ◌≤◌, ◌∷◌, [], ℕ, List, None, length, map, string_bytes};
+ghost use Rattle.std.specs.Prelude.{◌≡◌, ◌≤◌, ◌∷◌, [], ℕ, List, None, Ok, length, map, string_bytes, ⊤};
 ghost use Rattle.std.specs.Io.KnownBytes.{append_known};
 ghost use Rattle.sm_base.specs.Faults.{Rose};
 ghost use Rattle.sm_base.specs.declared.moment.Moment.{Moment as moments};
@@ -11,11 +11,13 @@ ghost use Rattle.sm_principal.specs.declared.people.People.{People as Persons};
 ghost use Rattle.sm_principal.specs.Callers.{people_of};
 ghost use Rattle.sm_server.specs.Asked.{PeopleDecide};
 ghost use Rattle.sm_server.specs.Checks.{Shows};
-ghost use Rattle.sm_server.specs.Complete.{Ran};
+ghost use Rattle.sm_server.specs.Complete.{AreFollowed, Ran};
 ghost use Rattle.sm_server.specs.Outside.{outside_by};
 ghost use Rattle.sm_server.specs.Ran.{Runs, Story, course_of};
 ghost use Rattle.sm_server.specs.Status.{WasFollowed, WasOpened, WasUnderstood};
-ghost use Rattle.sm_server.specs.Stored.{Leaves, Stands, status_unopened, disk_unopened};
+ghost use Rattle.sm_server.specs.Stored.{Leaves, Stands, StaysVouched, WantsBy, status_unopened, disk_unopened};
+ghost use Rattle.sm_server.specs.declared.status.Status.TheVariants.{Memory};
+ghost use Rattle.sm_words.specs.Reading.{settings_of};
 
 use crate::answering::answer_source;
 use crate::asked::{Task, people_of, task_of_words};
@@ -46,12 +48,15 @@ pub fn run_once<Q: Source, K: Sink, D: Disk, C: Clock, W: Words, R: Rotator>(
 ) -> (Status, D)
     // How the run went, and what stands on the disk.
     ensures ran { (story : Story)
-        × Ran R.replies (record { words = map string_bytes words.now; people = people.now }) result.0
+        × (ran : Ran R.replies (record { words = map string_bytes words.now; people = people.now }) result.0
         (outside_by Q.Source K.Sink C.Clock W.Words R.Rotator source.old sink.old
         (D.faults disk) clock.old random.old rotator.old)
         (outside_by Q.Source K.Sink C.Clock W.Words R.Rotator source.new sink.new
-        (D.faults result.1) clock.new random.new rotator.new) story
-        × Leaves D.Disk result.0 story disk result.1 }
+        (D.faults result.1) clock.new random.new rotator.new) story)
+        × Leaves D.Disk result.0 story disk result.1
+        × (result.0 ≡ Memory → WantsBy D.Disk (AreFollowed (settings_of (map string_bytes words.now))
+        (people_of people.now) story) story ran.runs.input ran.runs.trace disk result.1)
+        × ∥ StaysVouched R.replies story.taken story.history story.failed ∥₁ }
     ensures source_later { Q.source_faults source.old ≤ Q.source_faults source.new }
     ensures sink_later { K.sink_faults sink.old ≤ K.sink_faults sink.new }
     ensures disk_later { D.faults disk ≤ D.faults result.1 }
@@ -80,12 +85,15 @@ fn run_task<Q: Source, K: Sink, D: Disk, C: Clock, W: Words, R: Rotator>(
 ) -> (Status, D)
     ensures ran { (story : Story) × (story.task ≡ task)
         × PeopleDecide result.0 (people_of people.now) story.people
-        × Runs (course_of R.replies story) result.0
+        × (runs : Runs (course_of R.replies story) result.0
         (outside_by Q.Source K.Sink C.Clock W.Words R.Rotator source.old sink.old
         (D.faults disk) clock.old random.old rotator.old)
         (outside_by Q.Source K.Sink C.Clock W.Words R.Rotator source.new sink.new
-        (D.faults result.1) clock.new random.new rotator.new)
-        × Leaves D.Disk result.0 story disk result.1 }
+        (D.faults result.1) clock.new random.new rotator.new))
+        × Leaves D.Disk result.0 story disk result.1
+        × (result.0 ≡ Memory → WantsBy D.Disk (people_of people.now ≡ Ok story.people) story runs.input runs.trace disk
+        result.1)
+        × ∥ StaysVouched R.replies story.taken story.history story.failed ∥₁ }
     ensures understood { WasUnderstood result.0 }
     ensures source_later { Q.source_faults source.old ≤ Q.source_faults source.new }
     ensures sink_later { K.sink_faults sink.old ≤ K.sink_faults sink.new }
@@ -114,12 +122,14 @@ fn run_over<Q: Source, K: Sink, D: Disk, C: Clock, W: Words, R: Rotator>(
     rotator: &mut R,
 ) -> (Status, D)
     ensures ran { (story : Story) × (story.task ≡ task) × (story.people ≡ people.now)
-        × Runs (course_of R.replies story) result.0
+        × (runs : Runs (course_of R.replies story) result.0
         (outside_by Q.Source K.Sink C.Clock W.Words R.Rotator source.old sink.old
         (D.faults disk) clock.old random.old rotator.old)
         (outside_by Q.Source K.Sink C.Clock W.Words R.Rotator source.new sink.new
-        (D.faults result.1) clock.new random.new rotator.new)
-        × Leaves D.Disk result.0 story disk result.1 }
+        (D.faults result.1) clock.new random.new rotator.new))
+        × Leaves D.Disk result.0 story disk result.1
+        × (result.0 ≡ Memory → WantsBy D.Disk ⊤ story runs.input runs.trace disk result.1)
+        × ∥ StaysVouched R.replies story.taken story.history story.failed ∥₁ }
     ensures followed { WasFollowed result.0 }
     ensures source_later { Q.source_faults source.old ≤ Q.source_faults source.new }
     ensures sink_later { K.sink_faults sink.old ≤ K.sink_faults sink.new }
@@ -169,7 +179,8 @@ fn run_opened<Q: Source, K: Sink, D: Disk, C: Clock, W: Words, R: Rotator>(
         (D.faults (began account)) clock.old random.old rotator.old)
         (outside_by Q.Source K.Sink C.Clock W.Words R.Rotator source.new sink.new
         (D.faults result.1) clock.new random.new rotator.new)
-        × Stands D.Disk story (began account) result.1 }
+        × Stands D.Disk story (began account) result.1
+        × ∥ StaysVouched R.replies story.taken story.history story.failed ∥₁ }
     ensures opened { WasOpened result.0 }
     ensures source_later { Q.source_faults source.old ≤ Q.source_faults source.new }
     ensures sink_later { K.sink_faults sink.old ≤ K.sink_faults sink.new }
@@ -204,7 +215,8 @@ fn answer_opened<Q: Source, K: Sink, D: Disk, C: Clock, W: Words, R: Rotator>(
         (D.faults (began account)) clock.old random.old rotator.old)
         (outside_by Q.Source K.Sink C.Clock W.Words R.Rotator source.new sink.new
         (D.faults result.1) clock.new random.new rotator.new)
-        × Stands D.Disk story (began account) result.1 }
+        × Stands D.Disk story (began account) result.1
+        × ∥ StaysVouched R.replies story.taken story.history story.failed ∥₁ }
     ensures opened { WasOpened result.0 }
     ensures source_later { Q.source_faults source.old ≤ Q.source_faults source.new }
     ensures sink_later { K.sink_faults sink.old ≤ K.sink_faults sink.new }
@@ -249,6 +261,7 @@ fn check_opened<K: Sink, D: Disk, C: Clock, R: Rotator>(
       history = history account;
       failed = failed account;
     }) (began account) (disk account) }
+    ensures vouched { ∥ StaysVouched R.replies (taken account) (history account) (failed account) ∥₁ }
     ensures sink_later { K.sink_faults sink.old ≤ K.sink_faults sink.new }
 {
     account.standing();

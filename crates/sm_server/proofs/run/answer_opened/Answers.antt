@@ -10,7 +10,7 @@ use Rattle.sm_server.specs.Status.{status_of, WasOpened}
 use Rattle.sm_server.specs.Stored.{Stands}
 use Rattle.sm_server.proofs.EndLemmas.{runs_since}
 use Rattle.sm_server.proofs.RunLemmas.{status_opened}
-use Rattle.sm_server.proofs.StoredLemmas.{cause_since}
+use Rattle.sm_server.proofs.StoredLemmas.{cause_since, stays_vouched}
 use Rattle.sm_server.proofs.run.answer_opened.Goals as goal
 
 pub returns-clause-ran : goal.returns-clause-ran
@@ -66,6 +66,7 @@ returns-clause-ran g c =
           (subst (λ d. Runs (course_of replies story) status (before first) (after (g.D.Disk.faults d)))
           (sym c.close.ensures) runs),
       subst (Stands g.D.Disk story (began old)) (sym c.close.ensures) stands,
+      stays_vouched replies new c.standing.ensures.rows c.standing.ensures.vouched,
     )
 
 pub returns-clause-opened : goal.returns-clause-opened

@@ -5,6 +5,7 @@ use Rattle.sm_account.specs.Accounts.{all_of, base, failed, rows, taken}
 use Rattle.sm_account.specs.History.{entries_in}
 use Rattle.sm_core.specs.Histories.{replay}
 use Rattle.sm_server.specs.Checks.{Shows}
+use Rattle.sm_server.proofs.StoredLemmas.{stays_vouched}
 use Rattle.sm_server.proofs.run.check_opened.Goals as goal
 
 pub returns-clause-shows : goal.returns-clause-shows
@@ -35,3 +36,7 @@ returns-clause-stands g c people =
       next = standing.next;
       faults = standing.faults;
     }
+
+pub returns-clause-vouched : goal.returns-clause-vouched
+returns-clause-vouched g c =
+    stays_vouched g.R.Rotator.replies c.args.account c.standing.ensures.rows c.standing.ensures.vouched

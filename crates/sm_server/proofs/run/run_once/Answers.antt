@@ -1,4 +1,4 @@
-use Rattle.std.proofs.Common.{Option, map, string_bytes, ◌∙◌, ap}
+use Rattle.std.proofs.Common.{◌≡◌, Option, map, string_bytes, ◌∙◌, ap}
 use Rattle.sm_principal.specs.declared.people.People.TheVariants.{Everybody}
 use Rattle.sm_principal.specs.Callers.{people_of}
 use Rattle.sm_words.specs.declared.settings.Settings.{Settings}
@@ -7,14 +7,16 @@ use Rattle.std.proofs.Common.{Ok, sym}
 use Rattle.sm_server.specs.declared.asked.Task.{Task}
 use Rattle.sm_server.specs.declared.asked.Task.TheVariants.{Answer}
 use Rattle.sm_server.specs.declared.status.Status.{Status}
-use Rattle.sm_server.specs.Complete.{Orders}
+use Rattle.sm_server.specs.Asked.{task_of_words}
+use Rattle.sm_server.specs.Complete.{AreFollowed, Orders}
 use Rattle.sm_server.specs.Outside.{Outside, outside_by}
 use Rattle.sm_server.proofs.CompleteLemmas.{ran_by}
 use Rattle.sm_server.proofs.EndLemmas.{words_decided}
-use Rattle.sm_server.proofs.UnopenedLemmas.{followed, leaves_words, no_story, people_undecided, runs_words, words_decide}
+use Rattle.sm_server.proofs.UnopenedLemmas.{followed, no_story, people_undecided, unfollowed, wants_more, words_decide}
 use Rattle.sm_server.proofs.run.run_once.Goals as goal
 
 pub returns-in-Ok-clause-ran : goal.returns-in-Ok-clause-ran
+unfolding ran_by
 returns-in-Ok-clause-ran g c =
     let run = c.run_task in
     let ran = run.ensures.ran in
@@ -25,26 +27,35 @@ returns-in-Ok-clause-ran g c =
     let before : Outside = outside_by g.Q.Source g.K.Sink g.C.Clock g.W.Words g.R.Rotator c.args.source.now
     c.args.sink.now (g.D.Disk.faults c.args.disk) c.args.clock.now c.args.random.now c.args.rotator.now in
     let after : Outside = outside_by g.Q.Source g.K.Sink g.C.Clock g.W.Words g.R.Rotator run.new.source run.new.sink
-    (g.D.Disk.faults run.result.1) run.new.clock run.new.random run.new.rotator in (
+    (g.D.Disk.faults run.result.1) run.new.clock run.new.random run.new.rotator in
+    let asks : task_of_words asked ≡ Ok story.task =
+    followed asked c.in-Ok.task c.in-Ok.ensures ∙ ap (λ (t : Task). Ok t) (sym ran.1) in (
       story,
       ran_by g.R.Rotator.replies orders status before after story
-          (words_decided status asked story.task run.ensures.understood
-          (followed asked c.in-Ok.task c.in-Ok.ensures ∙ ap (λ (t : Task). Ok t) (sym ran.1))) ran.2 ran.3,
+          (words_decided status asked story.task run.ensures.understood asks) ran.2 ran.3,
       ran.4,
+      λ wants. wants_more g.D.Disk story ran.3.input ran.3.trace c.args.disk run.result.1 (λ read. (asks, read))
+          (ran.5 wants),
+      ran.6,
     )
 
 pub returns-in-Err-clause-ran : goal.returns-in-Err-clause-ran
+unfolding ran_by
 returns-in-Err-clause-ran g c =
     let orders : Orders = record { words = map string_bytes c.args.words.now; people = c.args.people.now } in
     let asked : Option Settings = settings_of orders.words in
     let status = c.in-Err.status in
     let replies = g.R.Rotator.replies in
     let outside : Outside = outside_by g.Q.Source g.K.Sink g.C.Clock g.W.Words g.R.Rotator c.args.source.now
-    c.args.sink.now (g.D.Disk.faults c.args.disk) c.args.clock.now c.args.random.now c.args.rotator.now in (
+    c.args.sink.now (g.D.Disk.faults c.args.disk) c.args.clock.now c.args.random.now c.args.rotator.now in
+    let none = unfollowed replies Answer Everybody status asked c.in-Err.ensures g.D.Disk
+    (AreFollowed asked (people_of orders.people) (no_story Answer Everybody)) c.args.disk outside in (
       no_story Answer Everybody,
       ran_by replies orders status outside outside (no_story Answer Everybody)
           (words_decide replies Answer Everybody status asked c.in-Err.ensures)
           (people_undecided replies Answer Everybody status asked c.in-Err.ensures (people_of orders.people))
-          (runs_words replies Answer Everybody status asked c.in-Err.ensures outside),
-      leaves_words replies Answer Everybody status asked c.in-Err.ensures g.D.Disk c.args.disk,
+          none.0,
+      none.1,
+      none.2,
+      none.3,
     )

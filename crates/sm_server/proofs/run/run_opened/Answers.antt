@@ -13,7 +13,7 @@ use Rattle.sm_server.proofs.run.run_opened.Goals as goal
 pub returns-in-Answer-clause-ran : goal.returns-in-Answer-clause-ran
 returns-in-Answer-clause-ran g c =
     let ran = c.answer_opened.ensures.ran in
-    (ran.0, ran.1 ∙ sym c.in-Answer.is, ran.2, ran.3, ran.4, ran.5)
+    (ran.0, ran.1 ∙ sym c.in-Answer.is, ran.2, ran.3, ran.4, ran.5, ran.6)
 
 pub returns-in-Summarize-clause-ran : goal.returns-in-Summarize-clause-ran
 returns-in-Summarize-clause-ran g c =
@@ -57,6 +57,7 @@ returns-in-Summarize-clause-ran g c =
           (runs_since (course (base account) (history account)) (before opened) after first c.requires.later status
           (shows_opened _ _ _ _ _ status s.4) runs),
       subst (Stands g.D.Disk story (began account)) (sym checked.ensures.disk) (checked.ensures.stands people),
+      checked.ensures.vouched,
     )
 
 pub returns-in-Summarize-clause-opened : goal.returns-in-Summarize-clause-opened

@@ -1,15 +1,16 @@
-use Rattle.std.proofs.Common.{◌≡◌, ◌≤◌, ℕ, List, sym, refl, ap, subst}
+use Rattle.std.proofs.Common.{◌≡◌, ◌≤◌, ℕ, List, inr, sym, refl, subst}
 use Rattle.sm_model.specs.declared.entry.Entry.{Entry}
 use Rattle.sm_journal.specs.Openings.{ReadsAs}
 use Rattle.sm_store.specs.Entries.{HasEntries}
 use Rattle.sm_store.specs.declared.files.TheConstants.{JOURNAL}
+use Rattle.sm_server.specs.declared.status.Status.{Status}
 use Rattle.sm_server.specs.Outside.{Outside, outside_by}
 use Rattle.sm_server.specs.Ran.{Runs, course_of}
 use Rattle.sm_server.specs.Status.{WasFollowed}
-use Rattle.sm_server.specs.Stored.{Leaves, Stands, status_unopened, disk_unopened}
+use Rattle.sm_server.specs.Stored.{Records, Stands, disk_unopened}
 use Rattle.sm_server.proofs.EndLemmas.{opened_followed}
 use Rattle.sm_server.proofs.StoredLemmas.{leaves_opened}
-use Rattle.sm_server.proofs.UnopenedLemmas.{no_story, leaves_unopened, later_unopened, runs_unopened, unopened_followed}
+use Rattle.sm_server.proofs.UnopenedLemmas.{no_story, Unopened, unopened, later_unopened, unopened_followed}
 use Rattle.sm_server.proofs.run.run_over.Goals as goal
 
 pub returns-in-Ok-clause-ran : goal.returns-in-Ok-clause-ran
@@ -22,17 +23,20 @@ returns-in-Ok-clause-ran g c =
     c.args.source.now c.args.sink.now faults c.args.clock.now c.args.random.now c.args.rotator.now in
     let after : Outside = outside_by g.Q.Source g.K.Sink g.C.Clock g.W.Words g.R.Rotator c.run_opened.new.source
     c.run_opened.new.sink (g.D.Disk.faults run.result.1) c.run_opened.new.clock c.run_opened.new.random
-    c.run_opened.new.rotator in (
+    c.run_opened.new.rotator in
+    let records : Records g.D.Disk story c.args.disk run.result.1 = record {
+      recovered = subst (λ (t : List Entry). ReadsAs JOURNAL (λ bytes. HasEntries bytes t)
+          (g.D.Disk.sight c.args.disk)) (sym run.ensures.ran.3) c.in-Ok.ensures.list;
+      stands = subst (λ d. Stands g.D.Disk story d run.result.1) opened.began_is run.ensures.ran.5;
+    } in (
       story,
       run.ensures.ran.1,
       run.ensures.ran.2,
       subst (λ d. Runs (course_of replies story) run.result.0 (before (g.D.Disk.faults d)) after) opened.began_is
           run.ensures.ran.4,
-      leaves_opened g.D.Disk run.result.0 story c.args.disk run.result.1 run.ensures.opened (record {
-        recovered = subst (λ (t : List Entry). ReadsAs JOURNAL (λ bytes. HasEntries bytes t)
-            (g.D.Disk.sight c.args.disk)) (sym run.ensures.ran.3) c.in-Ok.ensures.list;
-        stands = subst (λ d. Stands g.D.Disk story d run.result.1) opened.began_is run.ensures.ran.5;
-      }),
+      leaves_opened g.D.Disk run.result.0 story c.args.disk run.result.1 run.ensures.opened records,
+      λ wants. inr (tt, records),
+      run.ensures.ran.6,
     )
 
 pub returns-in-Ok-clause-followed : goal.returns-in-Ok-clause-followed
@@ -49,26 +53,27 @@ returns-in-Err-clause-ran g c =
     let before : Outside = outside_by g.Q.Source g.K.Sink g.C.Clock g.W.Words g.R.Rotator c.args.source.now
     c.args.sink.now (g.D.Disk.faults c.args.disk) c.args.clock.now c.args.random.now c.args.rotator.now in
     let after : Outside = record before { counts = record before.counts { disk = g.D.Disk.faults now } } in
-    let same : disk_unopened refused ≡ now = sym c.end_unopened.ensures.disk in (
+    let same : disk_unopened refused ≡ now = sym c.end_unopened.ensures.disk in
+    let none = subst (λ (s : Status). Unopened g.D.Disk replies task people c.args.disk s before after now)
+    (sym c.end_unopened.ensures.status)
+    (unopened g.D.Disk replies task people c.args.disk refused now before after why same refl refl
+    (record {
+      left = refl;
+      taken = refl;
+      readings = refl;
+      drawn = refl;
+      disk = subst (λ d. g.D.Disk.faults c.args.disk ≤ g.D.Disk.faults d) same
+          (later_unopened g.D.Disk replies task people c.args.disk refused why);
+      random = refl;
+      rotator = refl;
+    })) in (
       no_story task people,
       refl,
       refl,
-      subst (λ s. Runs (course_of replies (no_story task people)) s before after) (sym c.end_unopened.ensures.status)
-          (runs_unopened g.D.Disk replies task people c.args.disk refused before after why refl
-          (ap g.D.Disk.faults (sym same))
-          (record {
-            left = refl;
-            taken = refl;
-            readings = refl;
-            drawn = refl;
-            disk = subst (λ d. g.D.Disk.faults c.args.disk ≤ g.D.Disk.faults d) same
-                (later_unopened g.D.Disk replies task people c.args.disk refused why);
-            random = refl;
-            rotator = refl;
-          })),
-      subst (λ s. Leaves g.D.Disk s (no_story task people) c.args.disk now) (sym c.end_unopened.ensures.status)
-          (subst (λ d. Leaves g.D.Disk (status_unopened refused) (no_story task people) c.args.disk d) same
-          (leaves_unopened g.D.Disk replies task people c.args.disk refused why)),
+      none.0,
+      none.1,
+      none.2,
+      none.3,
     )
 
 pub returns-in-Err-clause-followed : goal.returns-in-Err-clause-followed

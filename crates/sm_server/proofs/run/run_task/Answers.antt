@@ -4,7 +4,7 @@ use Rattle.sm_principal.specs.declared.people.People.TheVariants.{Everybody}
 use Rattle.sm_principal.specs.Callers.{people_of}
 use Rattle.sm_server.specs.Outside.{Outside, outside_by}
 use Rattle.sm_server.proofs.EndLemmas.{followed_understood, people_decided}
-use Rattle.sm_server.proofs.UnopenedLemmas.{leaves_refused, no_story, people_refused, runs_refused, understood_refused}
+use Rattle.sm_server.proofs.UnopenedLemmas.{no_story, people_refused, refused, understood_refused, wants_more}
 use Rattle.sm_server.proofs.run.run_task.Goals as goal
 
 pub returns-in-Ok-clause-ran : goal.returns-in-Ok-clause-ran
@@ -18,6 +18,9 @@ returns-in-Ok-clause-ran g c =
           (subst (λ (p : Persons). read ≡ Ok p) (sym ran.2) c.in-Ok.ensures),
       ran.3,
       ran.4,
+      λ wants. wants_more g.D.Disk ran.0 ran.3.input ran.3.trace c.args.disk run.result.1
+          (λ far. subst (λ (p : Persons). read ≡ Ok p) (sym ran.2) c.in-Ok.ensures) (ran.5 wants),
+      ran.6,
     )
 
 pub returns-in-Ok-clause-understood : goal.returns-in-Ok-clause-understood
@@ -30,12 +33,16 @@ returns-in-Err-clause-ran g c =
     let task = c.args.task in
     let read = people_of c.args.people.now in
     let outside : Outside = outside_by g.Q.Source g.K.Sink g.C.Clock g.W.Words g.R.Rotator c.args.source.now
-    c.args.sink.now (g.D.Disk.faults c.args.disk) c.args.clock.now c.args.random.now c.args.rotator.now in (
+    c.args.sink.now (g.D.Disk.faults c.args.disk) c.args.clock.now c.args.random.now c.args.rotator.now in
+    let none = refused replies task Everybody read status c.in-Err.ensures g.D.Disk (read ≡ Ok Everybody) c.args.disk
+    outside in (
       no_story task Everybody,
       refl,
       people_refused replies task Everybody read status c.in-Err.ensures,
-      runs_refused replies task Everybody read status c.in-Err.ensures outside,
-      leaves_refused replies task Everybody read status c.in-Err.ensures g.D.Disk c.args.disk,
+      none.0,
+      none.1,
+      none.2,
+      none.3,
     )
 
 pub returns-in-Err-clause-understood : goal.returns-in-Err-clause-understood

@@ -16,6 +16,6 @@ returns-in-Ok g c =
         faults = c.standing.ensures.faults;
         ends = ends_closed _ g.D.Disk c.args.people.now c.args.workers.now c.run_at.new.workers c.args.account
             c.in-Ok.account c.end_of_workers.result c.end_of_workers.ensures c.requires.empty origin.2
-            c.in-Ok.ensures.closed;
+            c.in-Ok.ensures.closed c.in-Ok.ensures.left;
       };
     }
