@@ -4,10 +4,11 @@ ghost use Rattle.sm_workers.specs.Workers.{IsFresh};
 
 use crate::meeting::{Holding, Meeting, Part, Watched};
 use crate::support::{
-    MemoryWorker, connection, door, edge, fails, outcome, ran_server, three, turner,
+    MemoryWorker, connection, door, edge, fails, late_turner, outcome, ran_over, ran_server, three,
+    turner,
 };
 use sm_io::MemoryConn;
-use sm_model::Stage;
+use sm_model::{Fails, List, Stage};
 use sm_rotator::ScriptRotator;
 use sm_server::Status;
 use sm_workers::Task;
@@ -30,6 +31,9 @@ const SECOND: &str = r#"{"Name":"db/two","SecretString":"s3cret"}"#;
 
 const ROTATE_SECOND: &str =
     r#"{"SecretId":"db/two","ClientRequestToken":"rotation-token-000000000001-yyyy"}"#;
+
+const ROTATE_DAILY: &str =
+    "{\"SecretId\":\"db/one\",\"RotateImmediately\":false,\"RotationRules\":{\"AutomaticallyAfterDays\":1}}";
 
 const READ: (&str, &str) = ("GetSecretValue", r#"{"SecretId":"db/one"}"#);
 
@@ -160,5 +164,60 @@ fn both_at_their_first_step<H: Threads + Wait + Sync>(
 fn two_secrets_are_rotated_at_once(rt: HostRuntime) -> Result<(), Fail> {
     let out = both_at_their_first_step(&rt, &rt)?;
     assert_eq!(rt; out, ((1, true), (8, true), (Status::Done, 12)));
+    Ok(())
+}
+
+/// The calls of the disk in which the start of the rotation is written, the first and the last: a new journal takes six
+/// calls, and each of the two entries before that six more.
+const CALLS_OF_THE_START: [u64; 2] = [19, 24];
+
+/// A door that makes a secret and has it rotated each day, one that reads it behind the first of a meeting, and a
+/// turner of a day later, whose rotator is that first at setSecret. Until then the second door is open, and the turner
+/// goes on.
+fn daily<'a>(rt: &'a HostRuntime, meeting: &'a Meeting) -> Result<Vec<Over<'a>>, Fail>
+    ensures fresh { IfOk result (λ workers. All IsFresh workers.items) }
+    ensures many { IfOk result (λ workers. vec_len workers ≡ 3) }
+{
+    let alloc = rt.alloc();
+    let rotates = connection(alloc, &[(CREATE, FIRST), (ROTATE, ROTATE_DAILY)])?;
+    let reads = connection(alloc, &[READ])?;
+    three(
+        alloc,
+        door(alloc, watched(rt, meeting, Part::Apart, rotates)?),
+        door(alloc, watched(rt, meeting, Part::Second, reads)?),
+        late_turner(alloc, holding(rt, meeting, Stage::Set)),
+    )
+}
+
+/// A due rotation whose start fails at this call of the disk: what came of both doors and of the turner, how the server
+/// ends, and how many entries its account has then.
+fn started_behind_a_fault<H: Threads + Wait + Sync>(
+    rt: &HostRuntime,
+    threads: &H,
+    call: u64,
+) -> Result<((u64, bool), (u64, bool), (u64, bool), (Status, u64)), Fail> {
+    let meeting = Meeting::new();
+    let mut workers = daily(rt, &meeting)?;
+    let calls = List::new(Vec::from_slice(rt.alloc(), &[call])?);
+    let disk_fails = Fails { calls, from: None };
+    let ended = ran_over(threads, rt.alloc(), workers.as_mut_slice(), disk_fails)?;
+    Ok((
+        came(&workers[0]),
+        came(&workers[1]),
+        came(&workers[2]),
+        ended,
+    ))
+}
+
+#[test]
+fn a_turner_goes_on_behind_a_fault_of_the_disk(rt: HostRuntime) -> Result<(), Fail> {
+    for call in CALLS_OF_THE_START {
+        let out = started_behind_a_fault(&rt, &rt, call)?;
+        assert_eq!(rt;
+            out,
+            ((1, true), (1, true), (4, true), (Status::Done, 7)),
+            "{call}"
+        );
+    }
     Ok(())
 }

@@ -69,6 +69,18 @@ pub fn turner<E, R: Rotator>(alloc: Global, rotator: R) -> MemoryWorker<E, R>
     )
 }
 
+/// The same a day later than all others. The tokens that it draws end in `5e5f`, `6e6f` and so on, so that a rotator of
+/// scripts says yes to each of their steps.
+pub fn late_turner<E, R: Rotator>(alloc: Global, rotator: R) -> MemoryWorker<E, R>
+    ensures { IsFresh result }
+{
+    Worker::turner(
+        rotator,
+        FixedClock::new(Moment(1_700_086_400)),
+        CountWords::new(alloc, 80, fails(alloc, None)),
+    )
+}
+
 /// Adds a worker.
 pub fn add<E: Drop, R: Rotator + Drop>(
     workers: &mut Vec<MemoryWorker<E, R>>,
@@ -115,6 +127,21 @@ where
     requires many { (1 ≤ length workers.old) × (length workers.old ≤ 128) }
     requires fresh { All IsFresh workers.old }
 {
+    ran_over(rt, alloc, workers, fails(alloc, None))
+}
+
+/// The same over a disk of which these calls fail.
+pub fn ran_over<E: Edge<ConnEnd> + Send, R: Rotator + Drop + Send, H: Threads + Wait + Sync>(
+    rt: &H,
+    alloc: Global,
+    workers: &mut [MemoryWorker<E, R>],
+    disk_fails: Fails,
+) -> Result<(Status, u64), Fail>
+where
+    E::C: Send,
+    requires many { (1 ≤ length workers.old) × (length workers.old ≤ 128) }
+    requires fresh { All IsFresh workers.old }
+{
     let mut words = Vec::new(alloc);
     for word in ["--mode", "serve"] {
         words.push(String::from_str(alloc, word)?)?;
@@ -124,7 +151,7 @@ where
         Bytes::empty(alloc),
         Bytes::empty(alloc),
         Bytes::empty(alloc),
-        fails(alloc, None),
+        disk_fails,
     )?;
     match run_server(rt, alloc, words.as_slice(), workers, disk, b"") {
         RanBy::Opened(status, account) => Ok((status, account.entries())),
