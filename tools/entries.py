@@ -35,8 +35,8 @@ def tag(key, value):
     return text(key) + text(value)
 
 
-def entry(act, *fields, caller="", drawn=b""):
-    return number(MOMENT) + text(caller) + octets(drawn) + bytes([act]) + b"".join(fields)
+def entry(act, *fields, caller="", drawn=b"", moment=MOMENT):
+    return number(moment) + text(caller) + octets(drawn) + bytes([act]) + b"".join(fields)
 
 
 def journal(bodies):

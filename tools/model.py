@@ -2,7 +2,8 @@
 
 It is written from the rules of the product (docs/RULES.md, docs/USING.md) alone, in another language and shape than the program and its
 specifications: a dictionary of versions and a list of labels for each secret, exceptions for refusals, Python's own JSON. It knows one account, a
-clock that always reads 1700000000, random bytes that count up from 0, and the rotator that changes the password in a JSON text.
+clock that reads 1700000000 unless it is set, random bytes that count up from 0, and the rotator that changes the password in a JSON text. It also
+opens the bytes of a journal, and says where they are damaged: each entry does once more what it did, by the functions that answer messages.
 """
 
 import base64
@@ -742,14 +743,18 @@ def page(operation, members, items, descending=False):
 
 
 class Secret:
-    def __init__(self, number, name, arn, tags):
+    def __init__(self, account, number, name, arn, tags):
+        # Moments are the account's.
+        self.account = account
         self.number = number
         self.name = name
         self.arn = arn
         self.tags = tags
         self.said = {}
-        # The value of each version, or None where a rotation has made it and not filled it.
+        # The value of each version, or None where a rotation has made it and not filled it; and when each was made.
         self.versions = {}
+        self.dates = {}
+        self.created = self.changed = account.moment
         self.of_rotation = set()
         self.labels = []
         self.deletion = None
@@ -758,6 +763,11 @@ class Secret:
         self.days = None
         self.next_rotation = None
         self.job = None
+
+    def fill(self, version, value):
+        """Gives a version its value, and makes it where it is not there."""
+        self.versions[version] = value
+        self.dates.setdefault(version, self.account.moment)
 
     def holder(self, label):
         return next((version for held, version in self.labels if held == label), None)
@@ -797,26 +807,40 @@ class Secret:
     def current_value(self):
         return self.versions.get(self.holder("AWSCURRENT"))
 
+    def is_due(self):
+        """A rotation may start by itself, with a token that no version has."""
+        current, pending = self.holder("AWSCURRENT"), self.holder("AWSPENDING")
+        is_reached = self.is_rotated and self.next_rotation is not None and self.next_rotation <= self.account.moment
+        is_free = current is not None and pending in (None, current) and len(self.versions) < 1000
+        return is_reached and is_free and self.deletion is None
+
+    def start(self, token):
+        """Makes the version that a rotation fills, and the job that does it."""
+        self.fill(token, None)
+        self.of_rotation.add(token)
+        self.place("AWSPENDING", token)
+        self.job = Job(token, STAGES[0], 1, self.account.moment)
+
     def report(self, answer):
         """Does what an answer to the job's step leads to: a value, whether the step was done, or None where it failed."""
-        job = self.job
-        if job.stage == "createSecret" and isinstance(answer, str):
-            self.versions[job.token] = answer
+        job, moment = self.job, self.account.moment
+        if job.stage == "createSecret" and isinstance(answer, (str, bytes)) and is_value(answer):
+            self.fill(job.token, answer)
         elif answer is not True or job.stage == "createSecret":
-            again = job._replace(attempt=job.attempt + 1, retry_at=NOW + 60 * job.attempt)
+            again = job._replace(attempt=job.attempt + 1, retry_at=moment + 60 * job.attempt)
             self.job = again if job.attempt < 5 else None
             return
         if job.stage == "finishSecret":
             self.place("AWSCURRENT", job.token)
             self.labels = self.without("AWSPENDING")
-            self.said["LastRotatedDate"] = NOW
+            self.said["LastRotatedDate"] = moment
             self.next_rotation = self.following_rotation()
             self.job = None
         else:
-            self.job = Job(job.token, STAGES[STAGES.index(job.stage) + 1], 1, NOW)
+            self.job = Job(job.token, STAGES[STAGES.index(job.stage) + 1], 1, moment)
 
     def following_rotation(self):
-        return None if self.days is None else NOW + 86400 * self.days
+        return None if self.days is None else self.account.moment + 86400 * self.days
 
     def say(self, members):
         """Keeps what is given of a description and a KMS key id."""
@@ -824,6 +848,10 @@ class Secret:
 
     def named(self):
         return {"ARN": self.arn, "Name": self.name}
+
+
+class Illegal(Exception):
+    """An entry of a journal would not have been made where it stands."""
 
 
 class Account:
@@ -838,11 +866,29 @@ class Account:
         self.reached = collections.Counter()
         # The entries that were made, as they stand in a journal.
         self.entries = []
+        # What the clock reads, the moment of the last entry, and that of what is done now.
+        self.clock, self.last, self.moment = NOW, 0, NOW
 
     def restart(self):
         """The random bytes of a run begin anew, and the steps of rotations that were under way may be asked again."""
         self.drawn = 0
         self.claimed = set()
+
+    def begin(self, moment):
+        """Something is done at a moment: a secret is gone from its deletion date on."""
+        self.moment = moment
+        self.secrets = [secret for secret in self.secrets if secret.deletion is None or secret.deletion > moment]
+
+    def begin_now(self):
+        """Something is done now. Moments never fall."""
+        self.begin(max(self.clock, self.last))
+
+    def enter(self, caller, drawn, act, fields, secret=None):
+        """Keeps an entry, which changed a secret if one is named."""
+        self.entries.append(body_of(Entry(self.moment, caller, bytes(drawn), False, act, fields)))
+        self.last = self.moment
+        if secret is not None:
+            secret.changed = self.moment
 
     def draw(self, count):
         drawn = [(self.drawn + place) % 256 for place in range(count)]
@@ -857,23 +903,91 @@ class Account:
         return next(iter(whole + short), None)
 
     def turn(self):
-        """One step of the first rotation that is ready, and whether there was one."""
+        """One step of the first rotation that is ready, else the start of one that is due; and whether there was one."""
+        self.begin_now()
         for secret in self.secrets:
             job = secret.job
-            if job is None or job.retry_at > NOW or (secret.arn, job) in self.claimed:
+            if job is None or job.retry_at > self.moment or (secret.arn, job) in self.claimed:
                 continue
             self.claimed.add((secret.arn, job))
             answer = rotate_locally(job, secret.current_value(), secret.versions[job.token])
             if isinstance(answer, str) and not is_value(answer):
                 answer = None
-            secret.report(answer)
-            secret.settle()
-            self.entries.append(entry_of_step(secret, job, answer))
+            self.report(secret, answer)
             self.reached["turn", f"{job.stage} {job.attempt}"] += 1
             return True
-        return False
+        due = [secret for secret in self.secrets if secret.is_due()]
+        if not due:
+            return False
+        drawn = self.draw(16)
+        startable = [secret for secret in due if drawn_token(drawn) not in secret.versions]
+        for secret in startable[:1]:
+            self.start(secret, drawn)
+            self.reached["turn", "a start"] += 1
+        return bool(startable)
+
+    def start(self, secret, drawn):
+        """Starts a due rotation, by nobody's request. Its next date stays."""
+        secret.start(drawn_token(drawn))
+        secret.settle()
+        self.enter("", drawn, "Begun", {"ARN": secret.arn}, secret)
+
+    def report(self, secret, answer):
+        """Enters an answer to the step at which a secret's rotation is."""
+        job = secret.job
+        secret.report(answer)
+        secret.settle()
+        step = {"ARN": secret.arn, "Token": job.token, "Stage": job.stage, "Attempt": job.attempt, "Answer": answer}
+        self.enter("", b"", "Reported", step, secret)
+
+    def again(self, entry):
+        """Does once more what an entry of a journal did, if it is legal there: it would be accepted, and is no repeat."""
+        if entry.moment < self.last or entry.prunes:
+            raise Illegal
+        self.begin(entry.moment)
+        if entry.act == "Begun":
+            self.start_again(entry)
+        elif entry.act == "Reported":
+            self.report_again(entry.fields)
+        else:
+            self.ask_again(entry)
+        for secret in self.secrets:
+            secret.settle()
+
+    def start_again(self, entry):
+        """A start is legal where the secret with exactly this ARN is due for the token."""
+        secret = next((secret for secret in self.secrets if secret.arn == entry.fields["ARN"]), None)
+        if secret is None or not secret.is_due() or drawn_token(entry.drawn) in secret.versions:
+            raise Illegal
+        self.start(secret, entry.drawn)
+
+    def report_again(self, step):
+        """An answer is legal where the secret with exactly this ARN is at the step, whatever is answered."""
+        secret = next((secret for secret in self.secrets if secret.arn == step["ARN"]), None)
+        job = secret.job if secret is not None else None
+        if job is None or (job.token, job.stage, job.attempt) != (step["Token"], step["Stage"], step["Attempt"]):
+            raise Illegal
+        self.report(secret, step["Answer"])
+
+    def ask_again(self, entry):
+        """A request is legal in its forms and with its random bytes, whoever asked, and whatever their policies say."""
+        if len(entry.drawn) != needed(entry.act, entry.fields):
+            raise Illegal
+        count = len(self.entries)
+        try:
+            test_forms(entry.act, entry.fields)
+            self.act(Person(entry.caller, True, ""), entry.act, entry.fields, entry.drawn)
+        except Refusal:
+            raise Illegal
+        if len(self.entries) == count:
+            # Only the forced deletion of nobody is accepted without an entry and is no repeat: as an entry it changes nothing.
+            if not entry.fields.get("ForceDeleteWithoutRecovery"):
+                raise Illegal
+            self.reached["opened", "the deletion of nobody"] += 1
+            self.enter(entry.caller, entry.drawn, entry.act, entry.fields)
 
     def answer(self, person, operation, body):
+        self.begin_now()
         members = members_of(operation, body)
         drawn = self.draw(needed(operation, members))
         test_forms(operation, members)
@@ -903,7 +1017,7 @@ class Account:
             return self.validate(members)
         forced = members.get("ForceDeleteWithoutRecovery", False)
         if forced and self.find(members["SecretId"]) is None:
-            return {"DeletionDate": NOW, "Name": members["SecretId"]}
+            return {"DeletionDate": self.moment, "Name": members["SecretId"]}
         secret = self.named(operation, members["SecretId"], forced)
         if operation in READS:
             return READS[operation](secret, members)
@@ -911,7 +1025,7 @@ class Account:
         if forced:
             self.secrets.remove(secret)
         if is_new:
-            self.entries.append(entry_of(person, operation, members, drawn))
+            self.enter(person.key, drawn, operation, members, secret)
         return reply
 
     def named(self, operation, secret_id, forced=False):
@@ -977,13 +1091,13 @@ class Account:
             if len(tags) > 50:
                 raise limit_of(50, "tags")
             suffix = "".join(SUFFIX_CHARACTERS[byte % 62] for byte in drawn[:6])
-            secret = Secret(self.made, members["Name"], f"{ARN_BEGINNING}{members['Name']}-{suffix}", tags)
+            secret = Secret(self, self.made, members["Name"], f"{ARN_BEGINNING}{members['Name']}-{suffix}", tags)
             self.made += 1
             secret.say(members)
             self.secrets.append(secret)
-            self.entries.append(entry_of(person, "CreateSecret", members, drawn))
+            self.enter(person.key, drawn, "CreateSecret", members, secret)
             if value is not None:
-                secret.versions[token] = value
+                secret.fill(token, value)
                 secret.place("AWSCURRENT", token)
         elif secret.deletion is not None:
             raise scheduled(secret.deletion)
@@ -992,45 +1106,215 @@ class Account:
         return secret.named() | ({} if value is None else {"VersionId": token})
 
 
-# How a member's value is spelled in an entry, by the member's type.
+# ---- entries and the journal's file
+
+# What an entry says: when it was made, the key of who asked, the random bytes, whether it drops versions, its act and the act's fields.
+Entry = collections.namedtuple("Entry", "moment caller drawn prunes act fields")
+# The acts, by their number in a journal from 1 on, and those that nobody asks for, with their fields.
+ACTS = ["CreateSecret", "PutSecretValue", "UpdateSecret", "DeleteSecret", "RestoreSecret", "UpdateSecretVersionStage", "TagResource"]
+ACTS += ["UntagResource", "PutResourcePolicy", "DeleteResourcePolicy", "RotateSecret", "CancelRotateSecret", "Begun", "Reported"]
+UNASKED = {"Begun": "ARN* arn", "Reported": "ARN* arn, Token* token, Stage* stage, Attempt* attempt, Answer* answer"}
+# The bit of an act's number in an entry that drops versions.
+PRUNES = 128
+LAST_MOMENT = 200000000000
+RECORD_LIMIT = 1048576
+HEADER = b"SMJRNL01"
+# How an answer that is no value is spelled.
+ANSWERS = {True: 2, False: 3, None: 4}
+
+
+def fields_of(act):
+    """The name of each field of an act, whether it is always there, and its type: the members in the order of their names."""
+    for member in (UNASKED.get(act) or MEMBERS[act]).split(", "):
+        name, kind = member.split(" ")
+        # A truth value stands as it counts. No journal has regions.
+        if kind != "regions":
+            yield name.rstrip("*"), name.endswith("*") or kind == "truth", kind
+
+
+def spelled_answer(answer):
+    if isinstance(answer, (str, bytes)):
+        return b"\1\1" + entries.text(answer) if isinstance(answer, str) else b"\1\2" + entries.octets(answer)
+    return bytes([ANSWERS[answer]])
+
+
+# How a field is spelled, by its type.
 SPELLED = {
+    "answer": spelled_answer,
+    "arn": entries.text,
+    "attempt": lambda attempt: bytes([attempt]),
     "bytes": entries.octets,
     "integer": entries.number,
     "rules": lambda rules: entries.option(None if rules.days is None else entries.number(rules.days)),
+    "stage": lambda stage: bytes([STAGES.index(stage) + 1]),
     "tags": lambda tags: entries.items(*(entries.tag(key, value) for key, value in tags)),
     "text": entries.text,
     "texts": lambda texts: entries.items(*map(entries.text, texts)),
+    "token": entries.text,
+    "truth": entries.truth,
 }
-# The acts of the operations that change something, by their number in a journal.
-ACTS = {"CreateSecret": 1, "PutSecretValue": 2, "UpdateSecret": 3, "DeleteSecret": 4, "RestoreSecret": 5, "UpdateSecretVersionStage": 6}
-ACTS |= {"TagResource": 7, "UntagResource": 8, "PutResourcePolicy": 9, "DeleteResourcePolicy": 10, "RotateSecret": 11, "CancelRotateSecret": 12}
-REPORTED = 14
 
 
-def entry_of_step(secret, job, answer):
-    """The entry of an answer to a step of a rotation."""
-    if isinstance(answer, str):
-        spelled = b"\1\1" + entries.text(answer)
-    else:
-        spelled = b"\2" if answer else b"\4" if answer is None else b"\3"
-    step = bytes([STAGES.index(job.stage) + 1, job.attempt])
-    return entries.entry(REPORTED, entries.text(secret.arn), entries.text(job.token), step, spelled)
-
-
-def entry_of(person, operation, members, drawn):
-    """The entry of an accepted request: its members in the order of their names, truth values as they count, others that may be absent as options."""
-    fields = []
-    for member in MEMBERS[operation].split(", "):
-        name, kind = member.split(" ")
-        if kind == "regions":
-            continue
-        if kind == "truth":
-            fields.append(entries.truth(members.get(name, name in TRUE_IF_ABSENT)))
-        elif name.endswith("*"):
-            fields.append(SPELLED[kind](members[name.rstrip("*")]))
+def body_of(entry):
+    """The bytes of an entry."""
+    spelled = []
+    for name, is_there, kind in fields_of(entry.act):
+        if is_there:
+            spelled.append(SPELLED[kind](entry.fields.get(name, name in TRUE_IF_ABSENT) if kind == "truth" else entry.fields[name]))
         else:
-            fields.append(entries.option(SPELLED[kind](members[name]) if name in members else None))
-    return entries.entry(ACTS[operation], *fields, caller=person.key, drawn=bytes(drawn))
+            spelled.append(entries.option(SPELLED[kind](entry.fields[name]) if name in entry.fields else None))
+    number = ACTS.index(entry.act) + 1 + (PRUNES if entry.prunes else 0)
+    return entries.entry(number, *spelled, caller=entry.caller, drawn=entry.drawn, moment=entry.moment)
+
+
+class NotSpelled(Exception):
+    """The bytes are no entry."""
+
+
+class Fields:
+    """The fields of an entry, read from its bytes one after the other."""
+
+    def __init__(self, body):
+        self.rest = body
+
+    def take(self, count):
+        if count > len(self.rest):
+            raise NotSpelled
+        taken, self.rest = self.rest[:count], self.rest[count:]
+        return taken
+
+    def byte(self, *known):
+        found = self.take(1)[0]
+        if found not in known:
+            raise NotSpelled
+        return found
+
+    def integer(self):
+        return int.from_bytes(self.take(8), "big", signed=True)
+
+    def count(self):
+        return int.from_bytes(self.take(4), "big")
+
+    def octets(self):
+        return self.take(self.count())
+
+    def text(self, spelling=None):
+        try:
+            found = self.octets().decode("utf-8")
+        except ValueError:
+            raise NotSpelled
+        if spelling and not spelling.fullmatch(found):
+            raise NotSpelled
+        return found
+
+    def option(self, read):
+        """What is read as a list of one, or of none where it is not there."""
+        return [read()] if self.byte(0, 1) else []
+
+    def items(self, read):
+        return [read() for _ in range(self.count())]
+
+    def answer(self):
+        kind = self.byte(1, *ANSWERS.values())
+        if kind == 1:
+            return self.text() if self.byte(1, 2) == 1 else self.octets()
+        return next(answer for answer, number in ANSWERS.items() if number == kind)
+
+    def of_kind(self, kind):
+        readers = {
+            "answer": self.answer,
+            "arn": lambda: self.text(ARN),
+            "attempt": lambda: self.byte(1, 2, 3, 4, 5),
+            "bytes": self.octets,
+            "integer": self.integer,
+            "rules": lambda: Rules(*self.option(self.integer) or [None]),
+            "stage": lambda: STAGES[self.byte(1, 2, 3, 4) - 1],
+            "tags": lambda: self.items(lambda: (self.text(), self.text())),
+            "text": self.text,
+            "texts": lambda: self.items(self.text),
+            "token": lambda: self.text(TOKEN),
+            "truth": lambda: self.byte(0, 1) == 1,
+        }
+        return readers[kind]()
+
+    def entry(self):
+        moment, caller, drawn = self.integer(), self.text(), self.octets()
+        tag = self.take(1)[0]
+        number = tag % PRUNES
+        if not 0 <= moment <= LAST_MOMENT or not 1 <= number <= len(ACTS):
+            raise NotSpelled
+        act = ACTS[number - 1]
+        # A start has the bytes of its token, an answer none, and nobody asked for either.
+        if act in UNASKED and (caller or len(drawn) != (16 if act == "Begun" else 0)):
+            raise NotSpelled
+        fields = {}
+        for name, is_there, kind in fields_of(act):
+            found = [self.of_kind(kind)] if is_there else self.option(lambda: self.of_kind(kind))
+            fields |= {name: it for it in found}
+        if self.rest:
+            raise NotSpelled
+        return Entry(moment, caller, drawn, tag >= PRUNES, act, fields)
+
+
+class Damaged(Exception):
+    """A journal is damaged: the place of a record's gate, the number of records before it, what is wrong there, and the account so far."""
+
+    def __init__(self, place, number, why, account=None):
+        super().__init__(place, number, why)
+        self.place, self.number, self.why = place, number, why
+        self.account = account or Account()
+
+
+def records_of(data):
+    """The place and the body of each record of a journal's file, and the place of the gate that ends them."""
+    if len(data) <= 9:
+        return [], 8
+    if not data.startswith(HEADER):
+        raise Damaged(0, 0, "the header")
+    records, gate = [], 8
+    while data[gate] == 1:
+        length, behind = int.from_bytes(data[gate + 1 : gate + 5], "big"), gate + 5
+        if len(data) < behind or length > RECORD_LIMIT or len(data) <= behind + length:
+            raise Damaged(gate, len(records), "a record")
+        records.append((gate, data[behind : behind + length]))
+        gate = behind + length
+    return records, gate
+
+
+def entries_of(data):
+    """The place and the entry of each record of a journal's file."""
+    found = []
+    for gate, body in records_of(data)[0]:
+        try:
+            found.append((gate, Fields(body).entry()))
+        except NotSpelled:
+            raise Damaged(gate, len(found), "an entry")
+    return found
+
+
+def opened(data):
+    """The account that a journal's file holds. The whole file is read before its entries are judged."""
+    account = Account()
+    for number, (gate, entry) in enumerate(entries_of(data)):
+        try:
+            account.again(entry)
+        except Illegal:
+            raise Damaged(gate, number, entry.act, account)
+        account.reached["opened", entry.act] += 1
+    return account
+
+
+def account_of(data):
+    """The account of a journal's file, up to the first entry that is damaged."""
+    try:
+        return opened(data)
+    except Damaged as damaged:
+        return damaged.account
+
+
+def mended(data):
+    """What stands in a journal's file once it was opened: nothing behind the gate that ends its records, whatever that holds."""
+    return data[: records_of(data)[1] + 1] if len(data) > 9 else entries.journal([])
 
 
 def get(secret, members):
@@ -1046,13 +1330,14 @@ def get(secret, members):
     if value is None:
         raise refusal("version not found")
     shown = {"SecretString": value} if isinstance(value, str) else {"SecretBinary": base64.b64encode(value).decode()}
-    shown |= {"CreatedDate": NOW, "VersionId": version}
+    shown |= {"CreatedDate": secret.dates[version], "VersionId": version}
     return secret.named() | shown | {"VersionStages": secret.labels_of(version)}
 
 
 def describe(secret, members):
     staged = {version: secret.labels_of(version) for version in secret.versions if secret.labels_of(version)}
-    shown = {"CreatedDate": NOW, "LastChangedDate": NOW, "RotationEnabled": secret.is_rotated, "VersionIdsToStages": staged}
+    shown = {"CreatedDate": secret.created, "LastChangedDate": secret.changed}
+    shown |= {"RotationEnabled": secret.is_rotated, "VersionIdsToStages": staged}
     if secret.deletion is not None:
         shown["DeletedDate"] = secret.deletion
     if secret.next_rotation is not None:
@@ -1070,7 +1355,8 @@ def list_versions(secret, members):
     for number in shown:
         version = numbered[number][1]
         labels = secret.labels_of(version)
-        versions.append({"CreatedDate": NOW, "VersionId": version} | ({"VersionStages": labels} if labels else {}))
+        shown_version = {"CreatedDate": secret.dates[version], "VersionId": version}
+        versions.append(shown_version | ({"VersionStages": labels} if labels else {}))
     return secret.named() | {"Versions": versions} | following
 
 
@@ -1083,7 +1369,7 @@ def add_value(secret, token, value, labels):
     if token not in secret.versions and len(secret.versions) >= 1000:
         raise limit_of(1000, "versions")
     secret.place_all(labels, token)
-    secret.versions[token] = value
+    secret.fill(token, value)
     return True
 
 
@@ -1112,8 +1398,8 @@ def update(secret, members, drawn):
 
 def delete(secret, members, drawn):
     """The reply, and whether anything changed. A forced deletion has the moment as its date."""
-    date = NOW if members.get("ForceDeleteWithoutRecovery") else NOW + 86400 * members.get("RecoveryWindowInDays", 30)
-    secret.deletion = date
+    days = 0 if members.get("ForceDeleteWithoutRecovery") else members.get("RecoveryWindowInDays", 30)
+    secret.deletion = date = secret.account.moment + 86400 * days
     return secret.named() | {"DeletionDate": date}, True
 
 
@@ -1180,10 +1466,7 @@ def rotate(secret, members, drawn):
         if token in secret.of_rotation:
             return secret.named() | {"VersionId": token}, False
         test_start(secret, token)
-        secret.versions[token] = None
-        secret.of_rotation.add(token)
-        secret.place("AWSPENDING", token)
-        secret.job = Job(token, STAGES[0], 1, NOW)
+        secret.start(token)
     secret.is_rotated = True
     if "RotationRules" in members:
         secret.days = members["RotationRules"].days
@@ -1362,10 +1645,11 @@ def date_of(moment):
 
 def summary(account):
     """What mode check says of an account."""
+    account.begin_now()
     secrets = account.secrets
     lines = [f"secrets {len(secrets)} versions {sum(len(it.versions) for it in secrets)} entries {len(account.entries)}"]
     for it in secrets:
         state = "live" if it.deletion is None else f"until {date_of(it.deletion)}"
         job = "idle" if it.job is None else f"{it.job.stage} {it.job.attempt}"
-        lines.append(f"{it.name} {date_of(NOW)} versions {len(it.versions)} labels {len(it.labels)} {state} {job}")
+        lines.append(f"{it.name} {date_of(it.created)} versions {len(it.versions)} labels {len(it.labels)} {state} {job}")
     return "".join(line + "\n" for line in lines).encode()
