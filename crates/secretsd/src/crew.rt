@@ -1,31 +1,41 @@
-//! The workers of a server: doors over one listener, and turners.
+//! The workers of a server: a porter and doors over one listener, and turners.
 ghost use Rattle.std.specs.Prelude.{◌≡◌, ◌+◌, ◌≤◌, All, OnOk, vec_len};
 ghost use Rattle.sm_workers.specs.Workers.{IsFresh};
 
-use crate::listening::SayingListener;
+use crate::entrance::{Door, Entrance};
+use crate::hall::Hall;
+use crate::porter::Porter;
 use crate::rotators::MakeRotator;
 use sm_account::Account;
 use sm_disk::Disk;
 use sm_io::{ListenerEdge, SystemClock, SystemWords};
 use sm_model::NoMemory;
 use sm_rotator::Rotator;
-use sm_server::Status;
 use sm_workers::WorkerBy;
-use std::net::{OpenListener, TcpListener};
+use std::net::TcpListener;
+use std::sync::Wait;
 
 /// A worker of the server, with the system's clock and random source.
-pub type Hand<'a, D: Disk, R: Rotator> = WorkerBy<
-    ListenerEdge<SayingListener<'a>>,
+pub type Hand<'a, H, D: Disk, R: Rotator> = WorkerBy<
+    ListenerEdge<Entrance<'a, H>>,
     SystemClock<&'a HostRuntime>,
     SystemWords<&'a HostRuntime>,
     R,
     Account<D, R>,
 >;
 
+/// What the entrance of a server is made of.
+#[derive(Drop)]
+pub struct Ground<'a, H> {
+    pub rt: &'a HostRuntime,
+    pub threads: &'a H,
+    pub hall: &'a Hall,
+}
+
 /// Adds a worker.
-fn add<'a, D: Disk + Drop, R: Rotator + Drop>(
-    workers: &mut Vec<Hand<'a, D, R>>,
-    worker: Hand<'a, D, R>,
+fn add<'a, H, D: Disk + Drop, R: Rotator + Drop>(
+    workers: &mut Vec<Hand<'a, H, D, R>>,
+    worker: Hand<'a, H, D, R>,
 ) -> Result<(), NoMemory>
     requires fresh { IsFresh worker }
     requires all { All IsFresh workers.old.items }
@@ -36,41 +46,70 @@ fn add<'a, D: Disk + Drop, R: Rotator + Drop>(
     Ok(())
 }
 
-/// Adds so many doors, which share a listener.
-pub fn add_doors<'a, D: Disk + Drop, R: Rotator + Drop>(
+/// Adds one that stands at the entrance.
+fn add_at_entrance<'a, H: Wait, D: Disk + Drop, R: Rotator + Drop>(
     rt: &'a HostRuntime,
-    workers: &mut Vec<Hand<'a, D, R>>,
-    listener: &TcpListener,
+    workers: &mut Vec<Hand<'a, H, D, R>>,
+    entrance: Entrance<'a, H>,
+) -> Result<(), NoMemory>
+    requires all { All IsFresh workers.old.items }
+    ensures all { All IsFresh workers.new.items }
+    ensures long { OnOk result (vec_len workers.new ≡ vec_len workers.old + 1) }
+{
+    let worker = WorkerBy::door(
+        ListenerEdge::new(entrance),
+        SystemClock::new(rt),
+        SystemWords::new(rt.alloc(), rt),
+    );
+    add(workers, worker)?;
+    Ok(())
+}
+
+/// Adds a porter, who brings what a listener accepts into the hall.
+pub fn add_porter<'a, H: Wait, D: Disk + Drop, R: Rotator + Drop>(
+    ground: &Ground<'a, H>,
+    workers: &mut Vec<Hand<'a, H, D, R>>,
+    listener: &'a TcpListener,
+) -> Result<(), NoMemory>
+    requires all { All IsFresh workers.old.items }
+    ensures all { All IsFresh workers.new.items }
+    ensures long { OnOk result (vec_len workers.new ≡ vec_len workers.old + 1) }
+{
+    let porter = Porter {
+        rt: ground.rt,
+        threads: ground.threads,
+        hall: ground.hall,
+        listener,
+    };
+    add_at_entrance(ground.rt, workers, Entrance::Porter(porter))?;
+    Ok(())
+}
+
+/// Adds so many doors, which share a hall.
+pub fn add_doors<'a, H: Wait, D: Disk + Drop, R: Rotator + Drop>(
+    ground: &Ground<'a, H>,
+    workers: &mut Vec<Hand<'a, H, D, R>>,
     count: u32,
-) -> Result<(), Status>
+) -> Result<(), NoMemory>
     requires all { All IsFresh workers.old.items }
     ensures all { OnOk result (All IsFresh workers.new.items) }
     ensures long { OnOk result (vec_len workers.new ≡ vec_len workers.old + count) }
 {
     for number in 0..count {
-        let listener = match listener.try_clone() {
-            Ok(listener) => listener,
-            Err(error) => {
-                let _ = eprintln!(rt; "secretsd: no further door can be opened: {error}");
-                return Err(Status::EdgeFault);
-            }
+        let door = Door {
+            rt: ground.rt,
+            threads: ground.threads,
+            hall: ground.hall,
         };
-        let door = WorkerBy::door(
-            ListenerEdge::new(SayingListener { rt, listener }),
-            SystemClock::new(rt),
-            SystemWords::new(rt.alloc(), rt),
-        );
-        if let Err(NoMemory) = add(workers, door) {
-            return Err(Status::Memory);
-        }
+        add_at_entrance(ground.rt, workers, Entrance::Door(door))?;
     }
     Ok(())
 }
 
 /// Adds so many turners, each with a rotator of its own.
-pub fn add_turners<'a, D: Disk + Drop, M: MakeRotator>(
+pub fn add_turners<'a, H, D: Disk + Drop, M: MakeRotator>(
     rt: &'a HostRuntime,
-    workers: &mut Vec<Hand<'a, D, M::Made>>,
+    workers: &mut Vec<Hand<'a, H, D, M::Made>>,
     rotators: &M,
     count: u32,
 ) -> Result<(), NoMemory>

@@ -8,10 +8,16 @@
 
 mod crew;
 mod ending;
-mod listening;
+mod entrance;
+mod hall;
 mod orders;
+mod parting;
+mod porter;
+mod probing;
 mod rotators;
+mod served_stream;
 mod serving;
+mod timed_stream;
 
 ghost use Rattle.sm_words.specs.Reading.{IsInBounds};
 

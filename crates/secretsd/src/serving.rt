@@ -1,18 +1,39 @@
 //! Mode serve: workers at an address.
+ghost use Rattle.std.specs.Prelude.{◌≡◌, ◌+◌, All, OnOk, vec_len};
 ghost use Rattle.sm_words.specs.Reading.{IsInBounds};
+ghost use Rattle.sm_workers.specs.Workers.{IsFresh};
 
-use crate::crew::{Hand, add_doors, add_turners};
+use crate::crew::{Ground, Hand, add_doors, add_porter, add_turners};
+use crate::hall::Hall;
 use crate::orders::{Orders, empty_disk};
+use crate::probing::has_threads;
 use crate::rotators::{Linked, Local, MakeRotator};
 use sm_disk::{Disk, FileDisk};
 use sm_model::{Copied, NoMemory};
 use sm_server::{RanBy, Status, run_server};
+use sm_words::Settings;
 use std::net::TcpListener;
 use std::sync::Wait;
 use std::thread::Threads;
 
-/// Listens at the address that the words name, and serves until a signal ends the program.
+/// Serves until a signal ends the program, where the system has a thread for each worker.
 pub fn serve<H: Threads + Wait + Sync>(rt: &HostRuntime, threads: &H, orders: &Orders) -> Status
+    requires { IsInBounds orders.now.settings.now }
+{
+    // This thread works too, so one for the porter is not counted.
+    let count = orders.settings.connections + orders.settings.workers;
+    if has_threads(threads, count) {
+        listen(rt, threads, orders)
+    } else {
+        let _ = eprintln!(rt;
+            "secretsd: the {count} threads for the connections and rotations can't be made"
+        );
+        Status::EdgeFault
+    }
+}
+
+/// Listens at the address that the words name, and serves there.
+fn listen<H: Threads + Wait + Sync>(rt: &HostRuntime, threads: &H, orders: &Orders) -> Status
     requires { IsInBounds orders.now.settings.now }
 {
     let address = orders.settings.listen.as_str();
@@ -120,11 +141,14 @@ fn serve_with<D: Disk + Drop + Send, M: MakeRotator, H: Threads + Wait + Sync>(
 ) -> Status
     requires { IsInBounds orders.now.settings.now }
 {
-    let mut workers: Vec<Hand<D, M::Made>> = Vec::new(rt.alloc());
-    if let Err(status) = add_doors(rt, &mut workers, listener, orders.settings.connections) {
-        return status;
-    }
-    if let Err(NoMemory) = add_turners(rt, &mut workers, rotators, orders.settings.workers) {
+    let hall = Hall::new();
+    let ground = Ground {
+        rt,
+        threads,
+        hall: &hall,
+    };
+    let mut workers: Vec<Hand<H, D, M::Made>> = Vec::new(rt.alloc());
+    if let Err(NoMemory) = add_all(&ground, &mut workers, listener, rotators, orders.settings) {
         return Status::Memory;
     }
     let ran = run_server(
@@ -139,4 +163,22 @@ fn serve_with<D: Disk + Drop + Send, M: MakeRotator, H: Threads + Wait + Sync>(
         RanBy::Opened(status, _) => status,
         RanBy::Unopened(status, _) => status,
     }
+}
+
+/// Adds all workers that the settings ask for: a porter, doors and turners.
+fn add_all<'a, H: Wait, D: Disk + Drop, M: MakeRotator>(
+    ground: &Ground<'a, H>,
+    workers: &mut Vec<Hand<'a, H, D, M::Made>>,
+    listener: &'a TcpListener,
+    rotators: &M,
+    settings: &Settings,
+) -> Result<(), NoMemory>
+    requires none { vec_len workers.old ≡ 0 }
+    ensures all { OnOk result (All IsFresh workers.new.items) }
+    ensures long { OnOk result (vec_len workers.new ≡ 1 + settings.now.connections + settings.now.workers) }
+{
+    add_porter(ground, workers, listener)?;
+    add_doors(ground, workers, settings.connections)?;
+    add_turners(ground.rt, workers, rotators, settings.workers)?;
+    Ok(())
 }

@@ -1,0 +1,48 @@
+//! How connections come in: a porter accepts them, and doors serve them.
+use crate::hall::Hall;
+use crate::porter::Porter;
+use crate::served_stream::ServedStream;
+use crate::timed_stream::TimedStream;
+use std::io;
+use std::io::ErrorKind;
+use std::net::{OpenListener, SocketAddr};
+use std::sync::Wait;
+
+/// A door, which has the connections that wait in the hall.
+#[derive(Drop)]
+pub struct Door<'a, H> {
+    pub rt: &'a HostRuntime,
+    pub threads: &'a H,
+    pub hall: &'a Hall,
+}
+
+impl<'a, H: Wait> Door<'a, H> {
+    /// The next connection, or that no more will come.
+    fn next(&self) -> io::Result<(ServedStream<'a>, SocketAddr)> {
+        match self.hall.receive(self.threads) {
+            Some((stream, address)) => {
+                let stream = TimedStream::new(self.rt, self.hall, stream);
+                Ok((ServedStream::new(stream), address))
+            }
+            None => Err(io::Error::from(ErrorKind::NotConnected)),
+        }
+    }
+}
+
+/// What a worker does at the entrance. The porter has a seat among the doors, but no connection of its own.
+#[derive(Drop)]
+pub enum Entrance<'a, H> {
+    Porter(Porter<'a, H>),
+    Door(Door<'a, H>),
+}
+
+impl<'a, H: Wait> OpenListener for Entrance<'a, H> {
+    type Stream = ServedStream<'a>;
+
+    fn accept(&self) -> io::Result<(ServedStream<'a>, SocketAddr)> {
+        match self {
+            Entrance::Porter(porter) => Err(porter.keep()),
+            Entrance::Door(door) => door.next(),
+        }
+    }
+}
