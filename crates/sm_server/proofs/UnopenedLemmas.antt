@@ -124,7 +124,7 @@ module _ {D : Type 0} (G : Ghosts D) (replies : Replies) (task : Task) (people :
         runs_still replies task people before after still statuses.Memory
             (memory_ended replies task people before after still),
         inr (inl refused),
-        λ wants. inl (refl, (refl, refl, refl), inr refused),
+        λ wants. inl (refl, (refl, refl, refl), inr (tt, refused)),
         none_vouched replies,
       )
 
@@ -252,7 +252,9 @@ module _ (replies : Replies) (task : Task) (people : Persons) where
 pub wants_more : {D : Type 0} (G : Ghosts D) {Less More : Type 0} (story : Story) (input : List ℕ) (trace : Trace)
     (old new : D) → (Less → More) → WantsBy G Less story input trace old new
     → WantsBy G More story input trace old new
-wants_more G story input trace old new further (inl none) = inl none
+wants_more G story input trace old new further (inl (unread, undone, inl same)) = inl (unread, undone, inl same)
+wants_more G story input trace old new further (inl (unread, undone, inr (followed, refused))) =
+    inl (unread, undone, inr (further followed, refused))
 wants_more G story input trace old new further (inr (followed, records)) = inr (further followed, records)
 
 -- words that are followed

@@ -65,11 +65,12 @@ Leaves G Memory story old new = (new ≡ old) ⊎ (IsRefused G old (refusals.Mem
 Leaves G status story old new = Records G story old new
 
 -- A run that ended for want of memory either opened no account: it read no byte and made no mark, nothing was written,
--- read from the clock or drawn, and the disk has what such an opening leaves; or it had come this far, and the disk has
--- its story.
+-- read from the clock or drawn, and the disk is as it was, or, once it had come this far, as such an opening leaves it;
+-- or it had come this far, and the disk has its story.
 abbrev pub WantsBy : {D : Type 0} → Ghosts D → Type 0 → Story → List ℕ → Trace → D → D → Type 0
 WantsBy G Followed story input trace old new =
-    ((input ≡ []) × NothingDone story.history trace × ((new ≡ old) ⊎ IsRefused G old (refusals.Memory new)))
+    ((input ≡ []) × NothingDone story.history trace
+    × ((new ≡ old) ⊎ (Followed × IsRefused G old (refusals.Memory new))))
     ⊎ (Followed × Records G story old new)
 
 -- If each attempt that a recovered secret remembers is one at which its rotator may have accepted the test, this is so
