@@ -1,6 +1,5 @@
 //! What lists share: items with the numbers of their keys.
-ghost use Rattle.std.specs.Prelude.{◌≡◌, IfOk, nat_eq};
-ghost use Rattle.std.specs.Cmp.Lexicographic.{pointwise};
+ghost use Rattle.std.specs.Prelude.{◌≡◌, IfOk};
 ghost use Rattle.sm_base.specs.Sums.{mixed, sum_of};
 
 use crate::memory::NoMemory;
@@ -57,13 +56,11 @@ impl<T: Keyed> Entry<T> {
         })
     }
 
-    /// Whether the item has the key with this number. An item with another number is not looked at.
-    #[tactic(auto, using(crate::proofs::SharedLemmas::other_key))]
-    pub(crate) fn has_key(&self, sum: u32, key: &[u8]) -> bool
-        requires { sum ≡ sum_of key.now }
-        ensures { result ≡ pointwise nat_eq (T.key self.now) key.now }
+    /// The number of the item's key.
+    pub(crate) fn sum(&self) -> u32
+        ensures { result ≡ sum_of (T.key self.now) }
     {
-        self.sum == sum && self.item.key() == key
+        self.sum
     }
 }
 

@@ -135,7 +135,7 @@ impl<T: Keyed> Runs<T> {
     }
 
     /// How many entries there are, where a place can say it.
-    fn len(&self) -> Result<usize, NoMemory>
+    pub(crate) fn len(&self) -> Result<usize, NoMemory>
         ensures { IfOk result (λ len. len ≡ length self.now) }
     {
         let Some(shared) = self.first.len().checked_add(self.middle.len()) else {
@@ -192,18 +192,16 @@ impl<T: Keyed + Drop> Runs<T> {
         })
     }
 
-    /// Adds an entry at the end, and says its place. Without memory the entries stay.
-    pub(crate) fn add(&mut self, alloc: Global, entry: Entry<T>) -> Result<usize, NoMemory>
-        ensures place { IfOk result (λ place. place ≡ length self.old) }
+    /// Adds an entry at the end. Without memory the entries stay.
+    pub(crate) fn add(&mut self, alloc: Global, entry: Entry<T>) -> Result<(), NoMemory>
         ensures ok { OnOk result (self.new ≡ self.old ++ entry ∷ []) }
         ensures err { OnErr result (self.new ≡ self.old) }
     {
-        let place = self.len()?;
         if self.own.len() >= OWN {
             self.share_own(alloc)?;
         }
         self.own.push(entry)?;
-        Ok(place)
+        Ok(())
     }
 
     /// Moves what the list has of its own to the middle run.

@@ -3,6 +3,7 @@ ghost use Rattle.std.specs.Prelude.{◌≡◌, ℕ, ◌<◌, ◌++◌, ◌∷◌
 ghost use Rattle.std.specs.Cmp.Lexicographic.{pointwise};
 ghost use Rattle.std.specs.List.{find, position};
 ghost use Rattle.sm_base.specs.Runs.{passes};
+ghost use Rattle.sm_base.specs.Sums.{sum_of};
 
 use crate::entry::{Entry, Keyed, sum_of};
 use crate::memory::{Copied, NoMemory};
@@ -21,25 +22,44 @@ pub trait Picks<T> {
         ensures { result ≡ picked self.now item.now };
 }
 
+/// Where an item stands among those that a list knows, with the number of its key: most items are passed over by that.
+#[derive(Clone, Copy)]
+struct Place {
+    sum: u32,
+    at: u32,
+}
+
+impl Place {
+    fn of(sum: u32, at: usize) -> Result<Place, NoMemory>
+        ensures { IfOk result (λ place. (place.sum ≡ sum) × (place.at ≡ at)) }
+    {
+        match u32::try_from(at) {
+            Ok(at) => Ok(Place { sum, at }),
+            Err(_) => Err(NoMemory),
+        }
+    }
+}
+
 /// A list of items in order, which contracts see as the list itself. A copy shares the items of its original: it costs
 /// their places and a few counts. The numbers of the keys spare most looks at the keys.
 #[derive(Drop)]
 pub struct SharedList<T: Keyed> {
     /// Where the items stand among those that the list knows, in order.
-    places: Vec<usize>,
+    places: Vec<Place>,
     /// The items, and some that were taken out or replaced since all were gathered.
     known: Runs<T>,
 }
 
 impl<T: Keyed> Model for SharedList<T> {
-    ghost use Rattle.std.specs.Prelude.{List, length};
-    ghost use Rattle.sm_base.specs.Runs.{Below, picked};
+    ghost use Rattle.std.specs.Prelude.{List, map};
+    ghost use Rattle.sm_base.specs.Runs.{AreKnown, picked};
+    ghost use Rattle.sm_base.specs.Sums.{sum_of};
 
     ghost Value = { List T };
 
-    ghost view = { λ l. picked l.known l.places.items };
+    ghost view = { λ l. picked l.known (map (λ place. place.at) l.places.items) };
 
-    ghost invariant = { λ l. Below (length l.known) l.places.items };
+    ghost invariant = { λ l. AreKnown (λ item. sum_of (T.key item)) l.known l.places.items };
 }
 
 impl<T: Keyed> SharedList<T> {
@@ -53,19 +73,19 @@ impl<T: Keyed> SharedList<T> {
         }
     }
 
-    #[tactic(auto, using(crate::proofs::PlaceLemmas::length_picked))]
+    #[tactic(auto, using(crate::proofs::PlaceLemmas::length_known))]
     pub fn len(&self) -> usize
         ensures { result ≡ length self.now }
     {
         self.places.len()
     }
 
-    #[tactic(auto, using(crate::proofs::PlaceLemmas::got_picked, crate::proofs::PlaceLemmas::past_picked))]
+    #[tactic(auto, using(crate::proofs::PlaceLemmas::got_known, crate::proofs::PlaceLemmas::past_known))]
     fn entry(&self, place: usize) -> Option<&Entry<T>>
         ensures { option_copied result ≡ slice_get self.now place }
     {
         if place < self.places.len() {
-            self.known.get(self.places[place])
+            self.known.get(self.places[place].at as usize)
         } else {
             None
         }
@@ -96,19 +116,36 @@ impl<T: Keyed> SharedList<T> {
 
     /// The place of the first item with the key, and nothing where no item has it. An item with another key is looked
     /// at only where both have the same number.
-    #[tactic(auto, using(crate::proofs::PlaceLemmas::not_upto, crate::proofs::PlaceLemmas::there_upto, crate::proofs::PlaceLemmas::found_at))]
+    #[tactic(auto, using(crate::proofs::PlaceLemmas::not_passed, crate::proofs::PlaceLemmas::passed_at))]
     pub fn position(&self, key: &[u8]) -> Option<usize>
         ensures { result ≡ position (λ item. pointwise nat_eq (T.key item) key.now) self.now }
     {
         let sum = sum_of(key);
         for at in 0..self.len() {
-            if let Some(entry) = self.entry(at) {
-                if entry.has_key(sum, key) {
-                    return Some(at);
-                }
+            if self.has_key(at, sum, key) {
+                return Some(at);
             }
         }
         None
+    }
+
+    /// Whether there is an item at a place, and it has the key with this number. An item with another number is not
+    /// looked at.
+    #[tactic(auto, using(crate::proofs::PlaceLemmas::other_number, crate::proofs::PlaceLemmas::past_known))]
+    fn has_key(&self, place: usize, sum: u32, key: &[u8]) -> bool
+        requires { sum ≡ sum_of key.now }
+        ensures { result ≡ passes (λ item. pointwise nat_eq (T.key item) key.now) (slice_get self.now place) }
+    {
+        if place >= self.places.len() {
+            return false;
+        }
+        if self.places[place].sum != sum {
+            return false;
+        }
+        match self.entry(place) {
+            Some(entry) => entry.item().key() == key,
+            None => false,
+        }
     }
 
     /// The first item with the key.
@@ -125,21 +162,22 @@ impl<T: Keyed> SharedList<T> {
 
 impl<T: Keyed + Drop> SharedList<T> {
     /// Adds an item at the end. Without memory the list stays, and the item is dropped.
-    #[tactic(auto, using(crate::proofs::PlaceLemmas::pushed, crate::proofs::PlaceLemmas::stays_picked, crate::proofs::PlaceLemmas::pushed_known, crate::proofs::PlaceLemmas::stays_known))]
+    #[tactic(auto, using(crate::proofs::PlaceLemmas::pushed_is, crate::proofs::PlaceLemmas::pushed_known, crate::proofs::PlaceLemmas::stays_is, crate::proofs::PlaceLemmas::stays_known))]
     pub fn push(&mut self, alloc: Global, item: T) -> Result<(), NoMemory>
         ensures ok { OnOk result (self.new ≡ self.old ++ item ∷ []) }
         ensures err { OnErr result (self.new ≡ self.old) }
     {
         let entry = Entry::new(alloc, item)?;
         self.make_room(alloc)?;
-        let place = self.known.add(alloc, entry)?;
-        self.places.push(place)?;
+        let last = Place::of(entry.sum(), self.known.len()?)?;
+        self.known.add(alloc, entry)?;
+        self.places.push(last)?;
         Ok(())
     }
 
     /// Puts an item at a place. The one that stood there stays in the copies. Without memory the list stays, and the
     /// item is dropped.
-    #[tactic(auto, using(crate::proofs::PlaceLemmas::replaced, crate::proofs::PlaceLemmas::length_picked, crate::proofs::PlaceLemmas::replaced_known))]
+    #[tactic(auto, using(crate::proofs::PlaceLemmas::replaced_is, crate::proofs::PlaceLemmas::replaced_known, crate::proofs::PlaceLemmas::stays_is, crate::proofs::PlaceLemmas::stays_known, crate::proofs::PlaceLemmas::length_known))]
     pub fn replace(&mut self, alloc: Global, place: usize, item: T) -> Result<(), NoMemory>
         requires { place < length self.old }
         ensures ok { OnOk result (self.new ≡ slice_set self.old place item) }
@@ -147,8 +185,9 @@ impl<T: Keyed + Drop> SharedList<T> {
     {
         let entry = Entry::new(alloc, item)?;
         self.make_room(alloc)?;
-        let known = self.known.add(alloc, entry)?;
-        self.places[place] = known;
+        let last = Place::of(entry.sum(), self.known.len()?)?;
+        self.known.add(alloc, entry)?;
+        self.places[place] = last;
         Ok(())
     }
 
@@ -159,7 +198,7 @@ impl<T: Keyed + Drop> SharedList<T> {
     {
         let known = &self.known;
         self.places
-            .retain(|place| is_picked(known.get(*place), picks));
+            .retain(|place| is_picked(known.get(place.at as usize), picks));
     }
 
     /// Gathers the items where many were added since that was done last. Without memory the list stays.
@@ -199,14 +238,14 @@ impl<T: Keyed + Drop> SharedList<T> {
     }
 
     /// The list of the items of some entries.
-    #[tactic(auto, using(crate::proofs::PlaceLemmas::all_picked, crate::proofs::PlaceLemmas::upto_below))]
+    #[tactic(auto, using(crate::proofs::PlaceLemmas::upto_more, crate::proofs::PlaceLemmas::numbered_more, crate::proofs::PlaceLemmas::all_known, crate::proofs::PlaceLemmas::all_are))]
     fn of(alloc: Global, entries: Vec<Entry<T>>) -> Result<SharedList<T>, NoMemory>
         ensures { IfOk result (λ list. list ≡ entries.items) }
     {
         // (with room for one more)
         let mut places = Vec::with_capacity(alloc, entries.len() + 1)?;
-        for place in 0..entries.len() {
-            places.push(place)?;
+        for at in 0..entries.len() {
+            places.push(Place::of(entries[at].sum(), at)?)?;
         }
         let known = Runs::of(alloc, entries)?;
         Ok(SharedList { places, known })
