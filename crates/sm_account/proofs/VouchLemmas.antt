@@ -1,6 +1,7 @@
 -- The secrets of an account stay vouched.
 use Rattle.std.proofs.Common.{◌≡◌, ◌≤◌, List, [], ◌∷◌, ◌++◌, Option, Some, None, IfSome, refl, sym, ap, ◌∙◌, subst, arith}
-use Rattle.std.proofs.Math.Logic.{∥∥₁_map₂}
+use Rattle.std.proofs.Math.Logic.{∥∥₁_elim, ∥∥₁_map₂}
+use Rattle.std.proofs.Props.{props}
 use Rattle.sm_base.specs.declared.moment.Moment.{Moment}
 use Rattle.sm_base.specs.declared.moment.TheConstants.{LAST_READING}
 use Rattle.sm_disk.specs.declared.disk.Disk.{Ghosts}
@@ -48,6 +49,10 @@ in_time rows before (entry ∷ list) legal early =
     let rest = moments_rise (effect rows entry) entry.moment list legal.2 in
     (omega (arith, rest, early), in_time (effect rows entry) entry.moment list legal.2 early)
 
+in_time_prop : (list : List Entry) → IsProp (InTime list)
+in_time_prop [] = Prim.hlevel props
+in_time_prop (entry ∷ list) = Prim.hlevel (in_time_prop list, props)
+
 no_rows_sound : Sound no_rows
 no_rows_sound = record { serials = refl; names = refl; count = omega arith; each = tt }
 
@@ -75,6 +80,12 @@ module _ {D : Type 0} {G : Ghosts D} (replies : Replies) (books : Books D G) (ke
 
   all_early : (last_moment (last_moment first_moment taken) made).0 ≤ LAST_READING
   all_early = subst (λ (m : Moment). m.0 ≤ LAST_READING) last_is kept.bound
+
+  -- no entry was made after the last moment
+  pub all_in_time : InTime (all_entries books)
+  all_in_time = ∥∥₁_elim kept.legal (in_time_prop (all_entries books))
+      (λ legal. in_time no_rows first_moment (all_entries books) legal
+      (subst (λ (m : Moment). m.0 ≤ LAST_READING) (last_of_all books kept) kept.bound))
 
   module _ (legal : IsLegal (all_entries books)) where
     later_legal : Legal (base_in books).rows (last_moment first_moment taken) made

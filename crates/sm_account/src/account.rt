@@ -60,7 +60,7 @@ impl<D: Disk, R: Rotator> Account<D, R> {
     ghost use Rattle.sm_account.specs.StartDue.{StartsAs, start_at, started_by};
     ghost use Rattle.sm_account.specs.Values.{value_labelled};
     ghost use Rattle.sm_claims.specs.Due.{has_due};
-    ghost use Rattle.sm_core.specs.Histories.{later, replay, Legal};
+    ghost use Rattle.sm_core.specs.Histories.{later, replay, InTime, Legal};
 
     /// An account over books of which all holds that is kept.
     pub(crate) fn over(books: Books<D>, doors: u32) -> Account<D, R>
@@ -174,8 +174,10 @@ impl<D: Disk, R: Rotator> Account<D, R> {
         // The tail is unsure exactly where there is such an entry.
         ensures unsure { is_unsure self.now ≡ is_some (failed self.now) }
 
-        // Both lists are legal; the rows are those that the history makes of the base, and they are sound.
+        // Both lists are legal, and no entry was made after the last moment; the rows are those that the history makes
+        // of the base, and they are sound.
         ensures legal { ∥ IsLegal (all_of self.now) ∥₁ }
+        ensures in_time { InTime (all_of self.now) }
         ensures next { ∥ MayFollowIf (all_of self.now) (failed self.now) ∥₁ }
         ensures rows { rows self.now ≡ replay (base self.now).rows (entries_in (history self.now)) }
         ensures sound { Sound (rows self.now) }

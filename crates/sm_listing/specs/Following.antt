@@ -16,7 +16,7 @@ abbrev pub all_shown : List Listed → List ℕ
 all_shown [] = []
 all_shown (listed ∷ pages) = listed.serials ++ all_shown pages
 
--- each is above the first, and below the bound of a serial
+-- each is above the first
 abbrev pub EachAbove : ℕ → List ℕ → Type 0
 EachAbove first [] = Unit {0}
 EachAbove first (serial ∷ serials) = (first < serial) × EachAbove first serials

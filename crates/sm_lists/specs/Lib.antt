@@ -1,4 +1,5 @@
 pub mod Pages
+pub mod Following
 pub mod BatchGetSecretValue
 pub mod GetRandomPassword
 pub mod ListSecretVersionIds

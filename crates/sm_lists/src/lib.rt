@@ -3,6 +3,7 @@
 #![tactic(auto)]
 
 pub mod batch_get_secret_value;
+pub mod following;
 pub mod get_random_password;
 pub mod list_secret_version_ids;
 pub mod list_secrets;

@@ -132,6 +132,7 @@ module _ {E K C W R A O D : Type 0} {g : StoriedGhosts A O Mark} (views : Views 
             ∙ ap (λ (t : List Entry). base_of t JOURNAL_LIMIT) (sym left.taken_stays);
         images = left.images;
         legal = left.legal;
+        in_time = left.in_time;
         next = left.next;
         risen = λ there. risen_for (failed after) (G.faults first) (faults_in (history after)) (G.faults (disk after))
             there left.told faults;

@@ -24,8 +24,7 @@ use Rattle.sm_server.specs.Outside.{Outside, Trace, Passed}
 use Rattle.sm_server.specs.Turns.{Brought, Turns}
 
 -- what a run does, what its rotator may reply, who may ask, what its account goes on from, over how many entries, and
--- the
--- history since
+-- the history since
 pub record Course : Type 0 where
   pub task : Task
   pub replies : Replies

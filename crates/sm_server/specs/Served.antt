@@ -19,6 +19,7 @@ use Rattle.sm_account.specs.Books.{IsLegal, FaultsBound, MayFollowIf, faults_of}
 use Rattle.sm_account.specs.History.{faults_in}
 use Rattle.sm_account.specs.Openings.{IsRefused}
 use Rattle.sm_account.specs.States.{base_of}
+use Rattle.sm_core.specs.Histories.{InTime}
 use Rattle.sm_words.specs.declared.settings.Mode.{Mode}
 use Rattle.sm_words.specs.declared.settings.Mode.TheVariants.{Exec, Serve, Check, Drill}
 use Rattle.sm_words.specs.declared.settings.Settings.{Settings}
@@ -104,7 +105,7 @@ module _ {E K C W R A O D : Type 0} {g : StoriedGhosts A O Mark} (views : Views 
 
   -- What workers leave of an account: what it was opened over. Each image of the disk recovers to all of its entries,
   -- or, while the last write may have failed, perhaps to these and one more, whose fault the history has. Both lists
-  -- are legal.
+  -- are legal, and no entry was made after the last moment.
   pub record LeavesAt (people : Persons) (before after : Account D R G V) (status : Status)
       (old new : List (WorkerBy E C W R A O Mark g)) : Type 0 where
     pub taken_stays : taken after ≡ taken before
@@ -112,6 +113,7 @@ module _ {E K C W R A O D : Type 0} {g : StoriedGhosts A O Mark} (views : Views 
     pub base_stays : base after ≡ base before
     pub images : EachHas JOURNAL (HasEither (all_of after) (failed after)) (G.sight (disk after)).images
     pub legal : ∥ IsLegal (all_of after) ∥₁
+    pub in_time : InTime (all_of after)
     pub next : ∥ MayFollowIf (all_of after) (failed after) ∥₁
     pub told : faults_of (failed after) ≤ faults_in (history after)
     pub faults : FaultsBound (G.faults (began after)) (history after) (G.faults (disk after))
@@ -126,6 +128,7 @@ module _ {E K C W R A O D : Type 0} {g : StoriedGhosts A O Mark} (views : Views 
     pub base_is : base account ≡ base_of (taken account) JOURNAL_LIMIT
     pub images : EachHas JOURNAL (HasEither (all_of account) (failed account)) (G.sight (disk account)).images
     pub legal : ∥ IsLegal (all_of account) ∥₁
+    pub in_time : InTime (all_of account)
     pub next : ∥ MayFollowIf (all_of account) (failed account) ∥₁
     pub risen : IsSome (failed account) → Rose (G.faults first) (G.faults (disk account))
     pub faults : FaultsBound (G.faults first) (history account) (G.faults (disk account))

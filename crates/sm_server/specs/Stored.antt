@@ -15,7 +15,7 @@ use Rattle.sm_account.specs.Openings.{IsRefused}
 use Rattle.sm_server.specs.declared.status.Status.{Status}
 use Rattle.sm_server.specs.declared.status.Status.TheVariants.{Words, Damaged, OpenFault, Memory, People, NotBuilt}
 use Rattle.sm_core.specs.Effects.{effect}
-use Rattle.sm_core.specs.Histories.{no_rows, replay}
+use Rattle.sm_core.specs.Histories.{InTime, no_rows, replay}
 use Rattle.sm_core.specs.Vouching.{Vouched}
 use Rattle.sm_rotation.specs.Vouched.{Replies}
 use Rattle.sm_spells.specs.Spells.{History}
@@ -27,12 +27,13 @@ abbrev pub all_of : Story → List Entry
 all_of story = story.taken ++ entries_in story.history
 
 -- Each image of the disk now recovers to all entries of the story, or, only where the disk's count rose since old, to
--- these and the one whose write failed last. Both lists are legal. The history has at most as many faults as the count
--- rose by.
+-- these and the one whose write failed last. Both lists are legal, and no entry was made after the last moment. The
+-- history has at most as many faults as the count rose by.
 pub record Stands {D : Type 0} (G : Ghosts D) (story : Story) (old now : D) : Type 0 where
   pub images : EachHas JOURNAL (HasEither (all_of story) story.failed) (G.sight now).images
   pub cause : IsSome story.failed → Rose (G.faults old) (G.faults now)
   pub legal : ∥ IsLegal (all_of story) ∥₁
+  pub in_time : InTime (all_of story)
   pub next : ∥ MayFollowIf (all_of story) story.failed ∥₁
   pub faults : FaultsBound (G.faults old) story.history (G.faults now)
 

@@ -23,8 +23,7 @@ abbrev pub seat : ℕ
 seat = 1
 
 -- What one message brought, with the rotation turns behind it: what was told, its reply, the marks, and how the counts
--- of
--- the disk, of the random source and of the rotator grew.
+-- of the disk, of the random source and of the rotator grew.
 pub record Turn : Type 0 where
   pub told : Told
   pub reply : Answered

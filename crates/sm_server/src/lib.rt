@@ -4,6 +4,7 @@
 mod answering;
 mod asked;
 mod checking;
+pub mod laws;
 mod run;
 pub mod serving;
 mod status;

@@ -53,6 +53,7 @@ returns-clause-ran g c =
       cause = cause_since (failed old) (failed new) first (g.D.Disk.faults (disk old)) (g.D.Disk.faults (disk new))
           c.requires.sure answered.ensures.unsure c.requires.later;
       legal = c.standing.ensures.legal;
+      in_time = c.standing.ensures.in_time;
       next = c.standing.ensures.next;
       faults = subst (λ d. FaultsBound (g.D.Disk.faults d) (history new) (g.D.Disk.faults (disk new)))
           answered.ensures.origin.began_stays c.standing.ensures.faults;

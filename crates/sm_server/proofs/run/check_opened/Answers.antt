@@ -33,6 +33,7 @@ returns-clause-stands g c people =
       images = standing.images;
       cause = λ some. absurd (let h : is_some (failed c.args.account) ≡ false = ap is_some c.requires.sure in cc);
       legal = standing.legal;
+      in_time = standing.in_time;
       next = standing.next;
       faults = standing.faults;
     }

@@ -11,6 +11,7 @@ returns-in-Ok g c =
         base_stays = origin.2;
         images = c.standing.ensures.images;
         legal = c.standing.ensures.legal;
+        in_time = c.standing.ensures.in_time;
         next = c.standing.ensures.next;
         told = c.standing.ensures.told;
         faults = c.standing.ensures.faults;
