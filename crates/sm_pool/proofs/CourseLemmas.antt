@@ -16,9 +16,11 @@ use Rattle.sm_pool.specs.declared.done.Done.{Done}
 use Rattle.sm_pool.specs.declared.done.Done.TheVariants as ends
 use Rattle.sm_pool.specs.declared.done.Trouble.{Trouble}
 use Rattle.sm_pool.specs.declared.done.Trouble.TheVariants as troubles
+use Rattle.sm_pool.specs.Asking.{Asking, Asks, IsUnasked}
 use Rattle.sm_pool.specs.Ends.{due_ends, report_ends}
 use Rattle.sm_pool.specs.Holds.{ReportHeld, StartHeld, hold_of}
 use Rattle.sm_pool.specs.Turns.{Asked, Begins, Count, HasRisen, IsOfDraw, OnWords, StartDone, Telling, Tells, Unasked, Undrawn, WorkDone}
+use Rattle.sm_pool.proofs.AskingLemmas.{unasked_none}
 use Rattle.sm_pool.proofs.HoldLemmas.{spell_one}
 use Rattle.sm_spells.proofs.KnownLemmas.{append_known-nil}
 
@@ -26,32 +28,41 @@ module _ (base : Base) (gap : History → History → Type 0) (still : (h : Hist
   module _ (replies : Replies) where
     -- the rotator was asked, and its answer reported
     pub reported_work : (asked work : Work) → asked ≡ work → (answer : Answer) (reported : Reported) (now : Moment)
-        (clock : Telling) (rotator : Count) (from to : History) (done : Done)
+        (clock : Telling) (asking : Asking) (rotator : Count) (from to : History) (done : Done)
         → ReportHeld base gap seat from to now asked answer reported
         → replies asked.arn asked.at asked.current asked.pending answer ≡ true → Tells clock (now.0 ∷ [])
+        → Asks asking (record { work = asked; answer = answer } ∷ [])
         → (answer ≡ answers.Failed → HasRisen rotator) → done ≡ report_ends asked reported
-        → WorkDone replies base gap seat work clock rotator from to done
-    reported_work asked work same answer reported now clock rotator from to done held allowed told failed is =
+        → WorkDone replies base gap seat work clock asking rotator from to done
+    reported_work asked work same answer reported now clock asking rotator from to done held allowed told asks fails e =
         let hold = hold_of held.before now
         (reported_by reported (report_at (state_at base held.before) now asked answer)) in
-        subst (λ w. WorkDone replies base gap seat w clock rotator from to done) same (record {
+        subst (λ w. WorkDone replies base gap seat w clock asking rotator from to done) same (record {
           course = Asked answer hold reported;
           does = record {
             is = (allowed, (held.reports, refl));
-            done_is = is;
+            done_is = e;
             readings = told;
-            failed = failed;
+            asks = asks;
+            failed = fails;
           };
           spell = spell_one gap seat still from to hold held.held;
         })
 
     -- it was not asked
-    pub unasked_work : (work : Work) (known : Option (List ℕ)) (rotator : Count) (from : History)
-        → WorkDone replies base gap seat work (record { before = known; after = known }) rotator from from
+    pub unasked_work : (work : Work) (known : Option (List ℕ)) (asking : Asking) (rotator : Count) (from : History)
+        → IsUnasked asking
+        → WorkDone replies base gap seat work (record { before = known; after = known }) asking rotator from from
         (ends.Trouble troubles.Memory)
-    unasked_work work known rotator from = record {
+    unasked_work work known asking rotator from unasked = record {
       course = Unasked;
-      does = record { is = tt; done_is = refl; readings = sym (append_known-nil known); failed = tt };
+      does = record {
+        is = tt;
+        done_is = refl;
+        readings = sym (append_known-nil known);
+        asks = unasked_none asking unasked;
+        failed = tt;
+      };
       spell = still from;
     }
 

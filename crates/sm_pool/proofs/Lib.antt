@@ -1,5 +1,6 @@
 mod HoldLemmas
 mod LateLemmas
+mod AskingLemmas
 mod CourseLemmas
 mod TurnLemmas
 mod AloneLemmas

@@ -5,6 +5,8 @@ use Rattle.std.specs.Io.KnownBytes.{append_known}
 use Rattle.sm_base.specs.Faults.{Rose}
 use Rattle.sm_model.specs.declared.entry.Mark.{Mark}
 use Rattle.sm_rotation.specs.Vouched.{Replies}
+use Rattle.sm_rotator.specs.declared.told.Told.{Told}
+use Rattle.sm_rotator.specs.Told.{append_told}
 use Rattle.sm_account.specs.History.{by_seat}
 use Rattle.sm_account.specs.States.{Base}
 use Rattle.sm_spells.specs.Spells.{History, Spell, marks_in}
@@ -13,8 +15,9 @@ use Rattle.sm_pool.specs.declared.done.Done.TheVariants as ends
 use Rattle.sm_pool.specs.declared.rounds.TheConstants.{TURN_LIMIT}
 use Rattle.sm_pool.specs.Alone.{IsStale, NoGap, OnDisk}
 use Rattle.sm_pool.specs.Holds.{Hold, hold_shape}
-use Rattle.sm_pool.specs.Rounds.{ComesToRest, Counts, EndsRound, NoneFell, Point, Rotated, Round, Turned, TurnedOn, courses_in, drawn_in, goes_on, holds_in, last_in, marks_of, readings_in}
-use Rattle.sm_pool.specs.Turns.{Course, HasRisen, Passing, RotatorFailed, TurnDone, WordsFailed, done_of, drawn_of, holds_of, readings_of}
+use Rattle.sm_pool.specs.Rounds.{ComesToRest, Counts, EndsRound, NoneFell, Point, Rotated, Round, Turned, TurnedOn, asks_in, courses_in, drawn_in, goes_on, holds_in, last_in, marks_of, readings_in}
+use Rattle.sm_pool.specs.Turns.{Course, HasRisen, Passing, RotatorFailed, TurnDone, WordsFailed, asks_of, done_of, drawn_of, holds_of, readings_of}
+use Rattle.sm_pool.proofs.AskingLemmas.{append_told-nil, asked_more}
 use Rattle.sm_spells.proofs.KnownLemmas.{append_known-nil, told_more}
 
 readings_more : (on : List Course) (course : Course)
@@ -30,6 +33,12 @@ drawn_more (c ∷ on) course =
     ap (λ (d : List ℕ). drawn_of c ++ d) (drawn_more on course)
     ∙ sym (append_assoc (drawn_of c) (drawn_in on) (drawn_of course))
 
+asks_more : (on : List Course) (course : Course) → asks_in (on ++ course ∷ []) ≡ asks_in on ++ asks_of course
+asks_more [] course = append-nil (asks_of course)
+asks_more (c ∷ on) course =
+    ap (λ (a : List Told). asks_of c ++ a) (asks_more on course)
+    ∙ sym (append_assoc (asks_of c) (asks_in on) (asks_of course))
+
 -- a turn that made no entry, and was not too late, came to rest
 rests : (done : Done) → goes_on done ≡ false → (IsStale done → ⊥) → ComesToRest done
 rests (ends.Did arn at) stops not_stale = absurd (cc)
@@ -38,10 +47,11 @@ rests ends.Idle stops not_stale = tt
 rests (ends.Stale at) stops not_stale = absurd (not_stale tt)
 rests (ends.Trouble trouble) stops not_stale = tt
 
--- what the clock and the random source have told
+-- what the clock, the random source and the rotator have told
 pub record Heard : Type 0 where
   pub clock : Option (List ℕ)
   pub words : Option (List ℕ)
+  pub rotator : Option (List Told)
 
 module _ (replies : Replies) (base : Base) (seat : ℕ) where
   -- one turn more
@@ -75,6 +85,7 @@ module _ (replies : Replies) (base : Base) (seat : ℕ) where
     pub size : length on ≡ number
     pub readings : now.clock ≡ append_known before.clock (readings_in on)
     pub drawn : now.words ≡ append_known before.words (drawn_in on)
+    pub asks : now.rotator ≡ append_told before.rotator (asks_in on)
     pub turned : TurnedOn replies base seat from on at
 
   pub progress_first : (from : Point) (before : Heard) → Progress from before 0 from before
@@ -83,6 +94,7 @@ module _ (replies : Replies) (base : Base) (seat : ℕ) where
     size = refl;
     readings = sym (append_known-nil before.clock);
     drawn = sym (append_known-nil before.words);
+    asks = sym (append_told-nil before.rotator);
     turned = refl;
   }
 
@@ -94,6 +106,7 @@ module _ (replies : Replies) (base : Base) (seat : ℕ) where
         × (after.clock ≡ append_known before.clock (readings_in (courses_in round)))
         × (after.words ≡ append_known before.words (drawn_in (courses_in round)))
         × Rotated replies base seat from round to
+        × (after.rotator ≡ append_told before.rotator (asks_in (courses_in round)))
 
     -- as many turns were taken as are taken at most
     pub round_full : number ≡ TURN_LIMIT → RoundFrom at now
@@ -104,11 +117,13 @@ module _ (replies : Replies) (base : Base) (seat : ℕ) where
           subst (λ courses. now.clock ≡ append_known before.clock (readings_in courses)) whole progress.readings,
           subst (λ courses. now.words ≡ append_known before.words (drawn_in courses)) whole progress.drawn,
           record { at = at; turned = progress.turned; ends = (progress.size ∙ full, refl) },
+          subst (λ courses. now.rotator ≡ append_told before.rotator (asks_in courses)) whole progress.asks,
         )
 
     module _ (to : Point) (after : Heard) (course : Course) (turned : Turned replies base seat at course to)
         (readings : after.clock ≡ append_known now.clock (readings_of (holds_of course)))
-        (drawn : after.words ≡ append_known now.words (drawn_of course)) where
+        (drawn : after.words ≡ append_known now.words (drawn_of course))
+        (asks : after.rotator ≡ append_told now.rotator (asks_of course)) where
       clock_more : after.clock ≡ append_known before.clock (readings_in (progress.on ++ course ∷ []))
       clock_more =
           told_more before.clock now.clock after.clock (readings_in progress.on) (readings_of (holds_of course))
@@ -120,12 +135,18 @@ module _ (replies : Replies) (base : Base) (seat : ℕ) where
           told_more before.words now.words after.words (drawn_in progress.on) (drawn_of course) progress.drawn drawn
           ∙ ap (append_known before.words) (sym (drawn_more progress.on course))
 
+      rotator_more : after.rotator ≡ append_told before.rotator (asks_in (progress.on ++ course ∷ []))
+      rotator_more =
+          asked_more before.rotator now.rotator after.rotator (asks_in progress.on) (asks_of course) progress.asks asks
+          ∙ ap (append_told before.rotator) (sym (asks_more progress.on course))
+
       pub progress_more : goes_on (done_of course) ≡ true → Progress from before (number + 1) to after
       progress_more goes = record {
         on = progress.on ++ course ∷ [];
         size = omega (arith, length-append progress.on (course ∷ []), progress.size);
         readings = clock_more;
         drawn = words_more;
+        asks = rotator_more;
         turned = turned_more from at to progress.on course progress.turned turned goes;
       }
 
@@ -141,6 +162,7 @@ module _ (replies : Replies) (base : Base) (seat : ℕ) where
           turned = progress.turned;
           ends = (omega (arith, progress.size, few), turned, rests (done_of course) stops not_stale);
         },
+        rotator_more,
       )
 
 -- what a round leaves of the history

@@ -5,6 +5,7 @@ use Rattle.std.specs.Prelude.{◌≡◌, ⊤, ℕ, ◌<◌, ◌≤◌, Bool, tru
 use Rattle.sm_base.specs.Faults.{Rose}
 use Rattle.sm_model.specs.declared.entry.Mark.{Mark}
 use Rattle.sm_rotation.specs.Vouched.{Replies}
+use Rattle.sm_rotator.specs.declared.told.Told.{Told}
 use Rattle.sm_account.specs.States.{Base}
 use Rattle.sm_spells.specs.Spells.{History, Spell, marks_in}
 use Rattle.sm_pool.specs.declared.done.Done.{Done}
@@ -12,7 +13,7 @@ use Rattle.sm_pool.specs.declared.done.Done.TheVariants as ends
 use Rattle.sm_pool.specs.declared.rounds.TheConstants.{TURN_LIMIT}
 use Rattle.sm_pool.specs.Alone.{NoGap, OnDisk}
 use Rattle.sm_pool.specs.Holds.{Hold, hold_shape}
-use Rattle.sm_pool.specs.Turns.{Course, IsCourse, RotatorFailed, WordsFailed, done_of, drawn_of, holds_of, readings_of}
+use Rattle.sm_pool.specs.Turns.{Course, IsCourse, RotatorFailed, WordsFailed, asks_of, done_of, drawn_of, holds_of, readings_of}
 
 -- whether a turn made an entry, so that another follows
 abbrev pub goes_on : Done → Bool
@@ -50,6 +51,11 @@ readings_in (course ∷ courses) = readings_of (holds_of course) ++ readings_in 
 abbrev pub drawn_in : List Course → List ℕ
 drawn_in [] = []
 drawn_in (course ∷ courses) = drawn_of course ++ drawn_in courses
+
+-- what their rotator was asked for
+abbrev pub asks_in : List Course → List Told
+asks_in [] = []
+asks_in (course ∷ courses) = asks_of course ++ asks_in courses
 
 -- no count fell
 pub record NoneFell (from to : Counts) : Type 0 where

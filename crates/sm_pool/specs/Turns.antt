@@ -7,6 +7,7 @@ use Rattle.sm_model.specs.declared.entry.Answer.{Answer}
 use Rattle.sm_model.specs.declared.entry.Answer.TheVariants as answers
 use Rattle.sm_rotation.specs.Vouched.{Replies}
 use Rattle.sm_rotator.specs.declared.work.Work.{Work}
+use Rattle.sm_rotator.specs.declared.told.Told.{Told}
 use Rattle.sm_account.specs.declared.report.Reported.{Reported}
 use Rattle.sm_account.specs.declared.report.Reported.TheVariants as reports
 use Rattle.sm_account.specs.declared.start_due.StartedDue.{StartedDue}
@@ -17,6 +18,7 @@ use Rattle.sm_pool.specs.declared.done.Done.TheVariants as ends
 use Rattle.sm_pool.specs.declared.done.Trouble.{Trouble}
 use Rattle.sm_pool.specs.declared.done.Trouble.TheVariants as troubles
 use Rattle.sm_spells.specs.Spells.{History, Spell}
+use Rattle.sm_pool.specs.Asking.{Asking, Asks}
 use Rattle.sm_pool.specs.Ends.{due_ends, report_ends}
 use Rattle.sm_pool.specs.Holds.{Hold, FindsNothing, FindsWork, ReportsIn, StartsIn, hold_shape, is_due_in}
 
@@ -62,24 +64,31 @@ abbrev pub work_ends : Work → WorkCourse → Done
 work_ends work Unasked = ends.Trouble troubles.Memory
 work_ends work (Asked answer hold reported) = report_ends work reported
 
+-- what the rotator was asked for
+abbrev pub work_asks : Work → WorkCourse → List Told
+work_asks work Unasked = []
+work_asks work (Asked answer hold reported) = record { work = work; answer = answer } ∷ []
+
 -- a fact where the rotator answered that it failed
 abbrev pub WorkFailed : WorkCourse → Type 0 → Type 0
 WorkFailed Unasked P = ⊤
 WorkFailed (Asked answer hold reported) P = answer ≡ answers.Failed → P
 
--- The course of a work: it ends so, the clock told these readings, and the rotator failed only where its count rose.
-pub record DoesWork (replies : Replies) (base : Base) (work : Work) (clock : Telling) (rotator : Count)
-    (course : WorkCourse) (done : Done) : Type 0 where
+-- The course of a work: it ends so, the clock told these readings, the rotator was asked for this work once, or not at
+-- all, and it failed only where its count rose.
+pub record DoesWork (replies : Replies) (base : Base) (work : Work) (clock : Telling) (asking : Asking)
+    (rotator : Count) (course : WorkCourse) (done : Done) : Type 0 where
   pub is : IsWorkCourse replies base work course
   pub done_is : done ≡ work_ends work course
   pub readings : Tells clock (readings_of (work_holds course))
+  pub asks : Asks asking (work_asks work course)
   pub failed : WorkFailed course (HasRisen rotator)
 
 -- A work between what a seat had seen and what it has seen then, with these gaps around its holds.
 pub record WorkDone (replies : Replies) (base : Base) (gap : History → History → Type 0) (seat : ℕ) (work : Work)
-    (clock : Telling) (rotator : Count) (from to : History) (done : Done) : Type 0 where
+    (clock : Telling) (asking : Asking) (rotator : Count) (from to : History) (done : Done) : Type 0 where
   pub course : WorkCourse
-  pub does : DoesWork replies base work clock rotator course done
+  pub does : DoesWork replies base work clock asking rotator course done
   pub spell : Spell hold_shape gap seat (λ hold. ⊤) from (work_holds course) to
 
 -- ---- a due rotation
@@ -169,6 +178,13 @@ drawn_of (Rests hold) = []
 drawn_of (Starts hold course) = start_drawn course
 drawn_of (Works hold work course) = []
 
+-- what the rotator was asked for
+abbrev pub asks_of : Course → List Told
+asks_of (Wants hold) = []
+asks_of (Rests hold) = []
+asks_of (Starts hold course) = []
+asks_of (Works hold work course) = work_asks work course
+
 -- what a turn did
 abbrev pub done_of : Course → Done
 done_of (Wants hold) = ends.Trouble troubles.Memory
@@ -234,3 +250,9 @@ pub record TurnDone (replies : Replies) (base : Base) (gap : History → History
   pub takes : TakesTurn replies base passing course done
   pub spell : Spell hold_shape gap seat (λ hold. ⊤) from (holds_of course) to
   pub late : LateApart seat course
+
+-- a turn, and what its rotator was asked for: the work of the step that it claimed, once, or nothing
+abbrev pub TurnAsks : Replies → Base → (History → History → Type 0) → ℕ → Passing → Asking → History → History → Done
+    → Type 0
+TurnAsks replies base gap seat passing asking from to done =
+    (turn : TurnDone replies base gap seat passing from to done) × Asks asking (asks_of turn.course)

@@ -3,7 +3,8 @@ ghost use Rattle.std.specs.Prelude.{◌≡◌, ◌≤◌, ◌⊎◌, IsSome};
 ghost use Rattle.sm_base.specs.Faults.{Rose};
 ghost use Rattle.sm_account.specs.Accounts.{base, disk, failed, history, SameOrigin};
 ghost use Rattle.sm_pool.specs.Alone.{IsStale, NoGap, OnDisk};
-ghost use Rattle.sm_pool.specs.Turns.{StartDone, TurnDone, WorkDone};
+ghost use Rattle.sm_pool.specs.Asking.{DoneAsks};
+ghost use Rattle.sm_pool.specs.Turns.{StartDone, TurnAsks, WorkDone};
 
 use crate::asking::ask;
 use crate::done::{Done, Trouble, done_reported, done_started};
@@ -25,13 +26,18 @@ pub fn one_turn<C: Clock, W: Words, D: Disk, R: Rotator>(
     clock: &mut C,
     words: &mut W,
 ) -> Done
-    // What the turn did, one hold after the other, and nothing else came between.
-    ensures turn { TurnDone R.replies (base account.old) NoGap seat (record {
+    // What the turn did, one hold after the other, and nothing else came between. The rotator was asked for exactly the
+    // work whose step was claimed, once, or for nothing.
+    ensures turn { TurnAsks R.replies (base account.old) NoGap seat (record {
       clock = record { before = C.readings clock.old; after = C.readings clock.new };
       words = record { before = W.drawn words.old; after = W.drawn words.new };
       words_count = record { before = W.faults words.old; after = W.faults words.new };
       rotator_count = record { before = R.faults rotator.old; after = R.faults rotator.new };
-    }) (history account.old) (history account.new) result }
+    }) (record { before = R.told rotator.old; after = R.told rotator.new }) (history account.old)
+        (history account.new) result }
+
+    // So a step that was done was asked for once, and where none was to be done the rotator was not asked.
+    ensures asked { DoneAsks result (record { before = R.told rotator.old; after = R.told rotator.new }) }
 
     // No verdict comes too late, since nobody else holds the account.
     ensures never_stale { IsStale result → ⊥ }
@@ -63,6 +69,7 @@ fn do_work<C: Clock, D: Disk, R: Rotator>(
 ) -> Done
     ensures does { WorkDone R.replies (base account.old) NoGap seat work
         (record { before = C.readings clock.old; after = C.readings clock.new })
+        (record { before = R.told rotator.old; after = R.told rotator.new })
         (record { before = R.faults rotator.old; after = R.faults rotator.new })
         (history account.old) (history account.new) result }
     ensures origin { SameOrigin account.old account.new }

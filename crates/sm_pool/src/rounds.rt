@@ -3,7 +3,8 @@ ghost use Rattle.std.specs.Prelude.{◌≡◌, ◌≤◌, ◌⊎◌, IsSome};
 ghost use Rattle.std.specs.Io.KnownBytes.{append_known};
 ghost use Rattle.sm_base.specs.Faults.{Rose};
 ghost use Rattle.sm_account.specs.Accounts.{base, disk, failed, history, SameOrigin};
-ghost use Rattle.sm_pool.specs.Rounds.{Rotated, Round, courses_in, drawn_in, goes_on, readings_in};
+ghost use Rattle.sm_rotator.specs.Told.{append_told};
+ghost use Rattle.sm_pool.specs.Rounds.{Rotated, Round, asks_in, courses_in, drawn_in, goes_on, readings_in};
 
 use crate::alone::one_turn;
 use crate::done::Done;
@@ -44,7 +45,8 @@ pub fn turns<C: Clock, W: Words, D: Disk, R: Rotator>(
             words = W.faults words.new;
             rotator = R.faults rotator.new;
           };
-        }) }
+        })
+        × (R.told rotator.new ≡ append_told (R.told rotator.old) (asks_in (courses_in round))) }
     ensures origin { SameOrigin account.old account.new }
     ensures unsure { IsSome (failed account.new) → IsSome (failed account.old)
         ⊎ Rose (D.faults (disk account.old)) (D.faults (disk account.new)) }

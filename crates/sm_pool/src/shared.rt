@@ -4,8 +4,10 @@ ghost use Rattle.sm_account.specs.Accounts.{base};
 ghost use Rattle.sm_lock.specs.Handles.{built_with, mine, number, seen, IsIn};
 ghost use Rattle.sm_lock.specs.Story.{Grows};
 ghost use Rattle.sm_spells.specs.Spells.{marks_in};
+ghost use Rattle.sm_rotator.specs.Told.{append_told};
+ghost use Rattle.sm_pool.specs.Asking.{DoneAsks};
 ghost use Rattle.sm_pool.specs.Holds.{hold_shape};
-ghost use Rattle.sm_pool.specs.Turns.{StartDone, TurnDone, WorkDone, holds_of};
+ghost use Rattle.sm_pool.specs.Turns.{StartDone, TurnDone, WorkDone, asks_of, holds_of};
 
 use crate::asking::ask;
 use crate::behind::{
@@ -48,7 +50,8 @@ pub fn rotation_turn<C: Clock, W: Words, D: Disk, R: Rotator, H: Wait>(
     ensures number { number result.pass ≡ number pass }
 
     // What the turn did, one hold after the other. Between them others may have added to the history, but nobody else
-    // under this seat: what it has there is what the turn added.
+    // under this seat: what it has there is what the turn added. The rotator was asked for exactly the work whose step
+    // was claimed, once, or for nothing.
     ensures turn { (turn : TurnDone R.replies (base (built_with gate.now)) (Grows (number pass ∷ [])) (number pass)
         (record {
           clock = record { before = C.readings clock.old; after = C.readings clock.new };
@@ -56,7 +59,11 @@ pub fn rotation_turn<C: Clock, W: Words, D: Disk, R: Rotator, H: Wait>(
           words_count = record { before = W.faults words.old; after = W.faults words.new };
           rotator_count = record { before = R.faults rotator.old; after = R.faults rotator.new };
         }) (seen pass) (seen result.pass) result.done)
-        × (mine result.pass ≡ mine pass ++ marks_in hold_shape (holds_of turn.course)) }
+        × (mine result.pass ≡ mine pass ++ marks_in hold_shape (holds_of turn.course))
+        × (R.told rotator.new ≡ append_told (R.told rotator.old) (asks_of turn.course)) }
+
+    // So a step that was done was asked for once, and where none was to be done the rotator was not asked.
+    ensures asked { DoneAsks result.done (record { before = R.told rotator.old; after = R.told rotator.new }) }
 
     ensures rotator_later { R.faults rotator.old ≤ R.faults rotator.new }
     ensures words_later { W.faults words.old ≤ W.faults words.new }
@@ -90,6 +97,7 @@ fn work_behind<C: Clock, D: Disk, R: Rotator, H: Wait>(
     ensures number { number result.pass ≡ number pass }
     ensures does { WorkDone R.replies (base (built_with gate.now)) (Grows (number pass ∷ [])) (number pass) work
         (record { before = C.readings clock.old; after = C.readings clock.new })
+        (record { before = R.told rotator.old; after = R.told rotator.new })
         (record { before = R.faults rotator.old; after = R.faults rotator.new })
         (seen pass) (seen result.pass) result.done }
     ensures rotator_later { R.faults rotator.old ≤ R.faults rotator.new }

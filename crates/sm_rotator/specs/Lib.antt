@@ -1,5 +1,6 @@
 pub mod Steps
 pub mod Asked
+pub mod Told
 pub mod Absent
 pub mod Same
 pub mod Script

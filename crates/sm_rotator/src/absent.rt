@@ -1,5 +1,5 @@
 //! No rotator.
-ghost use Rattle.std.specs.Prelude.{◌≡◌, ◌≤◌, refl};
+ghost use Rattle.std.specs.Prelude.{◌≡◌, ◌≤◌, None, refl};
 ghost use Rattle.sm_base.specs.Faults.{Rose};
 ghost use Rattle.sm_rotator.specs.Absent.{is_failed};
 
@@ -26,6 +26,8 @@ impl Rotator for NoRotator {
     ghost replies = { λ arn at current pending answer. is_failed answer };
 
     ghost faults = { λ rotator. rotator.faults };
+
+    ghost told = { λ rotator. None };
 
     fn ask(&mut self, _work: &Work) -> Asked {
         self.faults = self.faults.saturating_add(1);

@@ -8,6 +8,8 @@ pub mod link;
 pub mod local;
 pub mod rotator;
 pub mod script;
+pub mod telling;
+pub mod told;
 pub mod verdict;
 pub mod work;
 
@@ -16,5 +18,7 @@ pub use link::LinkRotator;
 pub use local::LocalRotator;
 pub use rotator::{Asked, Rotator};
 pub use script::ScriptRotator;
+pub use telling::TellingRotator;
+pub use told::Told;
 pub use verdict::Verdict;
 pub use work::Work;

@@ -1,9 +1,10 @@
 //! A rotator behind a TCP address: the trusted edge. What the peer answers is nobody's theorem.
-ghost use Rattle.std.specs.Prelude.{◌≡◌, ◌<◌, ◌≤◌, length, false, true, refl, IfOk, vec_len};
+ghost use Rattle.std.specs.Prelude.{◌≡◌, ◌<◌, ◌≤◌, length, false, true, refl, IfOk, None, vec_len};
 ghost use Rattle.sm_base.specs.Faults.{Rose};
 ghost use Rattle.sm_rotator.specs.Asked.{IfAnswered, OnFailed};
 ghost use Rattle.sm_rotator.specs.Absent.{is_failed};
 ghost use Rattle.sm_rotator.specs.Link.{link_faults};
+ghost use Rattle.sm_rotator.specs.Told.{TellsAsked};
 
 use crate::line::{answer_in, line_of};
 use crate::rotator::{Asked, Rotator};
@@ -182,10 +183,13 @@ impl<R: Net + Clock> Rotator for LinkRotator<R> {
 
     ghost faults = { λ rotator. link_faults rotator };
 
+    ghost told = { λ rotator. None };
+
     fn ask(&mut self, work: &Work) -> Asked
         ensures allowed { IfAnswered result (λ answer. true ≡ true) }
         ensures failed { OnFailed result (Rose (link_faults self.old) (link_faults self.new)) }
         ensures later { link_faults self.old ≤ link_faults self.new }
+        ensures told { TellsAsked work.now result None None }
     {
         match exchange(self.alloc, &self.system, &self.address, work) {
             Ok(answer) => Asked::Answered(answer),

@@ -1,5 +1,5 @@
 //! A rotator that changes the password in a JSON text.
-ghost use Rattle.std.specs.Prelude.{◌≡◌, ◌≤◌, length, IfOk, IfSome, false, true, is_some, string_bytes, option_map, option_and_then};
+ghost use Rattle.std.specs.Prelude.{◌≡◌, ◌≤◌, length, IfOk, IfSome, false, true, None, is_some, string_bytes, option_map, option_and_then};
 ghost use Rattle.sm_base.specs.Faults.{Rose};
 ghost use Rattle.std.specs.Str.{chars};
 ghost use Rattle.serde_json.specs.Read.{read as read_text};
@@ -7,6 +7,7 @@ ghost use Rattle.serde_json.specs.View.{view};
 ghost use Rattle.serde_json.specs.Written.{has_float, compact_text};
 ghost use Rattle.sm_rotator.specs.Asked.{IfAnswered, OnFailed};
 ghost use Rattle.sm_rotator.specs.Same.{may_give};
+ghost use Rattle.sm_rotator.specs.Told.{TellsAsked};
 ghost use Rattle.sm_rotator.specs.Local.{password_of, with_password, credentials_in, credentials, made_password, with_other, created, yes_if, is_long, local_answer};
 
 use crate::floats::has_float;
@@ -206,12 +207,15 @@ impl Rotator for LocalRotator {
 
     ghost faults = { λ rotator. 0 };
 
+    ghost told = { λ rotator. None };
+
     #[tactic(auto, using(crate::proofs::SameLemmas::gives_wanted, crate::proofs::LocalLemmas::local_is_no_failure))]
     fn ask(&mut self, work: &Work) -> Asked
         ensures allowed { IfAnswered result (λ answer.
             may_give (local_answer work.now.at work.now.current work.now.pending) answer ≡ true) }
         ensures failed { OnFailed result (Rose 0 0) }
         ensures later { 0 ≤ 0 }
+        ensures told { TellsAsked work.now result None None }
 
         // Exactly what it answers.
         ensures exactly { IfAnswered result (λ answer.

@@ -1,11 +1,12 @@
 //! A rotator that goes by the token.
-ghost use Rattle.std.specs.Prelude.{◌≡◌, ◌≤◌, ◌↔◌, IfOk, IsTrue, not, true, option_copied};
+ghost use Rattle.std.specs.Prelude.{◌≡◌, ◌≤◌, ◌↔◌, IfOk, IsTrue, not, true, None, option_copied};
 ghost use Rattle.sm_base.specs.Faults.{Rose};
 ghost use Rattle.sm_io.specs.Calls.{no_calls, fails_next};
 ghost use Rattle.sm_model.specs.declared.entry.Answer.{Answer};
 ghost use Rattle.sm_model.specs.declared.entry.Answer.TheVariants.{Failed};
 ghost use Rattle.sm_rotator.specs.Asked.{IfAnswered, OnFailed};
 ghost use Rattle.sm_rotator.specs.Same.{may_give};
+ghost use Rattle.sm_rotator.specs.Told.{TellsAsked};
 ghost use Rattle.sm_rotator.specs.Script.{from_end, character, agrees, made_text, agreed, script_answer};
 
 use crate::rotator::{Asked, Rotator};
@@ -113,14 +114,17 @@ impl Rotator for ScriptRotator {
 
     ghost faults = { λ rotator. rotator.calls.faults };
 
+    ghost told = { λ rotator. None };
+
     #[tactic(auto, using(crate::proofs::SameLemmas::gives_wanted, crate::proofs::ScriptLemmas::script_is_no_failure))]
     fn ask(&mut self, work: &Work) -> Asked
         ensures allowed { IfAnswered result (λ answer. may_give (script_answer work.now.at) answer ≡ true) }
         ensures failed { OnFailed result (Rose self.old.calls.faults self.new.calls.faults) }
         ensures later { self.old.calls.faults ≤ self.new.calls.faults }
+        ensures told { TellsAsked work.now result None None }
 
         // Exactly which call fails, and what the others answer.
-        ensures told { (result ≡ Asked.Answered Failed) ↔ IsTrue (fails_next self.old.calls) }
+        ensures fails { (result ≡ Asked.Answered Failed) ↔ IsTrue (fails_next self.old.calls) }
         ensures exactly { IsTrue (not (fails_next self.old.calls))
             → IfAnswered result (λ answer. answer ≡ script_answer work.now.at) }
     {

@@ -1,10 +1,11 @@
 //! Two that wait for each other, each in a thread of its own.
-ghost use Rattle.std.specs.Prelude.{◌≡◌, ◌≤◌, Some};
+ghost use Rattle.std.specs.Prelude.{◌≡◌, ◌≤◌, None, Some};
 ghost use Rattle.sm_base.specs.Faults.{Rose};
 ghost use Rattle.sm_io.specs.Edge.{TakesFirst, HandsOut, NoneLeft, OnAcceptEnd, OnAcceptFailed, told_more};
 ghost use Rattle.sm_rotator.specs.Asked.{IfAnswered, OnFailed};
 ghost use Rattle.sm_rotator.specs.Same.{may_give};
 ghost use Rattle.sm_rotator.specs.Script.{script_answer};
+ghost use Rattle.sm_rotator.specs.Told.{TellsAsked};
 
 use sm_io::{Accepted, Edge, MemoryConn, MemoryEdge};
 use sm_model::{Answer, Stage};
@@ -97,6 +98,8 @@ impl<'a> Rotator for Holding<'a> {
     ghost replies = { λ arn at current pending answer. may_give (script_answer at) answer };
 
     ghost faults = { λ rotator. rotator.script.calls.faults };
+
+    ghost told = { λ rotator. None };
 
     fn ask(&mut self, work: &Work) -> Asked {
         if work.at.stage == self.stage && !self.meets(work.secret) {

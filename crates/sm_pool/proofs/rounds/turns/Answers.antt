@@ -5,7 +5,8 @@ use Rattle.sm_rotation.specs.Vouched.{Replies}
 use Rattle.sm_pool.specs.declared.done.Done.{Done}
 use Rattle.sm_pool.specs.Alone.{IsStale, NoGap}
 use Rattle.sm_pool.specs.Rounds.{Point, Turned, goes_on}
-use Rattle.sm_pool.specs.Turns.{Passing, TurnDone}
+use Rattle.sm_pool.specs.Asking.{Asking}
+use Rattle.sm_pool.specs.Turns.{Passing, TurnAsks, TurnDone}
 use Rattle.sm_spells.proofs.OriginLemmas.{same_origin, same_origin_still, unsure_since}
 use Rattle.sm_pool.proofs.RoundLemmas.{Heard, progress_first, progress_more, round_full, round_rests, turned_by}
 use Rattle.sm_pool.proofs.rounds.turns.Goals as goal
@@ -28,7 +29,11 @@ loop-number-init g c =
               rotator = g.R.Rotator.faults c.args.rotator.now;
             };
           })
-          (record { clock = g.C.Clock.readings c.args.clock.now; words = g.W.Words.drawn c.args.words.now });
+          (record {
+            clock = g.C.Clock.readings c.args.clock.now;
+            words = g.W.Words.drawn c.args.words.now;
+            rotator = g.R.Rotator.told c.args.rotator.now;
+          });
     }
 
 pub loop-number-preserved : goal.loop-number-preserved
@@ -67,14 +72,17 @@ loop-number-preserved g c =
     let before : Heard = record {
       clock = g.C.Clock.readings c.args.clock.now;
       words = g.W.Words.drawn c.args.words.now;
+      rotator = g.R.Rotator.told c.args.rotator.now;
     } in
     let now : Heard = record {
       clock = g.C.Clock.readings c.loop-number.clock;
       words = g.W.Words.drawn c.loop-number.words;
+      rotator = g.R.Rotator.told c.loop-number.rotator;
     } in
     let later : Heard = record {
       clock = g.C.Clock.readings c.one_turn-done.new.clock;
       words = g.W.Words.drawn c.one_turn-done.new.words;
+      rotator = g.R.Rotator.told c.one_turn-done.new.rotator;
     } in
     let passing : Passing = record {
       clock = record { before = now.clock; after = later.clock };
@@ -82,9 +90,11 @@ loop-number-preserved g c =
       words_count = record { before = at.counts.words; after = to.counts.words };
       rotator_count = record { before = at.counts.rotator; after = to.counts.rotator };
     } in
-    let turn : TurnDone replies over NoGap seat passing at.history to.history done =
-    subst (λ (b : Base). TurnDone replies b NoGap seat passing at.history to.history done) i.origin.base_stays
+    let asking : Asking = record { before = now.rotator; after = later.rotator } in
+    let asked : TurnAsks replies over NoGap seat passing asking at.history to.history done =
+    subst (λ (b : Base). TurnAsks replies b NoGap seat passing asking at.history to.history done) i.origin.base_stays
     c.one_turn-done.ensures.turn in
+    let turn : TurnDone replies over NoGap seat passing at.history to.history done = asked.0 in
     let turned : Turned replies over seat at turn.course to =
     turned_by replies over seat at to passing done turn c.one_turn-done.ensures.disk refl refl (record {
       disk = c.one_turn-done.ensures.disk_later;
@@ -99,7 +109,7 @@ loop-number-preserved g c =
       rotator_later = omega (arith, i.rotator_later, c.one_turn-done.ensures.rotator_later);
       words_later = omega (arith, i.words_later, c.one_turn-done.ensures.words_later);
       progress = progress_more replies over seat from before c.loop-number.number at now i.progress to later turn.course
-          turned turn.takes.readings turn.takes.drawn
+          turned turn.takes.readings turn.takes.drawn asked.1
           (subst (λ d. goes_on d ≡ true) turn.takes.done_is
           (sym c.goes_on.ensures ∙ c.if-not-goes_on.false));
     }
@@ -140,14 +150,17 @@ returns-then-not-goes_on-clause-rotated g c =
     let before : Heard = record {
       clock = g.C.Clock.readings c.args.clock.now;
       words = g.W.Words.drawn c.args.words.now;
+      rotator = g.R.Rotator.told c.args.rotator.now;
     } in
     let now : Heard = record {
       clock = g.C.Clock.readings c.loop-number.clock;
       words = g.W.Words.drawn c.loop-number.words;
+      rotator = g.R.Rotator.told c.loop-number.rotator;
     } in
     let later : Heard = record {
       clock = g.C.Clock.readings c.one_turn-done.new.clock;
       words = g.W.Words.drawn c.one_turn-done.new.words;
+      rotator = g.R.Rotator.told c.one_turn-done.new.rotator;
     } in
     let passing : Passing = record {
       clock = record { before = now.clock; after = later.clock };
@@ -155,9 +168,11 @@ returns-then-not-goes_on-clause-rotated g c =
       words_count = record { before = at.counts.words; after = to.counts.words };
       rotator_count = record { before = at.counts.rotator; after = to.counts.rotator };
     } in
-    let turn : TurnDone replies over NoGap seat passing at.history to.history done =
-    subst (λ (b : Base). TurnDone replies b NoGap seat passing at.history to.history done) i.origin.base_stays
+    let asking : Asking = record { before = now.rotator; after = later.rotator } in
+    let asked : TurnAsks replies over NoGap seat passing asking at.history to.history done =
+    subst (λ (b : Base). TurnAsks replies b NoGap seat passing asking at.history to.history done) i.origin.base_stays
     c.one_turn-done.ensures.turn in
+    let turn : TurnDone replies over NoGap seat passing at.history to.history done = asked.0 in
     let turned : Turned replies over seat at turn.course to =
     turned_by replies over seat at to passing done turn c.one_turn-done.ensures.disk refl refl (record {
       disk = c.one_turn-done.ensures.disk_later;
@@ -165,7 +180,7 @@ returns-then-not-goes_on-clause-rotated g c =
       rotator = c.one_turn-done.ensures.rotator_later;
     }) in
     round_rests replies over seat from before c.loop-number.number at now i.progress to later turn.course turned
-    turn.takes.readings turn.takes.drawn c.loop-number-test.true
+    turn.takes.readings turn.takes.drawn asked.1 c.loop-number-test.true
     (subst (λ d. goes_on d ≡ false) turn.takes.done_is
     (sym c.goes_on.ensures ∙ c.if-not-goes_on.true))
     (subst (λ d. IsStale d → ⊥) turn.takes.done_is c.one_turn-done.ensures.never_stale)
@@ -201,10 +216,12 @@ returns-clause-rotated g c =
     let before : Heard = record {
       clock = g.C.Clock.readings c.args.clock.now;
       words = g.W.Words.drawn c.args.words.now;
+      rotator = g.R.Rotator.told c.args.rotator.now;
     } in
     let now : Heard = record {
       clock = g.C.Clock.readings c.loop-number.clock;
       words = g.W.Words.drawn c.loop-number.words;
+      rotator = g.R.Rotator.told c.loop-number.rotator;
     } in
     round_full g.R.Rotator.replies (base account) c.args.seat from before c.loop-number.number at now
     c.loop-number.invariant.progress (omega (arith, c.loop-number.auto.number-end, c.loop-number-test.false))

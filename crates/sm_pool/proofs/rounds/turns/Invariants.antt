@@ -22,7 +22,11 @@ invariant-loop-number g l = record {
           rotator = g.R.Rotator.faults l.initial.rotator;
         };
       })
-      (record { clock = g.C.Clock.readings l.initial.clock; words = g.W.Words.drawn l.initial.words })
+      (record {
+        clock = g.C.Clock.readings l.initial.clock;
+        words = g.W.Words.drawn l.initial.words;
+        rotator = g.R.Rotator.told l.initial.rotator;
+      })
       l.number
       (record {
         history = history l.account;
@@ -32,5 +36,9 @@ invariant-loop-number g l = record {
           rotator = g.R.Rotator.faults l.rotator;
         };
       })
-      (record { clock = g.C.Clock.readings l.clock; words = g.W.Words.drawn l.words });
+      (record {
+        clock = g.C.Clock.readings l.clock;
+        words = g.W.Words.drawn l.words;
+        rotator = g.R.Rotator.told l.rotator;
+      });
 }

@@ -14,11 +14,12 @@ returns-in-Ok-clause-does g c =
     reported_work (base (built_with c.args.gate.now)) (Grows (number pass ∷ [])) (grows-same (number pass ∷ []))
     (number pass) g.R.Rotator.replies verdict.work c.args.work c.in-Ok.ensures.work verdict.answer told.reported
     told.now
-    _ _ (seen pass) (seen c.report_behind-pass.result.pass) c.done_reported.result c.report_behind-pass.ensures.reports
-    c.in-Ok.ensures.allowed c.report_behind-pass.ensures.told c.in-Ok.ensures.failed c.done_reported.ensures
+    _ _ _ (seen pass) (seen c.report_behind-pass.result.pass) c.done_reported.result
+    c.report_behind-pass.ensures.reports c.in-Ok.ensures.allowed c.report_behind-pass.ensures.told
+    c.in-Ok.ensures.asked c.in-Ok.ensures.failed c.done_reported.ensures
 
 pub returns-in-Err-clause-does : goal.returns-in-Err-clause-does
 returns-in-Err-clause-does g c =
     let pass = c.args.pass in
     unasked_work (base (built_with c.args.gate.now)) (Grows (number pass ∷ [])) (grows-same (number pass ∷ []))
-    (number pass) g.R.Rotator.replies c.args.work _ _ (seen pass)
+    (number pass) g.R.Rotator.replies c.args.work _ _ _ (seen pass) c.in-Err.ensures.unasked
