@@ -3,9 +3,12 @@ ghost use Rattle.std.specs.Prelude.{◌≡◌, ◌+◌, ◌≤◌, All, OnOk, ve
 ghost use Rattle.sm_workers.specs.Workers.{IsFresh};
 
 use crate::entrance::{Door, Entrance};
+use crate::entropy::SaidRandom;
 use crate::hall::Hall;
 use crate::porter::Porter;
+use crate::reports::Reports;
 use crate::rotators::MakeRotator;
+use crate::welcome::Welcome;
 use sm_account::Account;
 use sm_disk::Disk;
 use sm_io::{ListenerEdge, SystemClock, SystemWords};
@@ -19,7 +22,7 @@ use std::sync::Wait;
 pub type Hand<'a, H, D: Disk, R: Rotator> = WorkerBy<
     ListenerEdge<Entrance<'a, H>>,
     SystemClock<&'a HostRuntime>,
-    SystemWords<&'a HostRuntime>,
+    SystemWords<SaidRandom<'a>>,
     R,
     Account<D, R>,
 >;
@@ -30,6 +33,14 @@ pub struct Ground<'a, H> {
     pub rt: &'a HostRuntime,
     pub threads: &'a H,
     pub hall: &'a Hall,
+    pub reports: &'a Reports<'a>,
+    /// Whether each request gets a line.
+    pub log: bool,
+}
+
+/// A random source of a worker's own.
+fn words_of<'a>(rt: &'a HostRuntime, reports: &'a Reports<'a>) -> SystemWords<SaidRandom<'a>> {
+    SystemWords::new(rt.alloc(), SaidRandom { rt, reports })
 }
 
 /// Adds a worker.
@@ -48,7 +59,7 @@ fn add<'a, H, D: Disk + Drop, R: Rotator + Drop>(
 
 /// Adds one that stands at the entrance.
 fn add_at_entrance<'a, H: Wait, D: Disk + Drop, R: Rotator + Drop>(
-    rt: &'a HostRuntime,
+    ground: &Ground<'a, H>,
     workers: &mut Vec<Hand<'a, H, D, R>>,
     entrance: Entrance<'a, H>,
 ) -> Result<(), NoMemory>
@@ -58,8 +69,8 @@ fn add_at_entrance<'a, H: Wait, D: Disk + Drop, R: Rotator + Drop>(
 {
     let worker = WorkerBy::door(
         ListenerEdge::new(entrance),
-        SystemClock::new(rt),
-        SystemWords::new(rt.alloc(), rt),
+        SystemClock::new(ground.rt),
+        words_of(ground.rt, ground.reports),
     );
     add(workers, worker)?;
     Ok(())
@@ -70,6 +81,7 @@ pub fn add_porter<'a, H: Wait, D: Disk + Drop, R: Rotator + Drop>(
     ground: &Ground<'a, H>,
     workers: &mut Vec<Hand<'a, H, D, R>>,
     listener: &'a TcpListener,
+    welcome: &'a Welcome<'a>,
 ) -> Result<(), NoMemory>
     requires all { All IsFresh workers.old.items }
     ensures all { All IsFresh workers.new.items }
@@ -80,8 +92,9 @@ pub fn add_porter<'a, H: Wait, D: Disk + Drop, R: Rotator + Drop>(
         threads: ground.threads,
         hall: ground.hall,
         listener,
+        welcome,
     };
-    add_at_entrance(ground.rt, workers, Entrance::Porter(porter))?;
+    add_at_entrance(ground, workers, Entrance::Porter(porter))?;
     Ok(())
 }
 
@@ -100,15 +113,35 @@ pub fn add_doors<'a, H: Wait, D: Disk + Drop, R: Rotator + Drop>(
             rt: ground.rt,
             threads: ground.threads,
             hall: ground.hall,
+            log: ground.log,
         };
-        add_at_entrance(ground.rt, workers, Entrance::Door(door))?;
+        add_at_entrance(ground, workers, Entrance::Door(door))?;
     }
+    Ok(())
+}
+
+/// Adds a turner with this rotator.
+fn add_turner<'a, H, D: Disk + Drop, R: Rotator + Drop>(
+    ground: &Ground<'a, H>,
+    workers: &mut Vec<Hand<'a, H, D, R>>,
+    rotator: R,
+) -> Result<(), NoMemory>
+    requires all { All IsFresh workers.old.items }
+    ensures all { All IsFresh workers.new.items }
+    ensures long { OnOk result (vec_len workers.new ≡ vec_len workers.old + 1) }
+{
+    let turner: Hand<'a, H, D, R> = WorkerBy::turner(
+        rotator,
+        SystemClock::new(ground.rt),
+        words_of(ground.rt, ground.reports),
+    );
+    add(workers, turner)?;
     Ok(())
 }
 
 /// Adds so many turners, each with a rotator of its own.
 pub fn add_turners<'a, H, D: Disk + Drop, M: MakeRotator>(
-    rt: &'a HostRuntime,
+    ground: &Ground<'a, H>,
     workers: &mut Vec<Hand<'a, H, D, M::Made>>,
     rotators: &M,
     count: u32,
@@ -118,12 +151,7 @@ pub fn add_turners<'a, H, D: Disk + Drop, M: MakeRotator>(
     ensures long { OnOk result (vec_len workers.new ≡ vec_len workers.old + count) }
 {
     for number in 0..count {
-        let turner = WorkerBy::turner(
-            rotators.make()?,
-            SystemClock::new(rt),
-            SystemWords::new(rt.alloc(), rt),
-        );
-        add(workers, turner)?;
+        add_turner(ground, workers, rotators.make()?)?;
     }
     Ok(())
 }

@@ -1,6 +1,8 @@
 //! How connections come in: a porter accepts them, and doors serve them.
 use crate::hall::Hall;
+use crate::logged_stream::LoggedStream;
 use crate::porter::Porter;
+use crate::request_log::RequestLog;
 use crate::served_stream::ServedStream;
 use crate::timed_stream::TimedStream;
 use std::io;
@@ -14,17 +16,29 @@ pub struct Door<'a, H> {
     pub rt: &'a HostRuntime,
     pub threads: &'a H,
     pub hall: &'a Hall,
+    /// Whether each request gets a line.
+    pub log: bool,
 }
 
 impl<'a, H: Wait> Door<'a, H> {
     /// The next connection, or that no more will come.
-    fn next(&self) -> io::Result<(ServedStream<'a>, SocketAddr)> {
+    fn next(&self) -> io::Result<(LoggedStream<'a>, SocketAddr)> {
         match self.hall.receive(self.threads) {
             Some((stream, address)) => {
-                let stream = TimedStream::new(self.rt, self.hall, stream);
-                Ok((ServedStream::new(stream), address))
+                let stream = ServedStream::new(TimedStream::new(self.rt, self.hall, stream));
+                let log = self.log();
+                Ok((LoggedStream { stream, log }, address))
             }
             None => Err(io::Error::from(ErrorKind::NotConnected)),
+        }
+    }
+
+    /// The log of a connection, where one is kept.
+    fn log(&self) -> Option<RequestLog<'a>> {
+        if self.log {
+            Some(RequestLog::new(self.rt))
+        } else {
+            None
         }
     }
 }
@@ -37,9 +51,9 @@ pub enum Entrance<'a, H> {
 }
 
 impl<'a, H: Wait> OpenListener for Entrance<'a, H> {
-    type Stream = ServedStream<'a>;
+    type Stream = LoggedStream<'a>;
 
-    fn accept(&self) -> io::Result<(ServedStream<'a>, SocketAddr)> {
+    fn accept(&self) -> io::Result<(LoggedStream<'a>, SocketAddr)> {
         match self {
             Entrance::Porter(porter) => Err(porter.keep()),
             Entrance::Door(door) => door.next(),

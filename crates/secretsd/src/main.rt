@@ -7,30 +7,48 @@
 #![tactic(auto)]
 
 mod crew;
+mod deed;
 mod ending;
 mod entrance;
+mod entropy;
+mod folder_disk;
 mod hall;
+mod logged_stream;
+mod opening;
 mod orders;
 mod parting;
+mod peer;
+mod people_file;
+mod people_line;
 mod porter;
 mod probing;
+mod reports;
+mod request_line;
+mod request_log;
 mod rotators;
 mod served_stream;
 mod serving;
+mod starting;
 mod timed_stream;
+mod welcome;
 
 ghost use Rattle.sm_words.specs.Reading.{IsInBounds};
 
 use crate::ending::say_end;
+use crate::entropy::SaidRandom;
+use crate::folder_disk::FolderDisk;
+use crate::opening::Opening;
 use crate::orders::{Orders, empty_disk};
+use crate::people_file::people_text;
+use crate::reports::Reports;
 use crate::rotators::{Linked, Local, MakeRotator};
 use crate::serving::serve;
-use sm_disk::{Disk, FileDisk};
+use crate::starting::say_start;
+use sm_disk::Disk;
 use sm_io::{
     Clock, CountWords, FixedClock, StreamSink, StreamSource, SystemClock, SystemWords, Words,
 };
-use sm_model::{Copied, Fails, Moment, NoMemory};
-use sm_principal::{People, PeopleRefused};
+use sm_model::{Fails, Moment, NoMemory};
 use sm_rotator::Rotator;
 use sm_server::{Status, run_once};
 use sm_words::{Mode, Settings, WordsRefused, read_words, refusal_of};
@@ -40,7 +58,7 @@ use std::io::ErrorKind;
 use std::process::ExitCode;
 use std::sync::Wait;
 use std::thread::Threads;
-use std::{env, fs, io};
+use std::{env, io};
 
 /// What the clock reads where a number is given.
 const FIXED_MOMENT: Moment = Moment(1_700_000_000);
@@ -103,12 +121,14 @@ fn follow_settings<H: Threads + Wait + Sync>(
 {
     match people_text(rt, settings) {
         Ok(people) => {
-            let people = people.as_slice();
+            let reports = Reports::new(rt);
             let orders = Orders {
                 words,
                 settings,
-                people,
+                people: people.as_slice(),
+                reports: &reports,
             };
+            say_start(rt, settings);
             if settings.mode == Mode::Serve {
                 serve(rt, threads, &orders)
             } else {
@@ -141,30 +161,6 @@ fn show(rt: &HostRuntime, text: &str) -> Status {
     }
 }
 
-/// The text of the file that says who may ask, where one is named, and else none. It is tried before a folder is
-/// opened.
-fn people_text(rt: &HostRuntime, settings: &Settings) -> Result<Vec<u8>, Status> {
-    let Some(file) = &settings.people else {
-        return Ok(Vec::new(rt.alloc()));
-    };
-    let file = file.as_str();
-    match fs::read(rt, file) {
-        Ok(text) => match People::read(rt.alloc(), text.as_slice()) {
-            Ok(_) => Ok(text),
-            Err(PeopleRefused::BadLine(line)) => {
-                let _ = eprintln!(rt; "secretsd: line {line} of {file} is no person");
-                Err(Status::People(line))
-            }
-            Err(PeopleRefused::Memory) => Err(Status::Memory),
-        },
-        Err(error) if error.kind() == ErrorKind::OutOfMemory => Err(Status::Memory),
-        Err(error) => {
-            let _ = eprintln!(rt; "secretsd: the people of {file} can't be read: {error}");
-            Err(Status::People(0))
-        }
-    }
-}
-
 /// Runs over the folder that is named, and else over a disk in memory, which is let go at the end.
 fn run(rt: &HostRuntime, orders: &Orders) -> Status {
     match &orders.settings.folder {
@@ -178,7 +174,8 @@ fn run(rt: &HostRuntime, orders: &Orders) -> Status {
 
 /// Runs over a folder.
 fn run_over_folder(rt: &HostRuntime, orders: &Orders, folder: &str) -> Status {
-    match FileDisk::open(rt, rt.alloc(), folder) {
+    let opening = Opening::new(rt);
+    match FolderDisk::open(rt, folder, orders.reports, &opening) {
         Ok(disk) => run_over(rt, orders, disk),
         Err(refused) => {
             let _ = eprintln!(rt; "secretsd: the folder {folder} can't be opened: {refused}");
@@ -199,7 +196,8 @@ fn run_over<D: Disk + Drop>(rt: &HostRuntime, orders: &Orders, disk: D) -> Statu
         }
         None => {
             let mut clock = SystemClock::new(rt);
-            let mut random = SystemWords::new(alloc, rt);
+            let reports = orders.reports;
+            let mut random = SystemWords::new(alloc, SaidRandom { rt, reports });
             run_with(rt, orders, disk, &mut clock, &mut random)
         }
     }
@@ -213,20 +211,18 @@ fn run_with<D: Disk + Drop, C: Clock, W: Words>(
     clock: &mut C,
     random: &mut W,
 ) -> Status {
-    let alloc = rt.alloc();
-    if orders.settings.rotator.as_str() == "local" {
-        return run_made(rt, orders, disk, clock, random, &Local { alloc });
-    }
-    match orders.settings.rotator.copy(alloc) {
-        Ok(address) => {
-            let linked = Linked {
-                alloc,
-                system: rt,
-                address,
-            };
-            run_made(rt, orders, disk, clock, random, &linked)
-        }
-        Err(NoMemory) => Status::Memory,
+    let reports = orders.reports;
+    let address = &orders.settings.rotator;
+    if address.as_str() == "local" {
+        let alloc = rt.alloc();
+        run_made(rt, orders, disk, clock, random, &Local { alloc, reports })
+    } else {
+        let linked = Linked {
+            rt,
+            reports,
+            address,
+        };
+        run_made(rt, orders, disk, clock, random, &linked)
     }
 }
 

@@ -1,5 +1,6 @@
 //! The one who accepts connections.
 use crate::hall::Hall;
+use crate::welcome::Welcome;
 use std::net::{OpenListener, TcpListener};
 use std::sync::Wait;
 use std::time::Duration;
@@ -43,12 +44,15 @@ pub struct Porter<'a, H> {
     pub threads: &'a H,
     pub hall: &'a Hall,
     pub listener: &'a TcpListener,
+    pub welcome: &'a Welcome<'a>,
 }
 
 impl<'a, H: Wait> Porter<'a, H> {
-    /// Accepts until that fails for good, closes the hall, and gives the reason. It says on standard error that no
-    /// connection can be accepted, once for each row of failures.
+    /// Says that the server can be asked: workers begin once the account is opened. Accepts until that fails for good,
+    /// closes the hall, and gives the reason. It says on standard error that no connection can be accepted, once for
+    /// each row of failures.
     pub fn keep(&self) -> io::Error {
+        self.welcome.say(self.rt, self.listener);
         let mut row: u32 = 0;
         for _ in self.threads.forever() {
             match self.listener.accept() {

@@ -1,9 +1,16 @@
-//! The rotators that the words name.
-use sm_model::{Copied, NoMemory, Text};
-use sm_rotator::{LinkRotator, LocalRotator, Rotator};
+//! The rotators that the words name. Each says which of its steps failed.
+use crate::deed::Deeds;
+use crate::peer::PeerNet;
+use crate::reports::{Kind, Reports};
+use sm_base::limits::VALUE_LIMIT;
+use sm_model::{Answer, Copied, NoMemory, Stage, Text, Value};
+use sm_rotator::{Asked, LinkRotator, LocalRotator, Rotator, Work};
 use std::alloc::Global;
-use std::net::Net;
-use std::time::Clock;
+use std::sync::Arc;
+use std::time::{Clock, Duration};
+
+/// How many seconds a step of a link may take in all.
+const SECONDS: u64 = 20;
 
 /// What makes rotators of one kind.
 pub trait MakeRotator {
@@ -15,31 +22,174 @@ pub trait MakeRotator {
 
 /// Makes local rotators.
 #[derive(Drop)]
-pub struct Local {
+pub struct Local<'a> {
     pub alloc: Global,
+    pub reports: &'a Reports<'a>,
 }
 
-impl MakeRotator for Local {
-    type Made = LocalRotator;
+impl<'a> MakeRotator for Local<'a> {
+    type Made = SaidRotator<'a, LocalRotator>;
 
-    fn make(&self) -> Result<LocalRotator, NoMemory> {
-        Ok(LocalRotator::new(self.alloc))
+    fn make(&self) -> Result<SaidRotator<'a, LocalRotator>, NoMemory> {
+        Ok(SaidRotator {
+            rotator: LocalRotator::new(self.alloc),
+            reports: self.reports,
+            peer: None,
+        })
     }
 }
 
 /// Makes rotators behind an address, by a system's network and clock.
 #[derive(Drop)]
-pub struct Linked<S> {
-    pub alloc: Global,
-    pub system: S,
-    pub address: Text,
+pub struct Linked<'a> {
+    pub rt: &'a HostRuntime,
+    pub reports: &'a Reports<'a>,
+    pub address: &'a Text,
 }
 
-impl<S: Net + Clock + Copy + Drop + Send> MakeRotator for Linked<S> {
-    type Made = LinkRotator<S>;
+impl<'a> MakeRotator for Linked<'a> {
+    type Made = SaidRotator<'a, LinkRotator<PeerNet<'a>>>;
 
-    fn make(&self) -> Result<LinkRotator<S>, NoMemory> {
-        let address = self.address.copy(self.alloc)?;
-        Ok(LinkRotator::new(self.alloc, self.system, address))
+    fn make(&self) -> Result<SaidRotator<'a, LinkRotator<PeerNet<'a>>>, NoMemory> {
+        let alloc = self.rt.alloc();
+        let deeds = Arc::new(alloc, Deeds::none())?;
+        let net = PeerNet {
+            rt: self.rt,
+            deeds: Arc::clone(&deeds)?,
+        };
+        let address = self.address.copy(alloc)?;
+        Ok(SaidRotator {
+            rotator: LinkRotator::new(alloc, net, address),
+            reports: self.reports,
+            peer: Some(Peer { rt: self.rt, deeds }),
+        })
     }
+}
+
+/// What is known of a peer.
+#[derive(Drop)]
+struct Peer<'a> {
+    rt: &'a HostRuntime,
+    deeds: Arc<Deeds>,
+}
+
+impl<'a> Peer<'a> {
+    /// The time by the clock that never goes back.
+    fn time(&self) -> Duration {
+        match self.rt.monotonic() {
+            Ok(time) => time,
+            Err(_) => Duration::ZERO,
+        }
+    }
+}
+
+/// A rotator that says each step that failed: the secret, the step, the attempt, and what was answered or what the peer
+/// did in place of an answer. No value stands in such a line.
+#[derive(Drop)]
+pub struct SaidRotator<'a, R> {
+    rotator: R,
+    reports: &'a Reports<'a>,
+    peer: Option<Peer<'a>>,
+}
+
+impl<'a, R> SaidRotator<'a, R> {
+    /// When a step begins.
+    fn begin(&self) -> Duration {
+        match &self.peer {
+            Some(peer) => {
+                peer.deeds.begin();
+                peer.time()
+            }
+            None => Duration::ZERO,
+        }
+    }
+
+    /// Says the end of a step, where it failed.
+    fn tell(&self, work: &Work, start: Duration, answer: &Answer) {
+        match answer {
+            Answer::Failed => self.tell_failed(work, start),
+            Answer::No => self.say(work, "it answered No"),
+            Answer::Yes => self.tell_yes(work),
+            Answer::Value(value) => self.tell_value(work, value),
+        }
+    }
+
+    /// Says a step to which the peer gave no answer.
+    fn tell_failed(&self, work: &Work, start: Duration) {
+        match &self.peer {
+            Some(peer) => {
+                if peer.time().saturating_sub(start) >= Duration::from_secs(SECONDS) {
+                    self.say(work, "it gave no answer within 20 seconds");
+                } else {
+                    self.say(work, &*peer.deeds);
+                }
+            }
+            None => self.say(work, "it gave no answer"),
+        }
+    }
+
+    /// Says a step that wanted a value, where the answer is a yes.
+    fn tell_yes(&self, work: &Work) {
+        if work.at.stage == Stage::Create {
+            self.say(work, "it answered Yes, and gave no value");
+        }
+    }
+
+    /// Says a step that wanted no value, where the answer is one, or whose value is too long.
+    fn tell_value(&self, work: &Work, value: &Value) {
+        if work.at.stage != Stage::Create {
+            self.say(work, "it gave a value where none was asked for");
+        } else if length_of(value) > VALUE_LIMIT {
+            self.say(work, "it gave a value that is too long");
+        }
+    }
+
+    /// Says a step that failed.
+    fn say<D: std::fmt::Display + Drop>(&self, work: &Work, what: D) {
+        let arn = work.arn.as_text().as_str();
+        let step = step_name(work.at.stage);
+        let attempt = work.at.attempt;
+        self.reports.say(
+            Kind::Rotation,
+            format_args!("the rotation of {arn} failed at {step}, attempt {attempt} of 5: {what}"),
+        );
+    }
+}
+
+/// How many bytes a value has.
+fn length_of(value: &Value) -> usize {
+    match value {
+        Value::Text(text) => text.as_bytes().len(),
+        Value::Bytes(bytes) => bytes.as_slice().len(),
+    }
+}
+
+/// The name of a step.
+fn step_name(stage: Stage) -> &'static str {
+    match stage {
+        Stage::Create => "createSecret",
+        Stage::Set => "setSecret",
+        Stage::Test => "testSecret",
+        Stage::Finish => "finishSecret",
+    }
+}
+
+impl<'a, R: Rotator> Rotator for SaidRotator<'a, R> {
+    ghost replies = { R.replies };
+
+    ghost faults = { λ it. R.faults it.rotator };
+
+    ghost told = { λ it. R.told it.rotator };
+
+    fn ask(&mut self, work: &Work) -> Asked {
+        let start = self.begin();
+        let asked = self.rotator.ask(work);
+        match &asked {
+            Asked::Answered(answer) => self.tell(work, start, answer),
+            Asked::Memory => {}
+        }
+        asked
+    }
+
+    ghost may_fail = { R.may_fail };
 }

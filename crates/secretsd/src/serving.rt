@@ -4,12 +4,15 @@ ghost use Rattle.sm_words.specs.Reading.{IsInBounds};
 ghost use Rattle.sm_workers.specs.Workers.{IsFresh};
 
 use crate::crew::{Ground, Hand, add_doors, add_porter, add_turners};
+use crate::folder_disk::FolderDisk;
 use crate::hall::Hall;
+use crate::opening::Opening;
 use crate::orders::{Orders, empty_disk};
 use crate::probing::has_threads;
 use crate::rotators::{Linked, Local, MakeRotator};
-use sm_disk::{Disk, FileDisk};
-use sm_model::{Copied, NoMemory};
+use crate::welcome::Welcome;
+use sm_disk::Disk;
+use sm_model::NoMemory;
 use sm_server::{RanBy, Status, run_server};
 use sm_words::Settings;
 use std::net::TcpListener;
@@ -46,6 +49,16 @@ fn listen<H: Threads + Wait + Sync>(rt: &HostRuntime, threads: &H, orders: &Orde
     }
 }
 
+/// What a server stands on.
+#[derive(Drop)]
+struct Site<'a, H> {
+    rt: &'a HostRuntime,
+    threads: &'a H,
+    orders: &'a Orders<'a>,
+    listener: &'a TcpListener,
+    opening: &'a Opening<'a>,
+}
+
 /// Serves over the folder that is named, and else over a disk in memory.
 fn serve_disk<H: Threads + Wait + Sync>(
     rt: &HostRuntime,
@@ -55,33 +68,30 @@ fn serve_disk<H: Threads + Wait + Sync>(
 ) -> Status
     requires { IsInBounds orders.now.settings.now }
 {
+    let opening = Opening::new(rt);
+    let site = Site {
+        rt,
+        threads,
+        orders,
+        listener,
+        opening: &opening,
+    };
     match &orders.settings.folder {
-        Some(folder) => serve_folder(rt, threads, orders, listener, folder.as_str()),
+        Some(folder) => serve_folder(&site, folder.as_str()),
         None => match empty_disk(rt.alloc()) {
-            Ok(disk) => {
-                say_listening(rt, orders, listener, "memory");
-                serve_over(rt, threads, orders, listener, disk)
-            }
+            Ok(disk) => serve_over(&site, disk),
             Err(NoMemory) => Status::Memory,
         },
     }
 }
 
 /// Serves over a folder.
-fn serve_folder<H: Threads + Wait + Sync>(
-    rt: &HostRuntime,
-    threads: &H,
-    orders: &Orders,
-    listener: &TcpListener,
-    folder: &str,
-) -> Status
-    requires { IsInBounds orders.now.settings.now }
+fn serve_folder<H: Threads + Wait + Sync>(site: &Site<H>, folder: &str) -> Status
+    requires { IsInBounds site.now.orders.now.settings.now }
 {
-    match FileDisk::open(rt, rt.alloc(), folder) {
-        Ok(disk) => {
-            say_listening(rt, orders, listener, folder);
-            serve_over(rt, threads, orders, listener, disk)
-        }
+    let rt = site.rt;
+    match FolderDisk::open(rt, folder, site.orders.reports, site.opening) {
+        Ok(disk) => serve_over(site, disk),
         Err(refused) => {
             let _ = eprintln!(rt; "secretsd: the folder {folder} can't be opened: {refused}");
             Status::OpenFault
@@ -89,71 +99,76 @@ fn serve_folder<H: Threads + Wait + Sync>(
     }
 }
 
-/// Says where it listens, where the secrets are, and how many workers there are. With the port 0 the system chose one.
-fn say_listening(rt: &HostRuntime, orders: &Orders, listener: &TcpListener, place: &str) {
-    let connections = orders.settings.connections;
-    let workers = orders.settings.workers;
-    let _ = match listener.local_addr() {
-        Ok(address) => eprintln!(rt;
-            "secretsd: listening on {address}, data in {place}, {connections} connections, {workers} rotation workers"
-        ),
-        Err(error) => eprintln!(rt;
-            "secretsd: listening, but at no address that is known: {error}"
-        ),
-    };
-}
-
 /// Serves over a disk, with the local rotator or those behind an address.
-fn serve_over<D: Disk + Drop + Send, H: Threads + Wait + Sync>(
-    rt: &HostRuntime,
-    threads: &H,
-    orders: &Orders,
-    listener: &TcpListener,
-    disk: D,
-) -> Status
-    requires { IsInBounds orders.now.settings.now }
+fn serve_over<D: Disk + Drop + Send, H: Threads + Wait + Sync>(site: &Site<H>, disk: D) -> Status
+    requires { IsInBounds site.now.orders.now.settings.now }
 {
-    let alloc = rt.alloc();
-    if orders.settings.rotator.as_str() == "local" {
-        return serve_with(rt, threads, orders, listener, disk, &Local { alloc });
-    }
-    match orders.settings.rotator.copy(alloc) {
-        Ok(address) => {
-            let linked = Linked {
-                alloc,
-                system: rt,
-                address,
-            };
-            serve_with(rt, threads, orders, listener, disk, &linked)
-        }
-        Err(NoMemory) => Status::Memory,
+    let rt = site.rt;
+    let reports = site.orders.reports;
+    let address = &site.orders.settings.rotator;
+    if address.as_str() == "local" {
+        let alloc = rt.alloc();
+        serve_with(site, disk, &Local { alloc, reports })
+    } else {
+        let linked = Linked {
+            rt,
+            reports,
+            address,
+        };
+        serve_with(site, disk, &linked)
     }
 }
 
 /// Serves with these rotators.
 fn serve_with<D: Disk + Drop + Send, M: MakeRotator, H: Threads + Wait + Sync>(
-    rt: &HostRuntime,
-    threads: &H,
-    orders: &Orders,
-    listener: &TcpListener,
+    site: &Site<H>,
+    disk: D,
+    rotators: &M,
+) -> Status
+    requires { IsInBounds site.now.orders.now.settings.now }
+{
+    let hall = Hall::new();
+    let welcome = Welcome {
+        settings: site.orders.settings,
+        opening: site.opening,
+    };
+    let ground = Ground {
+        rt: site.rt,
+        threads: site.threads,
+        hall: &hall,
+        reports: site.orders.reports,
+        log: site.orders.settings.log,
+    };
+    serve_on(
+        &ground,
+        site.orders,
+        site.listener,
+        &welcome,
+        disk,
+        rotators,
+    )
+}
+
+/// Serves with workers that stand on this ground.
+fn serve_on<'a, D: Disk + Drop + Send, M: MakeRotator, H: Threads + Wait + Sync>(
+    ground: &Ground<'a, H>,
+    orders: &'a Orders<'a>,
+    listener: &'a TcpListener,
+    welcome: &'a Welcome<'a>,
     disk: D,
     rotators: &M,
 ) -> Status
     requires { IsInBounds orders.now.settings.now }
 {
-    let hall = Hall::new();
-    let ground = Ground {
-        rt,
-        threads,
-        hall: &hall,
-    };
-    let mut workers: Vec<Hand<H, D, M::Made>> = Vec::new(rt.alloc());
-    if let Err(NoMemory) = add_all(&ground, &mut workers, listener, rotators, orders.settings) {
+    let alloc = ground.rt.alloc();
+    let mut workers: Vec<Hand<'a, H, D, M::Made>> = Vec::new(alloc);
+    let settings = orders.settings;
+    if let Err(NoMemory) = add_all(ground, &mut workers, listener, welcome, rotators, settings) {
         return Status::Memory;
     }
     let ran = run_server(
-        threads,
-        rt.alloc(),
+        ground.threads,
+        alloc,
         orders.words,
         workers.as_mut_slice(),
         disk,
@@ -170,6 +185,7 @@ fn add_all<'a, H: Wait, D: Disk + Drop, M: MakeRotator>(
     ground: &Ground<'a, H>,
     workers: &mut Vec<Hand<'a, H, D, M::Made>>,
     listener: &'a TcpListener,
+    welcome: &'a Welcome<'a>,
     rotators: &M,
     settings: &Settings,
 ) -> Result<(), NoMemory>
@@ -177,8 +193,8 @@ fn add_all<'a, H: Wait, D: Disk + Drop, M: MakeRotator>(
     ensures all { OnOk result (All IsFresh workers.new.items) }
     ensures long { OnOk result (vec_len workers.new ≡ 1 + settings.now.connections + settings.now.workers) }
 {
-    add_porter(ground, workers, listener)?;
+    add_porter(ground, workers, listener, welcome)?;
     add_doors(ground, workers, settings.connections)?;
-    add_turners(ground.rt, workers, rotators, settings.workers)?;
+    add_turners(ground, workers, rotators, settings.workers)?;
     Ok(())
 }

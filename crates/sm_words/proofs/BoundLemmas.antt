@@ -13,12 +13,43 @@ unlike : {X : Type 0} → false ≡ true → X
 unlike e = absurd (false≢true e)
 
 connections-suit : AllSuit (codes "connections") 1 64 (built app).top.rules
-connections-suit =
-    (unlike, (unlike, (unlike, (unlike, (unlike, ((λ e. (refl, refl)), (unlike, (unlike, (unlike, (unlike, tt))))))))))
+connections-suit = (
+  unlike,
+  (
+    unlike,
+    (
+      unlike,
+      (
+        unlike,
+        (
+          unlike,
+          ((λ e. (refl, refl)), (unlike, (unlike, (unlike, (unlike, (unlike, tt)))))),
+        ),
+      ),
+    ),
+  ),
+)
 
 workers-suit : AllSuit (codes "workers") 0 16 (built app).top.rules
-workers-suit =
-    (unlike, (unlike, (unlike, (unlike, (unlike, (unlike, ((λ e. (refl, refl)), (unlike, (unlike, (unlike, tt))))))))))
+workers-suit = (
+  unlike,
+  (
+    unlike,
+    (
+      unlike,
+      (
+        unlike,
+        (
+          unlike,
+          (
+            unlike,
+            ((λ e. (refl, refl)), (unlike, (unlike, (unlike, (unlike, tt))))),
+          ),
+        ),
+      ),
+    ),
+  ),
+)
 
 connections-fit : (words : List Text) → faults words ≡ [] → AllFit (codes "connections") 1 64 (found words)
 unfolding faults found

@@ -3,7 +3,9 @@ use Rattle.std.specs.Prelude.{◌≡◌, ℕ, true, List, [], ◌∷◌, Some, c
 use Rattle.std.specs.Borrow.{Bor}
 use Rattle.clap.specs.Words.{App, Kinds, Row, Rule, Text, fault_of, matches_of, new_app, new_rule, with_rule}
 use Rattle.clap.specs.Simple.{on_top}
+use Rattle.clap.specs.declared.builder.action.ArgAction.TheVariants.{SetTrue}
 use Rattle.clap.specs.declared.builder.value_parser.ValueParser.TheVariants as values
+use Rattle.sm_base.specs.declared.limits.TheConstants.{DOORS_LIMIT, TURNERS_LIMIT}
 
 -- an option of this name that takes one value
 abbrev pub option_rule : Text → Rule
@@ -48,13 +50,17 @@ abbrev pub rotator_rule : Rule
 rotator_rule = with_default (codes "local") (option_rule (codes "rotator"))
 
 abbrev pub connections_rule : Rule
-connections_rule = with_default (codes "4") (number_from 1 64 (codes "connections"))
+connections_rule = with_default (codes "4") (number_from 1 DOORS_LIMIT (codes "connections"))
 
 abbrev pub workers_rule : Rule
-workers_rule = with_default (codes "2") (number_from 0 16 (codes "workers"))
+workers_rule = with_default (codes "2") (number_from 0 TURNERS_LIMIT (codes "workers"))
 
 abbrev pub number_rule : Rule
 number_rule = number_from 0 18446744073709551615 (codes "number")
+
+-- a flag: a word without a value
+abbrev pub log_rule : Rule
+log_rule = record (new_rule (codes "log")) { long = Some (codes "log"); action = Some SetTrue }
 
 -- the command without its options: its words stand without the program's name, and it has a version
 abbrev pub bare_app : App
@@ -62,8 +68,9 @@ bare_app = on_top (λ s. record s { no_binary_name = true; has_version = true })
 
 -- the command, with the names of the modes where they lie
 abbrev pub app_at : Names → App
-app_at names = with_rule (with_rule (with_rule (with_rule (with_rule (with_rule (with_rule (with_rule bare_app
-    (mode_rule names)) data_rule) people_rule) listen_rule) rotator_rule) connections_rule) workers_rule) number_rule
+app_at names = with_rule (with_rule (with_rule (with_rule (with_rule (with_rule (with_rule (with_rule
+    (with_rule bare_app (mode_rule names)) data_rule) people_rule) listen_rule) rotator_rule) connections_rule)
+    workers_rule) number_rule) log_rule
 
 -- the command, wherever the names lie
 abbrev pub IsApp : App → Type 0

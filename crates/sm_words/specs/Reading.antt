@@ -1,10 +1,11 @@
 -- What the words ask for.
-use Rattle.std.specs.Prelude.{ℕ, ◌≤◌, ◌^◌, ◌&&◌, if◌then◌else◌, nat_lt, List, [], ◌∷◌, Option, Some, None, unwrap_or}
+use Rattle.std.specs.Prelude.{ℕ, Bool, false, ◌≤◌, ◌^◌, ◌&&◌, if◌then◌else◌, nat_lt, List, [], ◌∷◌, Option, Some, None, unwrap_or}
 use Rattle.std.specs.Prelude.{option_and_then, Result, Ok, Err, codes}
 use Rattle.std.specs.Str.{bytes_eq}
 use Rattle.std.specs.Str.Parse.{digits_value, without_leading_plus}
 use Rattle.clap.specs.Words.{Kinds, Row, Text, first_of, one_of}
 use Rattle.clap.specs.ValueTests.{is_numeral}
+use Rattle.sm_base.specs.declared.limits.TheConstants.{DOORS_LIMIT, TURNERS_LIMIT}
 use Rattle.sm_words.specs.declared.settings.Mode.{Mode}
 use Rattle.sm_words.specs.declared.settings.Mode.TheVariants.{Exec, Serve, Check, Drill}
 use Rattle.sm_words.specs.declared.settings.Settings.{Settings}
@@ -29,6 +30,11 @@ number_in bits text =
 abbrev pub number_of : ℕ → Text → List Row → Option ℕ
 number_of bits name rows = option_and_then (number_in bits) (one_of name rows)
 
+-- a flag's value where it stands among the words
+abbrev pub is_set : Option Text → Bool
+is_set None = false
+is_set (Some value) = bytes_eq value (codes "true")
+
 -- each option's value, or what stands for it
 abbrev pub settings_in : List Row → Settings
 settings_in rows = record {
@@ -40,6 +46,7 @@ settings_in rows = record {
   connections = unwrap_or (number_of 32 (codes "connections") rows) 4;
   workers = unwrap_or (number_of 32 (codes "workers") rows) 2;
   number = number_of 64 (codes "number") rows;
+  log = is_set (first_of (codes "log") rows);
 }
 
 abbrev pub settings_if : Kinds → List Row → Option Settings
@@ -50,9 +57,10 @@ settings_if (kind ∷ kinds) rows = None
 abbrev pub settings_of : List Text → Option Settings
 settings_of words = settings_if (faults words) (found words)
 
--- 1 to 64 connections, and 16 workers at most
+-- as many connections and workers as a server may have
 abbrev pub IsInBounds : Settings → Type 0
-IsInBounds settings = (1 ≤ settings.connections) × (settings.connections ≤ 64) × (settings.workers ≤ 16)
+IsInBounds settings =
+    (1 ≤ settings.connections) × (settings.connections ≤ DOORS_LIMIT) × (settings.workers ≤ TURNERS_LIMIT)
 
 -- an answer, where it is not want of memory
 abbrev pub told : Result Settings WordsRefused → Option (Option Settings)

@@ -1,11 +1,12 @@
 //! The words that the program takes, each with what help says of it.
 ghost use Rattle.std.specs.Prelude.{◌≡◌, false};
 ghost use Rattle.clap.specs.Words.{rule_of};
-ghost use Rattle.sm_words.specs.Command.{IsModeRule, connections_rule, data_rule, listen_rule, number_rule};
+ghost use Rattle.sm_words.specs.Command.{IsModeRule, connections_rule, data_rule, listen_rule, log_rule, number_rule};
 ghost use Rattle.sm_words.specs.Command.{option_rule, people_rule, rotator_rule, workers_rule};
 
-use clap::Arg;
 use clap::builder::ValueParser;
+use clap::{Arg, ArgAction};
+use sm_base::limits::{DOORS_LIMIT, TURNERS_LIMIT};
 use std::alloc::Global;
 
 /// The address that is listened on without `--listen`.
@@ -130,7 +131,7 @@ pub fn connections<'a>(alloc: Global) -> Arg<'a>
         "How many connections are served at a time, in mode serve. Further ones wait for their turn.\n\
          Example: --connections 16",
     )
-    .value_parser(ValueParser::unsigned(1, 64))
+    .value_parser(ValueParser::unsigned(1, DOORS_LIMIT as u64))
     .default_value("4")
 }
 
@@ -148,7 +149,7 @@ pub fn workers<'a>(alloc: Global) -> Arg<'a>
          further.\n\
          Example: --workers 1",
     )
-    .value_parser(ValueParser::unsigned(0, 16))
+    .value_parser(ValueParser::unsigned(0, TURNERS_LIMIT as u64))
     .default_value("2")
 }
 
@@ -167,4 +168,20 @@ pub fn number<'a>(alloc: Global) -> Arg<'a>
          Example: --mode exec --number 0",
     )
     .value_parser(ValueParser::unsigned(0, u64::MAX))
+}
+
+/// `--log`: whether each request gets a line.
+pub fn log<'a>(alloc: Global) -> Arg<'a>
+    ensures rule { rule_of result ≡ log_rule }
+    ensures global { result.global ≡ false }
+{
+    Arg::new(alloc, "log")
+        .long("log")
+        .help("Writes a line on standard error for each request, in mode serve")
+        .long_help(
+            "Writes a line on standard error for each request, in mode serve: the time, the access key, the operation, \
+             the secret that was named, the status and the microseconds that it took. No value stands in it.\n\
+             Example: --log",
+        )
+        .action(ArgAction::SetTrue)
 }

@@ -3,7 +3,7 @@ ghost use Rattle.std.specs.Prelude.{◌≡◌, IfOk};
 ghost use Rattle.clap.specs.Words.{app_of};
 ghost use Rattle.sm_words.specs.Command.{IsApp, bare_app};
 
-use crate::arguments::{connections, data, listen, mode, number, people, rotator, workers};
+use crate::arguments::{connections, data, listen, log, mode, number, people, rotator, workers};
 use clap::Command;
 use std::alloc::{AllocError, Global};
 
@@ -16,6 +16,8 @@ fn bare<'a>(alloc: Global) -> Command<'a>
         .about("A server with the behaviour of AWS Secrets Manager, on one's own machine")
         .after_long_help(
             "Examples:\n  \
+             secretsd --mode serve --data secrets\n      \
+             serves at 127.0.0.1:7777 until it is stopped, and keeps the secrets in a folder\n  \
              secretsd --data secrets < messages\n      \
              answers the HTTP messages of a file on standard output, and keeps the secrets in a folder\n  \
              secretsd --number 0 < messages\n      \
@@ -37,6 +39,7 @@ pub fn command<'a>(alloc: Global) -> Result<Command<'a>, AllocError>
         connections(alloc),
         workers(alloc),
         number(alloc),
+        log(alloc),
     ]?;
     bare(alloc).args(arguments)
 }

@@ -3,7 +3,7 @@ ghost use Rattle.std.specs.Prelude.{◌≡◌, IfOk, option_map, map, string_byt
 ghost use Rattle.clap.specs.Words.{FailsBy, first_of, found_of, rows_of};
 ghost use Rattle.sm_base.specs.Outcomes.{OrMemory};
 ghost use Rattle.sm_words.specs.Command.{faults, found};
-ghost use Rattle.sm_words.specs.Reading.{IsInBounds, mode_of, number_of, settings_in, settings_of, told};
+ghost use Rattle.sm_words.specs.Reading.{IsInBounds, is_set, mode_of, number_of, settings_in, settings_of, told};
 
 use crate::arguments::{LISTEN, ROTATOR};
 use crate::command::command;
@@ -49,6 +49,7 @@ fn settings(alloc: Global, matches: &ArgMatches<'_>) -> Result<Settings, NoMemor
         connections: count_of(matches, "connections").unwrap_or(4),
         workers: count_of(matches, "workers").unwrap_or(2),
         number: number_of(matches, "number"),
+        log: is_set(value_of(matches, "log")),
     })
 }
 
@@ -61,6 +62,16 @@ fn mode_of(name: Option<&str>) -> Mode
         Some("check") => Mode::Check,
         Some("drill") => Mode::Drill,
         _ => Mode::Exec,
+    }
+}
+
+/// Whether the value of a flag is that it stands among the words.
+fn is_set(value: Option<&str>) -> bool
+    ensures { result ≡ is_set (option_map (λ value. value.now) value.entry) }
+{
+    match value {
+        Some("true") => true,
+        _ => false,
     }
 }
 

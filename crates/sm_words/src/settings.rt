@@ -33,6 +33,8 @@ pub struct Settings {
     pub workers: u32,
     /// The number that a run without chance is made from.
     pub number: Option<u64>,
+    /// Whether each request gets a line.
+    pub log: bool,
 }
 
 /// Why words ask for nothing.

@@ -5,45 +5,56 @@ use std::alloc::{AllocError, Global};
 use std::test::Fail;
 
 /// Words, and the settings that are wanted of them, in the order of the fields.
-static READ: [(&str, &str); 47] = [
-    ("", "Exec - - 127.0.0.1:7777 local 4 2 None"),
-    ("--", "Exec - - 127.0.0.1:7777 local 4 2 None"),
-    ("--mode exec", "Exec - - 127.0.0.1:7777 local 4 2 None"),
-    ("--mode serve", "Serve - - 127.0.0.1:7777 local 4 2 None"),
-    ("--mode check", "Check - - 127.0.0.1:7777 local 4 2 None"),
-    ("--mode=drill", "Drill - - 127.0.0.1:7777 local 4 2 None"),
+static READ: [(&str, &str); 52] = [
+    ("", "Exec - - 127.0.0.1:7777 local 4 2 None -"),
+    ("--", "Exec - - 127.0.0.1:7777 local 4 2 None -"),
+    ("--mode exec", "Exec - - 127.0.0.1:7777 local 4 2 None -"),
+    ("--mode serve", "Serve - - 127.0.0.1:7777 local 4 2 None -"),
+    ("--mode check", "Check - - 127.0.0.1:7777 local 4 2 None -"),
+    ("--mode=drill", "Drill - - 127.0.0.1:7777 local 4 2 None -"),
     (
         "--data /var/lib",
-        "Exec /var/lib - 127.0.0.1:7777 local 4 2 None",
+        "Exec /var/lib - 127.0.0.1:7777 local 4 2 None -",
     ),
     (
         "--data=--mode",
-        "Exec --mode - 127.0.0.1:7777 local 4 2 None",
+        "Exec --mode - 127.0.0.1:7777 local 4 2 None -",
     ),
     (
         "--people people",
-        "Exec - people 127.0.0.1:7777 local 4 2 None",
+        "Exec - people 127.0.0.1:7777 local 4 2 None -",
     ),
-    ("--listen [::1]:80", "Exec - - [::1]:80 local 4 2 None"),
-    ("--rotator local", "Exec - - 127.0.0.1:7777 local 4 2 None"),
-    ("--rotator any", "Exec - - 127.0.0.1:7777 any 4 2 None"),
-    ("--connections 1", "Exec - - 127.0.0.1:7777 local 1 2 None"),
+    ("--listen [::1]:80", "Exec - - [::1]:80 local 4 2 None -"),
+    (
+        "--rotator local",
+        "Exec - - 127.0.0.1:7777 local 4 2 None -",
+    ),
+    ("--rotator any", "Exec - - 127.0.0.1:7777 any 4 2 None -"),
+    (
+        "--connections 1",
+        "Exec - - 127.0.0.1:7777 local 1 2 None -",
+    ),
     (
         "--connections=64",
-        "Exec - - 127.0.0.1:7777 local 64 2 None",
+        "Exec - - 127.0.0.1:7777 local 64 2 None -",
     ),
-    ("--workers 0", "Exec - - 127.0.0.1:7777 local 4 0 None"),
-    ("--workers 16", "Exec - - 127.0.0.1:7777 local 4 16 None"),
-    ("--workers 004", "Exec - - 127.0.0.1:7777 local 4 4 None"),
-    ("--number 0", "Exec - - 127.0.0.1:7777 local 4 2 Some(0)"),
-    ("--number +5", "Exec - - 127.0.0.1:7777 local 4 2 Some(5)"),
+    ("--workers 0", "Exec - - 127.0.0.1:7777 local 4 0 None -"),
+    ("--workers 16", "Exec - - 127.0.0.1:7777 local 4 16 None -"),
+    ("--workers 004", "Exec - - 127.0.0.1:7777 local 4 4 None -"),
+    ("--number 0", "Exec - - 127.0.0.1:7777 local 4 2 Some(0) -"),
+    ("--number +5", "Exec - - 127.0.0.1:7777 local 4 2 Some(5) -"),
     (
         "--number 18446744073709551615",
-        "Exec - - 127.0.0.1:7777 local 4 2 Some(18446744073709551615)",
+        "Exec - - 127.0.0.1:7777 local 4 2 Some(18446744073709551615) -",
     ),
     (
         "--number 7 --workers 1 --connections 2 --rotator r --listen l --people p --data d --mode drill",
-        "Drill d p l r 2 1 Some(7)",
+        "Drill d p l r 2 1 Some(7) -",
+    ),
+    ("--log", "Exec - - 127.0.0.1:7777 local 4 2 None log"),
+    (
+        "--mode serve --log --workers 1",
+        "Serve - - 127.0.0.1:7777 local 4 1 None log",
     ),
     ("--mode nonsense", "refused"),
     ("--mode Exec", "refused"),
@@ -65,6 +76,9 @@ static READ: [(&str, &str); 47] = [
     ("--number 18446744073709551616", "refused"),
     ("--number=-5", "refused"),
     ("--number 0x10", "refused"),
+    ("--log --log", "refused"),
+    ("--log=true", "refused"),
+    ("--log true", "refused"),
     ("--colour red", "refused"),
     ("serve", "refused"),
     ("-- serve", "refused"),
@@ -141,8 +155,9 @@ fn shown(alloc: Global, settings: &Settings) -> Result<String, AllocError> {
     let connections = settings.connections;
     let workers = settings.workers;
     let number = settings.number;
+    let log = if settings.log { "log" } else { "-" };
     format!(in alloc;
-        "{mode:?} {folder} {people} {listen} {rotator} {connections} {workers} {number:?}"
+        "{mode:?} {folder} {people} {listen} {rotator} {connections} {workers} {number:?} {log}"
     )
 }
 

@@ -1,0 +1,61 @@
+//! What is said of the words before they are followed.
+use sm_words::{Mode, Settings};
+use std::io::IsTerminal;
+use std::net::ToSocketAddrs;
+
+/// Says on standard error that a rotator can't be asked, and that messages are waited for.
+pub fn say_start(rt: &HostRuntime, settings: &Settings) {
+    match settings.mode {
+        Mode::Exec => {
+            say_form(rt, settings.rotator.as_str());
+            say_waiting(rt);
+        }
+        Mode::Serve => say_address(rt, settings.rotator.as_str()),
+        Mode::Check => {}
+        Mode::Drill => {}
+    }
+}
+
+/// Whether a text is a host and a port.
+fn is_address(text: &str) -> bool {
+    match text.rsplit_once(':') {
+        Some((host, port)) => !host.is_empty() && port.parse::<u16>().is_ok(),
+        None => false,
+    }
+}
+
+/// Says that a rotator is no address, and gives whether it is one.
+fn say_form(rt: &HostRuntime, rotator: &str) -> bool {
+    if rotator == "local" {
+        return false;
+    }
+    let is_address = is_address(rotator);
+    if !is_address {
+        let _ = eprintln!(rt;
+            "secretsd: the rotator {rotator} is neither local nor a host, a colon and a port: each step of a \
+             rotation fails"
+        );
+    }
+    is_address
+}
+
+/// Says that a rotator is no address, or that its name can't be found now. A run over a stream looks for no name, since
+/// it may end before a rotator is asked.
+fn say_address(rt: &HostRuntime, rotator: &str) {
+    if !say_form(rt, rotator) {
+        return;
+    }
+    if let Err(error) = rotator.to_socket_addrs(rt) {
+        let _ = eprintln!(rt; "secretsd: the rotator {rotator} is not found now: {error}");
+    }
+}
+
+/// Says that messages are waited for, where somebody sits before it who may not know.
+fn say_waiting(rt: &HostRuntime) {
+    if rt.stdin().is_terminal() {
+        let _ = eprintln!(rt;
+            "secretsd: waits for HTTP messages on standard input, up to its end (Control-D); secretsd --help says \
+             what else it does"
+        );
+    }
+}
