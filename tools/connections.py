@@ -28,10 +28,10 @@ PIDFD_GETFD = 438
 
 
 class Serving:
-    """The program in mode serve, at a port that the system chooses."""
+    """The program in mode serve, at a port that the system chooses. A command that is given first starts it."""
 
-    def __init__(self, program, *words, limit=""):
-        command = [program, "--mode", "serve", "--listen", "127.0.0.1:0", *words]
+    def __init__(self, program, *words, limit="", before=()):
+        command = [*before, program, "--mode", "serve", "--listen", "127.0.0.1:0", *words]
         if limit:
             command = ["sh", "-c", f'ulimit {limit} && exec "$@"', "sh", *command]
         self.process = subprocess.Popen(command, stderr=subprocess.PIPE, text=True)
@@ -326,7 +326,7 @@ def fault_of_row(program, row):
     def note(name, case):
         try:
             faults[name] = case(program)
-        except (OSError, ValueError, http.client.HTTPException, subprocess.TimeoutExpired) as error:
+        except (OSError, ValueError, LookupError, http.client.HTTPException, subprocess.TimeoutExpired) as error:
             faults[name] = repr(error)
 
     threads = [threading.Thread(target=note, args=item) for item in row.items()]
@@ -337,10 +337,10 @@ def fault_of_row(program, row):
     return "; ".join(f"{name}: {fault}" for name, fault in faults.items() if fault)
 
 
-def fault_of_connections(program):
+def fault_of_rows(program, what, rows):
     """The first row of cases in which something is wrong, and what."""
-    for row in CASES:
+    for row in rows:
         if fault := fault_of_row(program, row):
             return fault
-        print(f"serves: connections as they should be: {', '.join(row)}")
+        print(f"serves: {what} as they should be: {', '.join(row)}")
     return None
