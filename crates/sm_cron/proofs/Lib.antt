@@ -1,0 +1,11 @@
+pub mod CalendarLemmas
+pub mod DayLemmas
+pub mod JoinedLemmas
+pub mod LanguageLemmas
+pub mod ListedLemmas
+pub mod NextLemmas
+pub mod NumberLemmas
+pub mod PartedLemmas
+pub mod ReadingLemmas
+pub mod SetLemmas
+pub mod SpellingLemmas

@@ -1,0 +1,29 @@
+use Rattle.sm_cron.proofs.JoinedLemmas.{unparted_of, second_of, front_broken, fault_broken}
+use Rattle.sm_cron.specs.Spelling.{cron_from_days}
+use Rattle.sm_cron.proofs.SpellingLemmas.{days_go}
+use Rattle.sm_cron.proofs.crons.from_days.Goals as goal
+
+pub returns-in-None : goal.returns-in-None
+unfolding cron_from_days
+returns-in-None c =
+    unparted_of _ _ _ (days_go c.args.hours) c.args.text.now c.days_field.result c.unfinished.result
+    c.unfinished.ensures c.in-None.ensures c.days_field.ensures
+
+pub returns-in-Text : goal.returns-in-Text
+unfolding cron_from_days
+returns-in-Text c =
+    second_of _ _ _ (days_go c.args.hours) c.args.text.now c.in-Some.before.now c.in-Some.behind.now c.in-Text.days
+    c.from_months.result
+    c.in-Some.ensures c.in-Text.ensures c.from_months.ensures
+
+pub returns-in-Front : goal.returns-in-Front
+unfolding cron_from_days
+returns-in-Front c =
+    front_broken _ _ _ (days_go c.args.hours) c.args.text.now c.in-Some.before.now c.in-Some.behind.now
+    c.in-Some.ensures c.in-Front.ensures
+
+pub returns-in-Fault : goal.returns-in-Fault
+unfolding cron_from_days
+returns-in-Fault c =
+    fault_broken _ _ _ (days_go c.args.hours) c.args.text.now c.in-Some.before.now c.in-Some.behind.now
+    c.in-Some.ensures c.in-Fault.ensures

@@ -1,0 +1,6 @@
+pub mod Civil
+pub mod Days
+pub mod Languages
+pub mod Next
+pub mod Sets
+pub mod Spelling
