@@ -18,6 +18,10 @@ import model
 DELETION_OF_NOBODY = ("opened", "the deletion of nobody")
 
 DAY = 86400
+# A journal of at most so many bytes has no record, and is made anew.
+SHORT = 9
+# What a line begins with that says which step of a rotation failed, as the local rotator's may.
+STEP = "secretsd: the rotation of "
 # When a history begins, how long its clock stands between two messages, and how many steps of rotations are taken
 # behind each.
 BEGINNINGS = [0, model.NOW - 40 * DAY, model.NOW, model.NOW, model.LAST_MOMENT - 9 * DAY]
@@ -334,12 +338,15 @@ def questions(account):
 
 
 class Seen:
-    """What a run of a program over a folder shows: its code, what it writes, and the journal that it leaves."""
+    """What a run of a program over a folder shows: its code, what it writes, what it says but for steps of rotations that
+    failed, and the journal that it leaves."""
 
     def __init__(self, program, folder, mode, stream):
         words = [program, "--mode", mode, "--number", "0", "--data", folder]
         run = subprocess.run(words, input=stream, capture_output=True)
-        self.code, self.output, self.said = run.returncode, run.stdout, run.stderr.decode()
+        self.code, self.output = run.returncode, run.stdout
+        lines = run.stderr.decode().splitlines(keepends=True)
+        self.said = "".join(line for line in lines if not line.startswith(STEP))
         with open(os.path.join(folder, "journal-0"), "rb") as file:
             self.journal = file.read()
 
@@ -355,6 +362,17 @@ def refusal(damaged):
     return f"secretsd: the journal is damaged at {place}\nsecretsd: status 3\n"
 
 
+def cut_off(data):
+    """What is said of the bytes that an opening cuts off behind the last whole record, where all before are records."""
+    try:
+        end = len(model.mended(data))
+    except model.Damaged:
+        return ""
+    if len(data) <= max(end, SHORT):
+        return ""
+    return f"secretsd: {len(data) - end} bytes behind the last whole record of journal-0 are cut off, from byte {end} on\n"
+
+
 def difference(program, data, mode="check"):
     """What differs from the model when a program opens a folder with this journal, or None. A damaged one is opened in
     the mode alone, any other in mode check, and then it is read in mode exec."""
@@ -364,11 +382,10 @@ def difference(program, data, mode="check"):
         try:
             account = model.opened(data)
         except model.Damaged as damaged:
-            seen = Seen(program, folder, mode, b"")
-            names = seen.differs(3, b"", refusal(damaged), None)
-            return told(mode, names, seen, refusal(damaged))
+            seen, wanted = Seen(program, folder, mode, b""), cut_off(data) + refusal(damaged)
+            return told(mode, seen.differs(3, b"", wanted, None), seen, wanted)
         checked, shown = Seen(program, folder, "check", b""), model.summary(account)
-        names = checked.differs(0, shown, "", model.mended(data))
+        names = checked.differs(0, shown, cut_off(data), model.mended(data))
         if names:
             return told("check", names, checked, shown)
         stream = questions(account)

@@ -101,10 +101,11 @@ impl<'a> Opening<'a> {
         }
     }
 
-    /// Says how many bytes are cut off behind the last whole record of a journal, where it was just read.
+    /// Says how many bytes are cut off behind the last whole record of a journal, where it was just read. One that has
+    /// no more than its header and a gate is made anew, and nothing is lost by that.
     pub fn note_cut(&self, name: &str, end: u64) {
         let length = self.read.swap(NOTHING, Ordering::SeqCst);
-        if length != NOTHING && end < length {
+        if length != NOTHING && end > HEADER as u64 && end < length {
             let count = length - end;
             let _ = eprintln!(self.rt;
                 "secretsd: {count} bytes behind the last whole record of {name} are cut off, from byte {end} on"
