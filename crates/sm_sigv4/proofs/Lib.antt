@@ -1,0 +1,15 @@
+pub mod TestLemmas
+pub mod HmacLemmas
+pub mod TextLemmas
+pub mod FieldLemmas
+pub mod NameLemmas
+pub mod AuthorizationLemmas
+pub mod DigitLemmas
+pub mod ValueLemmas
+pub mod FeedLemmas
+pub mod PieceLemmas
+pub mod SentenceLemmas
+pub mod ReadLemmas
+pub mod SignatureLemmas
+pub mod SigningLemmas
+pub mod SignLemmas
