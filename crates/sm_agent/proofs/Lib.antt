@@ -1,0 +1,6 @@
+pub mod ValueLemmas
+pub mod CutLemmas
+pub mod KeyLemmas
+pub mod QueryLemmas
+pub mod JsonLemmas
+pub mod RunLemmas

@@ -1,0 +1,6 @@
+use Rattle.std.proofs.Common.{◌+◌, ◌-◌, vec_len}
+use Rattle.sm_agent.specs.declared.link.TheConstants.{REPLY_LIMIT}
+use Rattle.sm_agent.proofs.link.read_reply.Given as goal
+
+abbrev pub decreases-loop-alloc : goal.decreases-loop-alloc
+decreases-loop-alloc g l = REPLY_LIMIT + 1 - vec_len l.bytes

@@ -1,0 +1,13 @@
+pub mod Questions
+pub mod Upstreams
+pub mod Agents
+pub mod Runs
+pub mod Scripts
+pub mod Values
+pub mod Cuts
+pub mod Queries
+pub mod Members
+pub mod Messages
+pub mod Replies
+pub mod Received
+pub mod Link
