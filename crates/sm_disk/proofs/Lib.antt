@@ -3,3 +3,4 @@ pub mod Replays
 pub mod Kept
 pub mod Crashes
 pub mod Runs
+pub mod AllRuns

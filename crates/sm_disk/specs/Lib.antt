@@ -1,6 +1,7 @@
 pub mod Sight
 pub mod Steps
 pub mod OneFile
+pub mod AllFiles
 pub mod Faults
 pub mod Calls
 pub mod Memory

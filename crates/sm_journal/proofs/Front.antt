@@ -5,10 +5,20 @@ use Rattle.std.proofs.lemmas.List.{take_at, drop_at, append-nil}
 use Rattle.std.proofs.lemmas.Nat.{from_be_bytes-to_be_bytes_4}
 use Rattle.std.specs.List.{flat_map}
 use Rattle.std.specs.Int.{w32, to_be_bytes, from_be_bytes}
-use Rattle.sm_journal.specs.Records.{Format, first_format, header, record_of, front, size, AreWithin, body_limit, Loose, Recovers, IsBroken, IsDamaged}
+use Rattle.sm_journal.specs.Records.{header, record_of, front, size, AreWithin, body_limit, Loose, Recovers, IsBroken, IsDamaged}
+use Rattle.sm_journal.specs.declared.format.Format.{Format}
+use Rattle.sm_journal.specs.declared.format.Format.TheVariants.{First, Second}
 
 length-be : (n : ℕ) → length (to_be_bytes w32 n) ≡ 4
 length-be n = refl
+
+pub length-header : (f : Format) → length (header f) ≡ 8
+length-header First = refl
+length-header Second = refl
+
+-- a file without records has nine bytes
+pub nine : (f : Format) (empty : List ℕ) → empty ≡ header f ++ 0 ∷ [] → length empty ≤ 9
+nine f empty is = omega (arith, ap length is, length-append (header f) (0 ∷ []), length-header f)
 
 -- lists of one length that begin two equal lists
 pub same_front : (xs ys after behind : List ℕ) → length xs ≡ length ys → xs ++ after ≡ ys ++ behind → (xs ≡ ys)
@@ -20,10 +30,7 @@ same_front xs ys after behind same is = (
       ∙ drop_at ys behind (length ys) refl,
 )
 
-records : List (List ℕ) → List ℕ
-records bodies = flat_map record_of bodies
-
-length-records : (bodies : List (List ℕ)) → length (flat_map record_of bodies) ≡ size bodies
+pub length-records : (bodies : List (List ℕ)) → length (flat_map record_of bodies) ≡ size bodies
 length-records [] = refl
 length-records (body ∷ bodies) =
     omega (
@@ -38,7 +45,7 @@ length-records (body ∷ bodies) =
 pub length-front : (f : Format) (bodies : List (List ℕ)) → length (front f bodies) ≡ 8 + size bodies
 unfolding front
 length-front f bodies =
-    omega (arith, f.eight, length-append f.header (flat_map record_of bodies), length-records bodies)
+    omega (arith, length-header f, length-append (header f) (flat_map record_of bodies), length-records bodies)
 
 records-push : (bodies : List (List ℕ)) (body : List ℕ)
     → flat_map record_of (bodies ++ body ∷ []) ≡ flat_map record_of bodies ++ record_of body
@@ -49,8 +56,8 @@ records-push (first ∷ bodies) body = ap (λ (l : List ℕ). record_of first ++
 pub front-push : (f : Format) (bodies : List (List ℕ)) (body : List ℕ)
     → front f (bodies ++ body ∷ []) ≡ front f bodies ++ record_of body
 unfolding front
-front-push f bodies body = ap (λ (l : List ℕ). f.header ++ l) (records-push bodies body)
-    ∙ sym (append_assoc f.header (flat_map record_of bodies) (record_of body))
+front-push f bodies body = ap (λ (l : List ℕ). header f ++ l) (records-push bodies body)
+    ∙ sym (append_assoc (header f) (flat_map record_of bodies) (record_of body))
 
 pub size-push : (bodies : List (List ℕ)) (body : List ℕ) → size (bodies ++ body ∷ []) ≡ size bodies + (5 + length body)
 size-push [] body = omega arith
@@ -128,64 +135,89 @@ no_list (x ∷ a) (y ∷ b) g r q all all' closed broken is =
 -- what stands behind the header
 behind : (f : Format) (a : List (List ℕ)) (t : List ℕ) → drop 8 (front f a ++ t) ≡ flat_map record_of a ++ t
 unfolding front
-behind f a t = ap (λ (l : List ℕ). drop 8 l) (append_assoc f.header (flat_map record_of a) t)
-    ∙ drop_at f.header (flat_map record_of a ++ t) 8 f.eight
+behind f a t = ap (λ (l : List ℕ). drop 8 l) (append_assoc (header f) (flat_map record_of a) t)
+    ∙ drop_at (header f) (flat_map record_of a ++ t) 8 (length-header f)
 
-begins : (f : Format) (a : List (List ℕ)) (t : List ℕ) → take 8 (front f a ++ t) ≡ f.header
+begins : (f : Format) (a : List (List ℕ)) (t : List ℕ) → take 8 (front f a ++ t) ≡ header f
 unfolding front
-begins f a t = ap (λ (l : List ℕ). take 8 l) (append_assoc f.header (flat_map record_of a) t)
-    ∙ take_at f.header (flat_map record_of a ++ t) 8 f.eight
+begins f a t = ap (λ (l : List ℕ). take 8 l) (append_assoc (header f) (flat_map record_of a) t)
+    ∙ take_at (header f) (flat_map record_of a ++ t) 8 (length-header f)
 
-same_records : (f : Format) (a b : List (List ℕ)) (t u : List ℕ) → front f a ++ t ≡ front f b ++ u
+same_records : (f g : Format) (a b : List (List ℕ)) (t u : List ℕ) → front f a ++ t ≡ front g b ++ u
     → flat_map record_of a ++ t ≡ flat_map record_of b ++ u
-same_records f a b t u is = sym (behind f a t) ∙ ap (λ (l : List ℕ). drop 8 l) is ∙ behind f b u
+same_records f g a b t u is = sym (behind f a t) ∙ ap (λ (l : List ℕ). drop 8 l) is ∙ behind g b u
 
-pub length-loose : (bodies : List (List ℕ)) (bytes : List ℕ) (loose : Loose (front first_format bodies) bytes)
+-- the last bytes of the two headers differ
+header_tells : (f g : Format) → header f ≡ header g → f ≡ g
+header_tells First First is = refl
+header_tells First Second is = let last : 49 ≡ 50 = ap (λ (l : List ℕ). get_or l 7 0) is in
+    absurd (omega (arith, last))
+header_tells Second First is = let last : 50 ≡ 49 = ap (λ (l : List ℕ). get_or l 7 0) is in
+    absurd (omega (arith, last))
+header_tells Second Second is = refl
+
+same_format : (f g : Format) (a b : List (List ℕ)) (t u : List ℕ) → front f a ++ t ≡ front g b ++ u → f ≡ g
+same_format f g a b t u is =
+    header_tells f g (sym (begins f a t) ∙ ap (λ (l : List ℕ). take 8 l) is ∙ begins g b u)
+
+pub length-loose : (f : Format) (bodies : List (List ℕ)) (bytes : List ℕ) (loose : Loose (front f bodies) bytes)
     → length bytes ≡ 9 + size bodies + length loose.rest
-length-loose bodies bytes loose =
+length-loose f bodies bytes loose =
     omega (
       arith,
       ap length loose.is.split,
-      length-append (front first_format bodies)
+      length-append (front f bodies)
           (loose.is.gate ∷ loose.rest),
-      length-front first_format bodies,
+      length-front f bodies,
     )
 
 -- in at most nine bytes there is no record
-short_loose : (bodies : List (List ℕ)) (bytes : List ℕ) → length bytes ≤ 9 → Loose (front first_format bodies) bytes
+short_loose : (f : Format) (bodies : List (List ℕ)) (bytes : List ℕ) → length bytes ≤ 9 → Loose (front f bodies) bytes
     → bodies ≡ []
-short_loose [] bytes short loose = refl
-short_loose (body ∷ bodies) bytes short loose = absurd (omega (arith, length-loose (body ∷ bodies) bytes loose))
+short_loose f [] bytes short loose = refl
+short_loose f (body ∷ bodies) bytes short loose = absurd (omega (arith, length-loose f (body ∷ bodies) bytes loose))
 
 -- the list before a gate that isn't open is what the file recovers to
-pub loose_recovers : (bodies : List (List ℕ)) → AreWithin bodies → (bytes : List ℕ)
-    → Loose (front first_format bodies) bytes → Recovers bytes bodies
-loose_recovers bodies within bytes loose = elim (cases_lt 9 (length bytes)) [
+pub loose_recovers : (f : Format) (bodies : List (List ℕ)) → AreWithin bodies → (bytes : List ℕ)
+    → Loose (front f bodies) bytes → Recovers bytes f bodies
+loose_recovers f bodies within bytes loose = elim (cases_lt 9 (length bytes)) [
   | inl more ↦ inr (more, within, loose)
-  | inr few ↦ inl (few, short_loose bodies bytes few loose)
+  | inr few ↦ inl (few, short_loose f bodies bytes few loose)
 ]
 
 -- a file has one list
-pub one_list : (bytes : List ℕ) (a b : List (List ℕ)) → Recovers bytes a → Recovers bytes b → a ≡ b
-one_list bytes a b (inl x) (inl y) = x.1 ∙ sym y.1
-one_list bytes a b (inl x) (inr y) = absurd (omega (arith, x.0, y.0))
-one_list bytes a b (inr x) (inl y) = absurd (omega (arith, x.0, y.0))
-one_list bytes a b (inr x) (inr y) =
+pub one_list : (bytes : List ℕ) (f g : Format) (a b : List (List ℕ)) → Recovers bytes f a → Recovers bytes g b → a ≡ b
+one_list bytes f g a b (inl x) (inl y) = x.1 ∙ sym y.1
+one_list bytes f g a b (inl x) (inr y) = absurd (omega (arith, x.0, y.0))
+one_list bytes f g a b (inr x) (inl y) = absurd (omega (arith, x.0, y.0))
+one_list bytes f g a b (inr x) (inr y) =
     unique_records a b x.2.is.gate y.2.is.gate x.2.rest y.2.rest x.1 y.1 x.2.is.closed y.2.is.closed
-    (same_records first_format a b _ _ (sym x.2.is.split ∙ y.2.is.split))
+    (same_records f g a b _ _ (sym x.2.is.split ∙ y.2.is.split))
+
+-- and one format, where it has more than nine bytes
+pub one_format : (bytes : List ℕ) (f g : Format) (a b : List (List ℕ)) → 9 < length bytes → Recovers bytes f a
+    → Recovers bytes g b → f ≡ g
+one_format bytes f g a b long (inl x) y = absurd (omega (arith, x.0, long))
+one_format bytes f g a b long (inr x) (inl y) = absurd (omega (arith, y.0, long))
+one_format bytes f g a b long (inr x) (inr y) = same_format f g a b _ _ (sym x.2.is.split ∙ y.2.is.split)
+
+other_header : (f : Format) (front : List ℕ) → front ≢ header First → front ≢ header Second → front ≡ header f → ⊥
+other_header First front first second is = first is
+other_header Second front first second is = second is
 
 -- and isn't damaged
-pub not_damaged : (bytes : List ℕ) (bodies : List (List ℕ)) (at entry : ℕ) → Recovers bytes bodies
+pub not_damaged : (bytes : List ℕ) (f : Format) (bodies : List (List ℕ)) (at entry : ℕ) → Recovers bytes f bodies
     → IsDamaged bytes at entry → ⊥
-not_damaged bytes bodies at entry (inl short) damaged = absurd (omega (arith, short.0, damaged.0))
-not_damaged bytes bodies at entry (inr list) damaged =
+not_damaged bytes f bodies at entry (inl short) damaged = absurd (omega (arith, short.0, damaged.0))
+not_damaged bytes f bodies at entry (inr list) damaged =
     ⊎_elim
-    (λ wrong. wrong.0 (ap (λ (l : List ℕ). take 8 l) list.2.is.split
-    ∙ begins first_format bodies (list.2.is.gate ∷ list.2.rest)))
-    (λ cut. no_list bodies cut.0 list.2.is.gate list.2.rest cut.1 list.1 cut.2 list.2.is.closed cut.4
-    (same_records first_format bodies cut.0 _ _ (sym list.2.is.split ∙ cut.3)))
+    (λ wrong. other_header f (take 8 bytes) wrong.0 wrong.1 (ap (λ (l : List ℕ). take 8 l) list.2.is.split
+    ∙ begins f bodies (list.2.is.gate ∷ list.2.rest)))
+    (λ cut. no_list bodies cut.1 list.2.is.gate list.2.rest cut.2 list.1 cut.3 list.2.is.closed cut.5
+    (same_records f cut.0 bodies cut.1 _ _ (sym list.2.is.split ∙ cut.4)))
     damaged.1
 
-pub front-nil : front first_format [] ≡ header
+pub front-nil : (f : Format) → front f [] ≡ header f
 unfolding front
-front-nil = refl
+front-nil First = refl
+front-nil Second = refl

@@ -7,8 +7,9 @@ use native.Mathlib.Bridge.{le_prop}
 use Rattle.sm_disk.specs.declared.disk.Disk.{Ghosts}
 use Rattle.sm_journal.specs.Journals.{Stands}
 use Rattle.sm_journal.specs.declared.journal.Journal.{Journal}
-use Rattle.sm_journal.specs.Records.{first_format, front, entry_of, body_limit, AreWithin, IsWithin, Short, Closed, AtRest, Loose, Gated, Recovers, RecoversEither}
+use Rattle.sm_journal.specs.Records.{front, entry_of, body_limit, AreWithin, IsWithin, Short, Closed, AtRest, Loose, Gated, Recovers, RecoversEither}
 use Rattle.sm_journal.specs.Tails.{Ends}
+use Rattle.sm_journal.specs.declared.format.Format.{Format}
 use Rattle.sm_journal.specs.declared.tail.Tail.{Tail}
 use Rattle.sm_journal.specs.declared.tail.Tail.TheVariants.{Sure, Body, Gate}
 use Rattle.sm_journal.proofs.Front.{same_front, first_of_lists, one_list}
@@ -67,30 +68,30 @@ within_prop : (bodies : List (List ℕ)) → IsProp (AreWithin bodies)
 within_prop [] = Unit-prop
 within_prop (body ∷ bodies) = ×_prop le_prop (within_prop bodies)
 
-pub recovers_prop : (bytes : List ℕ) (bodies : List (List ℕ)) → IsProp (Recovers bytes bodies)
-recovers_prop bytes bodies =
+pub recovers_prop : (bytes : List ℕ) (f : Format) (bodies : List (List ℕ)) → IsProp (Recovers bytes f bodies)
+recovers_prop bytes f bodies =
     either_side
     (×_prop le_prop (bodies_set bodies []))
-    (×₃_prop le_prop (within_prop bodies) (loose_prop (front first_format bodies) bytes))
+    (×₃_prop le_prop (within_prop bodies) (loose_prop (front f bodies) bytes))
     (λ short long. absurd (omega (arith, short.0, long.0)))
 
 -- a list isn't the one with a body more
 not_more : (bodies : List (List ℕ)) (body : List ℕ) → bodies ≡ bodies ++ body ∷ [] → ⊥
 not_more bodies body same = absurd (omega (arith, ap length same, length-append bodies (body ∷ [])))
 
-pub either_prop : (bodies : List (List ℕ)) (failed : Option (List ℕ)) (bytes : List ℕ)
-    → IsProp (RecoversEither bodies failed bytes)
-either_prop bodies None bytes = recovers_prop bytes bodies
-either_prop bodies (Some body) bytes =
-    either_side (recovers_prop bytes bodies) (recovers_prop bytes (bodies ++ body ∷ []))
-    (λ without with_it. not_more bodies body (one_list bytes bodies (bodies ++ body ∷ []) without with_it))
+pub either_prop : (f : Format) (bodies : List (List ℕ)) (failed : Option (List ℕ)) (bytes : List ℕ)
+    → IsProp (RecoversEither f bodies failed bytes)
+either_prop f bodies None bytes = recovers_prop bytes f bodies
+either_prop f bodies (Some body) bytes =
+    either_side (recovers_prop bytes f bodies) (recovers_prop bytes f (bodies ++ body ∷ []))
+    (λ without with_it. not_more bodies body (one_list bytes f f bodies (bodies ++ body ∷ []) without with_it))
 
-pub ends_prop : (tail : Tail) (bodies : List (List ℕ)) (failed : Option (List ℕ)) (bytes : List ℕ)
-    → IsProp (Ends tail bodies failed bytes)
-ends_prop Sure bodies failed bytes = closed_prop (front first_format bodies) [] bytes
-ends_prop Body bodies failed bytes = loose_prop (front first_format bodies) bytes
-ends_prop Gate bodies None bytes = ⊥_prop
-ends_prop Gate bodies (Some body) bytes = gated_prop (front first_format bodies) (entry_of body ++ 0 ∷ []) bytes
+pub ends_prop : (f : Format) (tail : Tail) (bodies : List (List ℕ)) (failed : Option (List ℕ)) (bytes : List ℕ)
+    → IsProp (Ends f tail bodies failed bytes)
+ends_prop f Sure bodies failed bytes = closed_prop (front f bodies) [] bytes
+ends_prop f Body bodies failed bytes = loose_prop (front f bodies) bytes
+ends_prop f Gate bodies None bytes = ⊥_prop
+ends_prop f Gate bodies (Some body) bytes = gated_prop (front f bodies) (entry_of body ++ 0 ∷ []) bytes
 
 last_prop : (failed : Option (List ℕ)) → IsProp (IsWithin failed)
 last_prop None = Unit-prop
@@ -103,6 +104,10 @@ stands_prop journal bodies failed a b = λ i. record {
   length = ℕ_set _ _ a.length b.length i;
   within = within_prop bodies a.within b.within i;
   last = last_prop failed a.last b.last i;
-  recovers = Π_prop (λ c. Π_prop (λ was. either_prop bodies failed (c journal.file))) a.recovers b.recovers i;
-  ends = Π_prop (λ c. Π_prop (λ was. ends_prop journal.tail bodies failed (c journal.file))) a.ends b.ends i;
+  recovers = Π_prop (λ c. Π_prop (λ was. either_prop journal.format bodies failed (c journal.file))) a.recovers
+      b.recovers
+      i;
+  ends = Π_prop (λ c. Π_prop (λ was. ends_prop journal.format journal.tail bodies failed (c journal.file))) a.ends
+      b.ends
+      i;
 }

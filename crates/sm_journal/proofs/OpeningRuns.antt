@@ -1,5 +1,5 @@
 -- What opening a journal leaves, from what its parts leave.
-use Rattle.std.proofs.Common.{◌≡◌, ℕ, ◌≤◌, List, [], length, refl, sym, subst, inl, arith}
+use Rattle.std.proofs.Common.{◌≡◌, ℕ, ◌≤◌, List, [], length, sym, subst, inl, inr, arith}
 use Rattle.sm_base.proofs.FaultCounts.{rose_within}
 use Rattle.sm_disk.specs.Sight.{Sight}
 use Rattle.sm_disk.specs.Steps.{Keeps}
@@ -8,6 +8,7 @@ use Rattle.sm_disk.specs.declared.disk.Disk.{Ghosts}
 use Rattle.sm_disk.proofs.Runs.{joined, weakened}
 use Rattle.sm_journal.specs.Records.{Short, SameList, Recovers, IsDamaged}
 use Rattle.sm_journal.specs.Openings.{Equal, Untouched, ReadsAs, FailsFrom, IsRefusedAs, IsRefused}
+use Rattle.sm_journal.specs.declared.format.Format.{Format}
 use Rattle.sm_journal.specs.declared.answers.OpenRefused.{OpenRefused}
 use Rattle.sm_journal.specs.declared.answers.OpenRefused.TheVariants.{Damaged, Failed, Memory}
 use Rattle.sm_journal.proofs.Standing.{keeps_list}
@@ -17,8 +18,12 @@ pub short_run : (file : ℕ) (bytes : List ℕ) (old now : Sight) → length byt
     → (EachHas file Short old.images → Leaves file (λ _. Short) (λ _. Short) old now)
     → EachHas file (λ b. b ≡ bytes) old.images → Leaves file SameList SameList old now
 short_run file bytes old now short run images =
-    keeps_list file bytes [] Short old now (inl (short, refl)) (λ y few. inl (few, refl)) images
+    keeps_list file bytes Short old now (λ y few f bodies has. inl (few, none f bodies has)) images
     (run (λ image was. subst Short (sym (images image was)) short))
+  where
+    none : (f : Format) (bodies : List (List ℕ)) → Recovers bytes f bodies → bodies ≡ []
+    none f bodies (inl has) = has.1
+    none f bodies (inr has) = absurd (omega (arith, has.0, short))
 
 -- after a run that leaves the file
 pub after_load : (file : ℕ) (old mid now : Sight) → Leaves file Equal Equal old mid
@@ -28,10 +33,10 @@ after_load file old mid now first second = joined file SameList Equal SameList S
     (λ d was y same. same) first) second through SameList through
   where
     kept : (x y : List ℕ) → Equal x y → SameList x y
-    kept x y same bodies has = subst (λ (b : List ℕ). Recovers b bodies) (sym same) has
+    kept x y same f bodies has = subst (λ (b : List ℕ). Recovers b f bodies) (sym same) has
 
     through : (x y z : List ℕ) → Equal x y → SameList y z → SameList x z
-    through x y z same list bodies has = list bodies (subst (λ (b : List ℕ). Recovers b bodies) (sym same) has)
+    through x y z same list f bodies has = list f bodies (subst (λ (b : List ℕ). Recovers b f bodies) (sym same) has)
 
 module _ {D : Type 0} (G : Ghosts D) (file : ℕ) (bytes : List ℕ) where
   pub new_refused : (old : D) → length bytes ≤ 9 → (refused : OpenRefused D)

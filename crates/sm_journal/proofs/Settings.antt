@@ -2,7 +2,7 @@
 use Rattle.std.proofs.Common.{◌≡◌, ℕ, ◌+◌, List, [], ◌∷◌, ◌++◌, length, sym, subst, arith}
 use Rattle.sm_disk.specs.Sight.{Image, Sight}
 use Rattle.sm_disk.specs.Steps.{Holds, Torn, IsCut, CutOrNot, OnFile, Same, ReadsFollow, GoesOnTelling, Goes, Keeps, Synced}
-use Rattle.sm_disk.specs.OneFile.{EachHas, Leaves}
+use Rattle.sm_disk.specs.OneFile.{EachHas, Anyhow, Leaves}
 use Rattle.sm_disk.proofs.Runs.{Run, begun, stepped, stayed, synced}
 use Rattle.sm_journal.specs.Openings.{ReadsAs}
 use Rattle.sm_journal.specs.Records.{Closed, AtRest, Loose, Gated}
@@ -138,6 +138,13 @@ module _ (file : ℕ) (old : Sight) where
   pub stays : (Q : List ℕ → List ℕ → Type 0) (mid now : Sight) → Keeping Q mid → Goes Same mid now → Keeps mid now
       → Keeping Q now
   stays Q mid now so_far goes keeps = stayed file Q Q (λ _. Unit {0}) old mid now so_far goes keeps (λ x y has. has)
+
+  -- a write of whatever, of which nothing is said
+  pub writes : (mid now : Sight) (step tried : List ℕ → List ℕ → Type 0) → Keeping Anyhow mid
+      → Goes (OnFile file step) mid now → GoesOnTelling mid now → ReadsFollow (OnFile file tried) mid now
+      → Keeping Anyhow now
+  writes mid now step tried so_far goes tells reads =
+      goes_with Anyhow mid now step tried so_far goes tells reads (λ x y z any one. tt)
 
 -- after a sync that is done each image has what a read gave of the file
 pub sync_has : (file : ℕ) (P : List ℕ → Type 0) (mid now : Sight) → Keeps mid now → Synced file now → ReadsAs file P mid

@@ -2,7 +2,8 @@
 use Rattle.std.proofs.Common.{◌≡◌, ℕ, ◌+◌, ◌≤◌, min, List, [], ◌∷◌, ◌++◌, length, get_or, take, drop, sym, ◌∙◌, ap, subst, ⊎_elim, arith, append_assoc, length-append, length-take, length-drop, take-append-drop}
 use Rattle.std.proofs.lemmas.List.{take_at, drop_at, take_all, drop_all, take-take, drop_more, append-nil}
 use Rattle.sm_disk.specs.Steps.{Holds, Torn, IsCut, CutOrNot}
-use Rattle.sm_journal.specs.Records.{Closed, AtRest, Loose, Gated, Short}
+use Rattle.std.specs.Int.{w32, to_be_bytes}
+use Rattle.sm_journal.specs.Records.{record_of, Closed, AtRest, Loose, Gated, Short}
 
 length_at : (before behind : List ℕ) (gate : ℕ) → length (before ++ gate ∷ behind) ≡ length before + (1 + length behind)
 length_at before behind gate = omega (arith, length-append before (gate ∷ behind))
@@ -134,6 +135,38 @@ module _ (before : List ℕ) where
       → Loose before c
   cut_loose end d c is loose cut = ⊎_elim (λ done. rest_loose c (cut_closed end d c is loose done))
       (λ not. subst (Loose before) (sym not) loose) cut
+
+-- a write at a file's end
+pub held_end : (at : ℕ) (piece d c : List ℕ) → at ≡ length d → Holds at piece d c → c ≡ d ++ piece
+held_end at piece d c is holds =
+    holds ∙ ap (λ (l : List ℕ). l ++ piece ++ drop (at + length piece) d) (take_all at d (omega arith))
+    ∙ ap (λ (l : List ℕ). d ++ piece ++ l) (drop_all (at + length piece) d (omega arith))
+    ∙ append-nil (d ++ piece)
+
+-- a write over a file's last byte, and past the end
+held_last : (at : ℕ) (before piece d c : List ℕ) → at ≡ length before → d ≡ before ++ 0 ∷ [] → 1 ≤ length piece
+    → Holds at piece d c → c ≡ before ++ piece
+held_last at before piece d c is whole some holds =
+    let long : length d ≡ length before + 1 = ap length whole ∙ length-append before (0 ∷ []) in
+    let first : take at d ≡ before = ap (λ (l : List ℕ). take at l) whole ∙ take_at before (0 ∷ []) at (sym is) in
+    holds ∙ ap (λ (l : List ℕ). l ++ piece ++ drop (at + length piece) d) first
+    ∙ ap (λ (l : List ℕ). before ++ piece ++ l) (drop_all (at + length piece) d (omega (arith, long, some)))
+    ∙ append-nil (before ++ piece)
+
+-- a record in the place of the last byte, written in three pieces
+pub record_held : (at : ℕ) (before opening body a b c d : List ℕ) → at ≡ length before
+    → opening ≡ 1 ∷ to_be_bytes w32 (length body) → a ≡ before ++ 0 ∷ [] → Holds at opening a b
+    → Holds (at + 5) body b c → Holds (at + 5 + length body) (0 ∷ []) c d → d ≡ before ++ record_of body ++ 0 ∷ []
+record_held at before opening body a b c d is opens whole one two three =
+    let five : length opening ≡ 5 = ap length opens in
+    let first : b ≡ before ++ opening = held_last at before opening a b is whole (omega (arith, five)) one in
+    let second : c ≡ b ++ body = held_end (at + 5) body b c
+    (omega (arith, is, ap length first, length-append before opening, five)) two in
+    let third : d ≡ c ++ 0 ∷ [] = held_end (at + 5 + length body) (0 ∷ []) c d
+    (omega (arith, is, ap length first, length-append before opening, five, ap length second, length-append b body))
+    three in
+    third ∙ ap (λ (l : List ℕ). l ++ 0 ∷ []) (second ∙ ap (λ (l : List ℕ). l ++ body) first
+    ∙ append_assoc before opening body ∙ ap (λ (l : List ℕ). before ++ (l ++ body)) opens)
 
 -- a file of at most nine bytes stays one
 pub short_cut : (end : ℕ) (d c : List ℕ) → Short d → CutOrNot end d c → Short c

@@ -2,10 +2,11 @@
 use Rattle.std.specs.Prelude.{◌≡◌, ℕ, ◌+◌, ◌<◌, ◌≤◌, Bool, true, false, List, [], ◌∷◌, ◌++◌, length, Option, None, Some}
 use Rattle.sm_disk.specs.declared.disk.Disk.{Ghosts}
 use Rattle.sm_disk.specs.OneFile.{EachHas, Leaves}
-use Rattle.sm_journal.specs.Records.{body_limit, size, Whole, AreWithin, IsWithin, RecoversEither}
+use Rattle.sm_journal.specs.Records.{body_limit, record_size, size, Whole, AreWithin, IsWithin, RecoversEither}
 use Rattle.sm_journal.specs.Tails.{is_unsure_tail, Ends}
 use Rattle.sm_journal.specs.declared.answers.Appended.{Appended}
 use Rattle.sm_journal.specs.declared.answers.Appended.TheVariants.{Ok, Failed, Full, TooLong}
+use Rattle.sm_journal.specs.declared.format.Format.{Format}
 use Rattle.sm_journal.specs.declared.journal.Journal.{Journal}
 
 module _ {D : Type 0} {G : Ghosts D} where
@@ -14,6 +15,10 @@ module _ {D : Type 0} {G : Ghosts D} where
 
   abbrev pub file_of : Journal D G → ℕ
   file_of journal = journal.file
+
+  -- the format of its file
+  abbrev pub format_of : Journal D G → Format
+  format_of journal = journal.format
 
   abbrev pub limit_of : Journal D G → ℕ
   limit_of journal = journal.limit
@@ -32,24 +37,25 @@ module _ {D : Type 0} {G : Ghosts D} where
     pub length : length_of journal ≡ 9 + size bodies
     pub within : AreWithin bodies
     pub last : IsWithin failed
-    pub recovers : EachHas journal.file (RecoversEither bodies failed) (G.sight journal.disk).images
-    pub ends : EachHas journal.file (Ends journal.tail bodies failed) (G.sight journal.disk).images
+    pub recovers : EachHas journal.file (RecoversEither journal.format bodies failed) (G.sight journal.disk).images
+    pub ends : EachHas journal.file (Ends journal.format journal.tail bodies failed) (G.sight journal.disk).images
 
 -- each image of its file is these records, the closed gate behind them and nothing else
 abbrev pub HoldsJust : {D : Type 0} {G : Ghosts D} → Journal D G → List (List ℕ) → Type 0
-HoldsJust {D} {G} journal bodies = EachHas journal.file (Whole bodies) (G.sight journal.disk).images
+HoldsJust {D} {G} journal bodies = EachHas journal.file (Whole journal.format bodies) (G.sight journal.disk).images
 
 -- the file's length with one body more
 abbrev pub length_with : {D : Type 0} {G : Ghosts D} → Journal D G → List ℕ → ℕ
-length_with journal body = length_of journal + (5 + length body)
+length_with journal body = length_of journal + record_size body
 
 -- the body is within both limits
 abbrev pub HasRoom : {D : Type 0} {G : Ghosts D} → Journal D G → List ℕ → Type 0
 HasRoom journal body = (length body ≤ body_limit) × (length_with journal body ≤ limit_of journal)
 
--- the same file of a disk, under the same limit
+-- the same file of a disk, in the same format, under the same limit
 pub record SamePlace {D : Type 0} {G : Ghosts D} (old new : Journal D G) : Type 0 where
   pub file : new.file ≡ old.file
+  pub format : new.format ≡ old.format
   pub limit : new.limit ≡ old.limit
 
 -- What each answer of `append` says: too long and full exactly where they are; Ok with the body at the end of the list
@@ -68,8 +74,8 @@ AppendsAs old body new Failed = HasRoom old body × (is_unsure new ≡ true) × 
 -- files
 abbrev pub LeavesEither : {D : Type 0} {G : Ghosts D} → List (List ℕ) → Option (List ℕ) → Journal D G → Journal D G
     → Type 0
-LeavesEither {D} {G} bodies failed old new = Leaves old.file (λ _. RecoversEither bodies failed)
-    (λ _. RecoversEither bodies failed) (G.sight old.disk) (G.sight new.disk)
+LeavesEither {D} {G} bodies failed old new = Leaves old.file (λ _. RecoversEither old.format bodies failed)
+    (λ _. RecoversEither old.format bodies failed) (G.sight old.disk) (G.sight new.disk)
 
 -- a journal that was opened in this file of a disk, under this limit, with these bodies
 pub record IsOpened {D : Type 0} {G : Ghosts D} (file limit : ℕ) (bodies : List (List ℕ))

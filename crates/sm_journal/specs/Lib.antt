@@ -4,3 +4,5 @@ pub mod Tails
 pub mod Journals
 pub mod Openings
 pub mod Making
+pub mod Roots
+pub mod Freshes

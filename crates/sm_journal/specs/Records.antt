@@ -1,23 +1,18 @@
 -- A journal's file: the header, records whose gates are open, a gate that isn't, and whatever stands behind it.
-use Rattle.std.specs.Prelude.{◌≡◌, ◌≢◌, ◌⊎◌, ℕ, ◌+◌, ◌<◌, ◌≤◌, List, [], ◌∷◌, ◌++◌, length, take, codes, refl, Option, None, Some}
+use Rattle.std.specs.Prelude.{◌≡◌, ◌≢◌, ◌⊎◌, ℕ, ◌+◌, ◌<◌, ◌≤◌, List, [], ◌∷◌, ◌++◌, length, take, codes, Option, None, Some}
 use Rattle.std.specs.List.{flat_map}
 use Rattle.std.specs.Int.{w32, to_be_bytes, from_be_bytes}
+use Rattle.sm_journal.specs.declared.format.Format.{Format}
+use Rattle.sm_journal.specs.declared.format.Format.TheVariants.{First, Second}
 
 -- the greatest length of a body
 abbrev pub body_limit : ℕ
 body_limit = 1048576
 
 -- what stands at the beginning of a file
-pub record Format : Type 0 where
-  pub header : List ℕ
-  pub eight : length header ≡ 8
-
-abbrev pub header : List ℕ
-header = codes "SMJRNL01"
-
--- the only format so far
-abbrev pub first_format : Format
-first_format = record { header = header; eight = refl }
+abbrev pub header : Format → List ℕ
+header First = codes "SMJRNL01"
+header Second = codes "SMJRNL02"
 
 -- what stands behind a gate: the body's length in four bytes, high first, and the body
 abbrev pub entry_of : List ℕ → List ℕ
@@ -29,16 +24,24 @@ record_of body = 1 ∷ entry_of body
 
 -- the header of a format and the records of these bodies: what stands before the last gate
 unfoldable pub front : Format → List (List ℕ) → List ℕ
-front format bodies = format.header ++ flat_map record_of bodies
+front format bodies = header format ++ flat_map record_of bodies
 
 -- the whole file: these records, the closed gate behind them, which is a byte 0, and nothing else
-abbrev pub Whole : List (List ℕ) → List ℕ → Type 0
-Whole bodies bytes = bytes ≡ front first_format bodies ++ 0 ∷ []
+abbrev pub Whole : Format → List (List ℕ) → List ℕ → Type 0
+Whole format bodies bytes = bytes ≡ front format bodies ++ 0 ∷ []
+
+-- how many bytes the record of a body has: its gate, its length and itself
+abbrev pub record_size : List ℕ → ℕ
+record_size body = 5 + length body
 
 -- how many bytes the records of these bodies have
 abbrev pub size : List (List ℕ) → ℕ
 size [] = 0
 size (body ∷ bodies) = 5 + length body + size bodies
+
+-- the place of the gate behind the records of these bodies, which is behind the header where there are none
+abbrev pub place_behind : List (List ℕ) → ℕ
+place_behind bodies = 8 + size bodies
 
 -- none of these bodies is too long
 abbrev pub AreWithin : List (List ℕ) → Type 0
@@ -74,11 +77,11 @@ pub record Gated (before behind bytes : List ℕ) : Type 0 where
 abbrev pub Short : List ℕ → Type 0
 Short bytes = length bytes ≤ 9
 
--- The file's counted records have these bodies: none, where it has at most nine bytes, and else those before the first
--- gate that isn't open. It has one proof at most.
-abbrev pub Recovers : List ℕ → List (List ℕ) → Type 0
-Recovers bytes bodies = (Short bytes × (bodies ≡ []))
-    ⊎ ((9 < length bytes) × AreWithin bodies × Loose (front first_format bodies) bytes)
+-- The file's counted records have these bodies: none in any format, where it has at most nine bytes, and else those of
+-- its format before the first gate that isn't open. It has one proof at most.
+abbrev pub Recovers : List ℕ → Format → List (List ℕ) → Type 0
+Recovers bytes format bodies = (Short bytes × (bodies ≡ []))
+    ⊎ ((9 < length bytes) × AreWithin bodies × Loose (front format bodies) bytes)
 
 -- behind an open gate: the length is too large, or it, the body or the next gate isn't in the file
 abbrev pub IsBroken : List ℕ → Type 0
@@ -91,18 +94,20 @@ abbrev pub IsDamaged : List ℕ → ℕ → ℕ → Type 0
 IsDamaged bytes at entry = (9 < length bytes) × (IsWrong ⊎ IsCutShort)
   where
     IsWrong : Type 0
-    IsWrong = (take 8 bytes ≢ header) × (at ≡ 0) × (entry ≡ 0)
+    IsWrong = (take 8 bytes ≢ header First) × (take 8 bytes ≢ header Second) × (at ≡ 0) × (entry ≡ 0)
 
     IsCutShort : Type 0
-    IsCutShort = (bodies : List (List ℕ)) × (rest : List ℕ) × AreWithin bodies
-        × (bytes ≡ front first_format bodies ++ 1 ∷ rest) × IsBroken rest × (at ≡ 8 + size bodies)
+    IsCutShort = (format : Format) × (bodies : List (List ℕ)) × (rest : List ℕ) × AreWithin bodies
+        × (bytes ≡ front format bodies ++ 1 ∷ rest) × IsBroken rest × (at ≡ place_behind bodies)
         × (entry ≡ length bodies)
 
 -- the file recovers to this list, or to it and one body more, if there is one
-abbrev pub RecoversEither : List (List ℕ) → Option (List ℕ) → List ℕ → Type 0
-RecoversEither bodies None bytes = Recovers bytes bodies
-RecoversEither bodies (Some body) bytes = Recovers bytes bodies ⊎ Recovers bytes (bodies ++ body ∷ [])
+abbrev pub RecoversEither : Format → List (List ℕ) → Option (List ℕ) → List ℕ → Type 0
+RecoversEither format bodies None bytes = Recovers bytes format bodies
+RecoversEither format bodies (Some body) bytes = Recovers bytes format bodies
+    ⊎ Recovers bytes format (bodies ++ body ∷ [])
 
 -- what a file recovers to, the other recovers to
 abbrev pub SameList : List ℕ → List ℕ → Type 0
-SameList old new = (bodies : List (List ℕ)) → Recovers old bodies → Recovers new bodies
+SameList old new = (format : Format) (bodies : List (List ℕ)) → Recovers old format bodies
+    → Recovers new format bodies

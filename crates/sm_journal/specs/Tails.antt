@@ -1,6 +1,7 @@
 -- How sure a journal is of its file's end.
 use Rattle.std.specs.Prelude.{ℕ, Bool, true, false, List, [], ◌∷◌, ◌++◌, Option, None, Some}
-use Rattle.sm_journal.specs.Records.{first_format, front, entry_of, AtRest, Loose, Gated}
+use Rattle.sm_journal.specs.Records.{front, entry_of, AtRest, Loose, Gated}
+use Rattle.sm_journal.specs.declared.format.Format.{Format}
 use Rattle.sm_journal.specs.declared.tail.Tail.{Tail}
 use Rattle.sm_journal.specs.declared.tail.Tail.TheVariants.{Sure, Body, Gate}
 
@@ -10,8 +11,8 @@ is_unsure_tail Body = true
 is_unsure_tail Gate = true
 
 -- what a crash leaves of a file with these bodies, behind which the write of one more may have failed
-abbrev pub Ends : Tail → List (List ℕ) → Option (List ℕ) → List ℕ → Type 0
-Ends Sure bodies failed bytes = AtRest (front first_format bodies) bytes
-Ends Body bodies failed bytes = Loose (front first_format bodies) bytes
-Ends Gate bodies (Some body) bytes = Gated (front first_format bodies) (entry_of body ++ 0 ∷ []) bytes
-Ends Gate bodies None bytes = ⊥
+abbrev pub Ends : Format → Tail → List (List ℕ) → Option (List ℕ) → List ℕ → Type 0
+Ends format Sure bodies failed bytes = AtRest (front format bodies) bytes
+Ends format Body bodies failed bytes = Loose (front format bodies) bytes
+Ends format Gate bodies (Some body) bytes = Gated (front format bodies) (entry_of body ++ 0 ∷ []) bytes
+Ends format Gate bodies None bytes = ⊥

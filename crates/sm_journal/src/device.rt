@@ -7,9 +7,12 @@ ghost use Rattle.sm_disk.specs.Steps.{OnFile, ReadsFollow, Keeps};
 ghost use Rattle.sm_journal.specs.Lengths.{SameLength, ReadsLength, ReadsAtLeast};
 ghost use Rattle.sm_disk.specs.OneFile.{EachHas, Anyhow, Leaves};
 ghost use Rattle.sm_journal.specs.Making.{IsMaking};
-ghost use Rattle.sm_journal.specs.Records.{Gated, Closed, AtRest, Loose, Short, Whole, entry_of, body_limit};
+ghost use Rattle.sm_journal.specs.Records.{Gated, Closed, AtRest, Loose, Short, Whole, header, record_of, entry_of, body_limit};
+ghost use Rattle.sm_journal.specs.Openings.{ReadsAs};
+ghost use Rattle.std.specs.Int.{w32, to_be_bytes};
 ghost use Rattle.sm_journal.specs.declared.device.LoadRefused.TheVariants.{Failed, Memory};
 
+use crate::format::Format;
 use sm_disk::{Disk, DiskFailed};
 use std::alloc::{AllocError, Global};
 
@@ -56,6 +59,37 @@ pub fn stage<D: Disk>(disk: &mut D, file: u8, gate: u64, body: &[u8]) -> Result<
     Ok(())
 }
 
+/// The gate and the length of a record of so many bytes.
+fn opening(length: u32) -> [u8; 5]
+    ensures { result ≡ 1 ∷ to_be_bytes w32 length }
+{
+    let bytes = length.to_be_bytes();
+    [1, bytes[0], bytes[1], bytes[2], bytes[3]]
+}
+
+/// Writes a record with its gate open in the place of a file's last byte, with a closed gate behind it, and
+/// doesn't sync it.
+pub fn extend<D: Disk>(disk: &mut D, file: u8, gate: u64, body: &[u8]) -> Result<(), DiskFailed>
+    requires file { file < 3 }
+    requires within { length body.now ≤ body_limit }
+    requires fits { gate < 2 ^ 63 }
+    requires place { ReadsLength file (gate + 1) (D.sight disk.old) }
+    ensures length { OnOk result (ReadsLength file (gate + 6 + length body.now) (D.sight disk.new)) }
+    ensures run { Leaves file Anyhow Anyhow (D.sight disk.old) (D.sight disk.new) }
+    ensures extended { OnOk result ((before : List ℕ) → gate ≡ length before →
+        ReadsAs file (λ bytes. bytes ≡ before ++ 0 ∷ []) (D.sight disk.old) →
+        ReadsAs file (λ bytes. bytes ≡ before ++ record_of body.now ++ 0 ∷ []) (D.sight disk.new)) }
+    ensures cause { HasCause (D.faults disk.old) (D.faults disk.new) result }
+{
+    let opening = opening(body.len() as u32);
+    disk.write_at(file, gate, &opening)?;
+    let behind = gate + 5;
+    disk.write_at(file, behind, body)?;
+    let last = behind + body.len() as u64;
+    disk.write_at(file, last, &[0])?;
+    Ok(())
+}
+
 /// Cuts what stands behind a closed gate, and syncs the file.
 pub fn cut_behind<D: Disk>(disk: &mut D, file: u8, gate: u64) -> Result<(), DiskFailed>
     requires file { file < 3 }
@@ -76,31 +110,42 @@ pub fn cut_behind<D: Disk>(disk: &mut D, file: u8, gate: u64) -> Result<(), Disk
     Ok(())
 }
 
+/// A file without records: the header of its format and a closed gate.
+fn empty_file(format: Format) -> [u8; 9]
+    ensures { result ≡ header format ++ 0 ∷ [] }
+{
+    match format {
+        Format::First => *b"SMJRNL01\0",
+        Format::Second => *b"SMJRNL02\0",
+    }
+}
+
 /// Begins a journal without records in a file, whatever it holds, and doesn't sync it.
-pub fn begin<D: Disk>(disk: &mut D, file: u8) -> Result<(), DiskFailed>
+pub fn begin<D: Disk>(disk: &mut D, file: u8, format: Format) -> Result<(), DiskFailed>
     requires { file < 3 }
     ensures length { OnOk result (ReadsLength file 9 (D.sight disk.new)) }
-    ensures making { OnOk result (IsMaking file [] (D.sight disk.old) (D.sight disk.new)) }
+    ensures making { OnOk result (IsMaking file format [] (D.sight disk.old) (D.sight disk.new)) }
     ensures run { Leaves file Anyhow Anyhow (D.sight disk.old) (D.sight disk.new) }
     ensures short { EachHas file Short (D.sight disk.old).images →
         Leaves file (λ _. Short) (λ _. Short) (D.sight disk.old) (D.sight disk.new) }
     ensures cause { HasCause (D.faults disk.old) (D.faults disk.new) result }
 {
     disk.cut(file, 0)?;
-    disk.write_at(file, 0, b"SMJRNL01\0")?;
+    let empty = empty_file(format);
+    disk.write_at(file, 0, &empty)?;
     Ok(())
 }
 
 /// Makes a file of at most nine bytes a journal without records, and syncs it.
-pub fn make<D: Disk>(disk: &mut D, file: u8) -> Result<(), DiskFailed>
+pub fn make<D: Disk>(disk: &mut D, file: u8, format: Format) -> Result<(), DiskFailed>
     requires { file < 3 }
     ensures length { OnOk result (ReadsLength file 9 (D.sight disk.new)) }
     ensures run { EachHas file Short (D.sight disk.old).images →
         Leaves file (λ _. Short) (λ _. Short) (D.sight disk.old) (D.sight disk.new) }
-    ensures made { OnOk result (EachHas file (Whole []) (D.sight disk.new).images) }
+    ensures made { OnOk result (EachHas file (Whole format []) (D.sight disk.new).images) }
     ensures cause { HasCause (D.faults disk.old) (D.faults disk.new) result }
 {
-    begin(disk, file)?;
+    begin(disk, file, format)?;
     disk.sync(file)?;
     Ok(())
 }

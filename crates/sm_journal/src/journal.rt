@@ -5,7 +5,9 @@ ghost use Rattle.sm_journal.specs.declared.tail.Tail.TheVariants.{Sure, Body};
 
 use crate::answers::Appended;
 use crate::device::{cut_behind, set_gate, stage};
+use crate::format::Format;
 use crate::parse::BODY_LIMIT;
+use crate::root::set_root;
 use crate::tail::Tail;
 use sm_disk::{Disk, DiskFailed};
 
@@ -15,6 +17,7 @@ use sm_disk::{Disk, DiskFailed};
 pub struct Journal<D: Disk> {
     disk: D,
     file: u8,
+    format: Format,
     limit: u64,
     gate: u64,
     tail: Tail,
@@ -26,29 +29,33 @@ pub struct Journal<D: Disk> {
 }
 
 impl<D: Disk> Journal<D> {
-    ghost use Rattle.sm_journal.specs.Journals.{disk_of, file_of, length_of, length_with, is_unsure, HasRoom, SamePlace, Stands, HoldsJust, AppendsAs, LeavesEither, IsOpened};
-    ghost use Rattle.sm_journal.specs.Records.{first_format, front, size, AreWithin, AtRest};
+    ghost use Rattle.sm_journal.specs.Journals.{disk_of, file_of, format_of, length_of, length_with, is_unsure, HasRoom, SamePlace, Stands, HoldsJust, AppendsAs, LeavesEither, IsOpened};
+    ghost use Rattle.sm_journal.specs.Records.{front, place_behind, AreWithin, AtRest};
     ghost use Rattle.sm_journal.specs.Making.{IsIdle};
+    ghost use Rattle.sm_journal.specs.Roots.{BeginsWith};
+    ghost use Rattle.sm_journal.specs.declared.root.TheConstants.{ROOT};
     ghost use Rattle.sm_journal.specs.Lengths.{ReadsLength};
-    ghost use Rattle.sm_disk.specs.OneFile.{EachHas};
+    ghost use Rattle.sm_disk.specs.OneFile.{EachHas, Anyhow, Leaves};
     ghost use Rattle.sm_base.specs.Faults.{Rose};
     ghost use Rattle.sm_disk.specs.Faults.{HasCause};
 
     /// A journal whose file ends behind its gate.
-    pub(crate) fn at_rest(disk: D, file: u8, limit: u64, gate: u64) -> Journal<D>
+    pub(crate) fn at_rest(disk: D, file: u8, format: Format, limit: u64, gate: u64) -> Journal<D>
         requires in_range { file < 3 }
         requires bounded { limit < 2 ^ 62 }
         requires fits { gate < 2 ^ 63 }
         requires place { ReadsLength file (gate + 1) (D.sight disk) }
         ensures disk { disk_of result ≡ disk }
         ensures file { file_of result ≡ file }
-        ensures opened { (bodies : List (List ℕ)) → gate ≡ 8 + size bodies → AreWithin bodies →
-            EachHas file (AtRest (front first_format bodies)) (D.sight disk).images →
+        ensures format { format_of result ≡ format }
+        ensures opened { (bodies : List (List ℕ)) → gate ≡ place_behind bodies → AreWithin bodies →
+            EachHas file (AtRest (front format bodies)) (D.sight disk).images →
             IsOpened file limit bodies result }
     {
         Journal {
             disk,
             file,
+            format,
             limit,
             gate,
             tail: Tail::Sure,
@@ -175,11 +182,40 @@ impl<D: Disk> Journal<D> {
         Ok(())
     }
 
+    /// Writes the root's first byte, which names a file, and syncs the root. The journal stays as it is. It takes no
+    /// memory.
+    pub fn root(&mut self, byte: u8) -> Result<(), DiskFailed>
+        requires sure { is_unsure self.old ≡ false }
+        requires other { file_of self.old < ROOT }
+        ensures set { OnOk result (EachHas ROOT (BeginsWith byte) (D.sight (disk_of self.new)).images) }
+        ensures stands { (bodies : List (List ℕ)) (failed : Option (List ℕ)) →
+            Stands self.old bodies failed → Stands self.new bodies failed }
+        ensures just { (bodies : List (List ℕ)) → HoldsJust self.old bodies → HoldsJust self.new bodies }
+        ensures same { SamePlace self.old self.new }
+        ensures left_sure { is_unsure self.new ≡ false }
+        ensures length { length_of self.new ≡ length_of self.old }
+
+        // A crash at any moment of the call leaves any root, and the other files.
+        ensures any_moment { Leaves ROOT Anyhow Anyhow (D.sight (disk_of self.old)) (D.sight (disk_of self.new)) }
+
+        ensures cause { HasCause (D.faults (disk_of self.old)) (D.faults (disk_of self.new)) result }
+    {
+        set_root(&mut self.disk, byte)?;
+        Ok(())
+    }
+
     /// Whether the last write may have failed in part. Then it is mended before the next one.
     pub fn is_unsure(&self) -> bool
         ensures { result ≡ is_unsure self.now }
     {
         self.tail != Tail::Sure
+    }
+
+    /// The format of its file. It takes no memory.
+    pub fn format(&self) -> Format
+        ensures { result ≡ format_of self.now }
+    {
+        self.format
     }
 
     /// The file's length: 9, and 5 and its length for each body.
@@ -193,7 +229,7 @@ impl<D: Disk> Journal<D> {
     pub fn close(self) -> D
         ensures disk { result ≡ disk_of self }
         ensures idle { is_unsure self ≡ false → (bodies : List (List ℕ)) → Stands self bodies None →
-            IsIdle (file_of self) bodies (D.sight result) }
+            IsIdle (file_of self) (format_of self) bodies (D.sight result) }
     {
         let Journal { disk, .. } = self;
         disk

@@ -6,12 +6,14 @@ ghost use Rattle.sm_disk.specs.OneFile.{EachHas, Leaves};
 ghost use Rattle.sm_base.specs.Faults.{Rose};
 ghost use Rattle.sm_journal.specs.Records.{Loose, AtRest, Short, Whole, Recovers, SameList};
 ghost use Rattle.sm_journal.specs.Lengths.{ReadsLength};
-ghost use Rattle.sm_journal.specs.Journals.{disk_of, HoldsJust, IsOpened};
+ghost use Rattle.sm_journal.specs.Journals.{disk_of, format_of, HoldsJust, IsOpened};
 ghost use Rattle.sm_journal.specs.Openings.{ReadsAs, FailsFrom, IsRefusedAs, IsRefused};
 
 use crate::answers::OpenRefused;
 use crate::device::{LoadRefused, cut_behind, load, make};
+use crate::format::Format;
 use crate::journal::Journal;
+use crate::lengths::HEADER_SIZE;
 use crate::parse::{ParseRefused, Parsed, parse};
 use sm_base::{Bytes, List};
 use sm_disk::Disk;
@@ -46,10 +48,10 @@ fn settle<D: Disk>(mut disk: D, file: u8, gate: u64, bytes: &[u8]) -> Result<D, 
 }
 
 /// The file as a journal without records. An error hands the disk back.
-fn fresh<D: Disk>(mut disk: D, file: u8) -> Result<D, D>
+fn emptied<D: Disk>(mut disk: D, file: u8, format: Format) -> Result<D, D>
     requires { file < 3 }
     ensures length { IfOk result (λ now. ReadsLength file 9 (D.sight now)) }
-    ensures whole { IfOk result (λ now. EachHas file (Whole []) (D.sight now).images) }
+    ensures whole { IfOk result (λ now. EachHas file (Whole format []) (D.sight now).images) }
     ensures run { IfOk result (λ now. EachHas file Short (D.sight disk).images →
         Leaves file (λ _. Short) (λ _. Short) (D.sight disk) (D.sight now)) }
     ensures run_err { IfErr result (λ now. EachHas file Short (D.sight disk).images →
@@ -57,32 +59,34 @@ fn fresh<D: Disk>(mut disk: D, file: u8) -> Result<D, D>
     ensures later { IfOk result (λ now. D.faults disk ≤ D.faults now) }
     ensures failed { IfErr result (λ now. (D.faults disk ≤ D.faults now) × Rose (D.faults disk) (D.faults now)) }
 {
-    match make(&mut disk, file) {
+    match make(&mut disk, file, format) {
         Ok(()) => Ok(disk),
         Err(_) => Err(disk),
     }
 }
 
-/// The journal of a file of at most nine bytes, which is made new.
+/// The journal of a file of at most nine bytes, which is made new in this format.
 fn open_new<D: Disk>(
     alloc: Global,
     disk: D,
     file: u8,
     limit: u64,
+    format: Format,
 ) -> Result<(Journal<D>, List<Bytes>), OpenRefused<D>>
     requires file { file < 3 }
     requires limit { limit < 2 ^ 62 }
     ensures opened { IfOk result (λ opened. IsOpened file limit opened.1 opened.0) }
     ensures whole { IfOk result (λ opened. HoldsJust opened.0 []) }
     ensures none { IfOk result (λ opened. opened.1 ≡ []) }
+    ensures format { IfOk result (λ opened. format_of opened.0 ≡ format) }
     ensures run { IfOk result (λ opened. EachHas file Short (D.sight disk).images →
         Leaves file (λ _. Short) (λ _. Short) (D.sight disk) (D.sight (disk_of opened.0))) }
     ensures later { IfOk result (λ opened. D.faults disk ≤ D.faults (disk_of opened.0)) }
     ensures failed { IfErr result (FailsFrom D.Disk file Short (λ _. Short) disk) }
 {
-    match fresh(disk, file) {
+    match emptied(disk, file, format) {
         Ok(disk) => {
-            let journal = Journal::at_rest(disk, file, limit, 8);
+            let journal = Journal::at_rest(disk, file, format, limit, HEADER_SIZE);
             Ok((journal, List::empty(alloc)))
         }
         Err(disk) => Err(OpenRefused::Failed(disk)),
@@ -104,15 +108,21 @@ fn open_old<D: Disk>(
     requires place { ReadsLength file (length bytes.now) (D.sight disk) }
     ensures opened { IfOk result (λ opened. EachHas file (λ b. b ≡ bytes.now) (D.sight disk).images →
         IsOpened file limit opened.1 opened.0) }
-    ensures list { IfOk result (λ opened. Recovers bytes.now opened.1) }
+    ensures list { IfOk result (λ opened. Recovers bytes.now (format_of opened.0) opened.1) }
     ensures run { IfOk result (λ opened. EachHas file (λ b. b ≡ bytes.now) (D.sight disk).images →
         Leaves file SameList SameList (D.sight disk) (D.sight (disk_of opened.0))) }
     ensures later { IfOk result (λ opened. D.faults disk ≤ D.faults (disk_of opened.0)) }
     ensures refused { IfErr result (IsRefusedAs D.Disk file bytes.now disk) }
 {
     match parse(alloc, bytes) {
-        Ok(Parsed { bodies, gate }) => match settle(disk, file, gate, bytes) {
-            Ok(disk) => Ok((Journal::at_rest(disk, file, limit, gate), bodies)),
+        Ok(
+            Parsed {
+                format,
+                bodies,
+                gate,
+            },
+        ) => match settle(disk, file, gate, bytes) {
+            Ok(disk) => Ok((Journal::at_rest(disk, file, format, limit, gate), bodies)),
             Err(disk) => Err(OpenRefused::Failed(disk)),
         },
         Err(ParseRefused::Damaged(damage)) => Err(OpenRefused::Damaged(disk, damage)),
@@ -120,12 +130,13 @@ fn open_old<D: Disk>(
     }
 }
 
-/// The journal of a file of these bytes, of which each image has them.
+/// The journal of a file of these bytes, of which each image has them. One of at most nine is made new in this format.
 fn open_loaded<D: Disk>(
     alloc: Global,
     disk: D,
     file: u8,
     limit: u64,
+    format: Format,
     bytes: &[u8],
 ) -> Result<(Journal<D>, List<Bytes>), OpenRefused<D>>
     requires file { file < 3 }
@@ -134,15 +145,15 @@ fn open_loaded<D: Disk>(
     requires place { ReadsLength file (length bytes.now) (D.sight disk) }
     ensures opened { IfOk result (λ opened. EachHas file (λ b. b ≡ bytes.now) (D.sight disk).images →
         IsOpened file limit opened.1 opened.0) }
-    ensures whole { IfOk result (λ opened. Short bytes.now → HoldsJust opened.0 []) }
-    ensures list { IfOk result (λ opened. Recovers bytes.now opened.1) }
+    ensures whole { IfOk result (λ opened. Short bytes.now → HoldsJust opened.0 [] × (format_of opened.0 ≡ format)) }
+    ensures list { IfOk result (λ opened. Recovers bytes.now (format_of opened.0) opened.1) }
     ensures run { IfOk result (λ opened. EachHas file (λ b. b ≡ bytes.now) (D.sight disk).images →
         Leaves file SameList SameList (D.sight disk) (D.sight (disk_of opened.0))) }
     ensures later { IfOk result (λ opened. D.faults disk ≤ D.faults (disk_of opened.0)) }
     ensures refused { IfErr result (IsRefusedAs D.Disk file bytes.now disk) }
 {
     if bytes.len() <= 9 {
-        open_new(alloc, disk, file, limit)
+        open_new(alloc, disk, file, limit, format)
     } else {
         open_old(alloc, disk, file, limit, bytes)
     }
@@ -150,23 +161,25 @@ fn open_loaded<D: Disk>(
 
 impl<D: Disk> Journal<D> {
     /// Opens the journal in a file of the disk, and gives the bodies of its records. It syncs the file first, mends
-    /// what follows the records, and makes a file of at most nine bytes new. A file that is longer and outside the
-    /// grammar is damaged. An error hands the disk back.
+    /// what follows the records, and makes a file of at most nine bytes new, in the format that is asked for. A file
+    /// that is longer has the format of its header, and is damaged where it is outside the grammar. An error hands the
+    /// disk back.
     pub fn open(
         alloc: Global,
         mut disk: D,
         file: u8,
         limit: u64,
+        new: Format,
     ) -> Result<(Journal<D>, List<Bytes>), OpenRefused<D>>
         requires file { file < 3 }
         requires limit { (9 ≤ limit) × (limit ≤ JOURNAL_LIMIT) }
         ensures opened { IfOk result (λ opened. IsOpened file limit opened.1 opened.0) }
         ensures list { IfOk result (λ opened.
-            ReadsAs file (λ bytes. Recovers bytes opened.1) (D.sight disk)) }
+            ReadsAs file (λ bytes. Recovers bytes (format_of opened.0) opened.1) (D.sight disk)) }
 
         // A file that was made new is the header and the closed gate.
         ensures whole { IfOk result (λ opened. (s : Image) → (D.sight disk).reads s → Short (s file) →
-            HoldsJust opened.0 []) }
+            HoldsJust opened.0 [] × (format_of opened.0 ≡ new)) }
 
         // A crash at any moment of the call leaves each image with the list that it had, and the other files.
         ensures any_moment { IfOk result (λ opened.
@@ -176,7 +189,7 @@ impl<D: Disk> Journal<D> {
         ensures refused { IfErr result (IsRefused D.Disk file disk) }
     {
         match load(alloc, &mut disk, file) {
-            Ok(bytes) => open_loaded(alloc, disk, file, limit, bytes.as_slice()),
+            Ok(bytes) => open_loaded(alloc, disk, file, limit, new, bytes.as_slice()),
             Err(LoadRefused::Failed) => Err(OpenRefused::Failed(disk)),
             Err(LoadRefused::Memory) => Err(OpenRefused::Memory(disk)),
         }

@@ -1,17 +1,22 @@
 //! What the bytes of a journal's file say, without the disk.
-ghost use Rattle.std.specs.Prelude.{◌≡◌, ◌≢◌, ◌<◌, ◌≤◌, ◌+◌, ◌∷◌, ◌++◌, ◌↔◌, ℕ, List, length, take, IsTrue, IfSome, IfNone, IfOk, Err};
-ghost use Rattle.sm_journal.specs.Records.{first_format, header, entry_of, body_limit, front, size, AreWithin, Loose, IsBroken, IsDamaged};
+ghost use Rattle.std.specs.Prelude.{◌≡◌, ◌≢◌, ◌<◌, ◌≤◌, ◌+◌, ◌∷◌, ◌++◌, ℕ, List, length, take, IfSome, IfNone, IfOk, Err};
+ghost use Rattle.sm_journal.specs.Records.{header, entry_of, body_limit, front, place_behind, AreWithin, Loose, IsBroken, IsDamaged};
 ghost use Rattle.sm_journal.specs.declared.parse.Damage.{Damage};
 ghost use Rattle.sm_journal.specs.declared.parse.ParseRefused.TheVariants.{Memory};
 
+use crate::format::Format;
+use crate::lengths::HEADER_SIZE;
 use sm_base::{Bytes, List, NoMemory};
 use std::alloc::{AllocFailed, Global};
 
 /// The greatest length of a body.
 pub const BODY_LIMIT: usize = 1_048_576;
 
-/// What stands at the beginning of a file.
-const HEADER: [u8; 8] = *b"SMJRNL01";
+/// What stands at the beginning of a file of the first format.
+const FIRST_HEADER: [u8; 8] = *b"SMJRNL01";
+
+/// What stands at the beginning of a file of the second format.
+const SECOND_HEADER: [u8; 8] = *b"SMJRNL02";
 
 /// Where a file is outside the grammar: the place of the record's gate, or 0 for the header, and the number of records
 /// before it.
@@ -21,9 +26,10 @@ pub struct Damage {
     pub entry: u64,
 }
 
-/// The bodies of a file's records, and the place of the gate behind them.
+/// A file's format, the bodies of its records, and the place of the gate behind them.
 #[derive(Drop)]
 pub struct Parsed {
+    pub format: Format,
     pub bodies: List<Bytes>,
     pub gate: u64,
 }
@@ -35,12 +41,20 @@ pub enum ParseRefused {
     Memory,
 }
 
-/// Whether the header stands at the beginning.
-fn has_header(bytes: &[u8]) -> bool
+/// The format whose header stands at the beginning.
+fn format_at(bytes: &[u8]) -> Option<Format>
     requires { 8 ≤ length bytes.now }
-    ensures { IsTrue result ↔ (take 8 bytes.now ≡ header) }
+    ensures found { IfSome result (λ format. take 8 bytes.now ≡ header format) }
+    ensures none { IfNone result
+        ((take 8 bytes.now ≢ header Format.First) × (take 8 bytes.now ≢ header Format.Second)) }
 {
-    &bytes[..8] == HEADER.as_slice()
+    if &bytes[..8] == FIRST_HEADER.as_slice() {
+        Some(Format::First)
+    } else if &bytes[..8] == SECOND_HEADER.as_slice() {
+        Some(Format::Second)
+    } else {
+        None
+    }
 }
 
 /// What stands behind a gate, if it is open.
@@ -94,17 +108,31 @@ impl<T: Drop> From<AllocFailed<T>> for ParseRefused {
 pub fn parse(alloc: Global, bytes: &[u8]) -> Result<Parsed, ParseRefused>
     requires { 9 < length bytes.now }
     ensures list { IfOk result (λ parsed. AreWithin parsed.bodies
-        × Loose (front first_format parsed.bodies) bytes.now) }
-    ensures gate { IfOk result (λ parsed. parsed.gate ≡ 8 + size parsed.bodies) }
+        × Loose (front parsed.format parsed.bodies) bytes.now) }
+    ensures gate { IfOk result (λ parsed. parsed.gate ≡ place_behind parsed.bodies) }
     ensures within { IfOk result (λ parsed. parsed.gate + 1 ≤ length bytes.now) }
     ensures damaged { (damage : Damage) → result ≡ Err (ParseRefused.Damaged damage) →
         IsDamaged bytes.now damage.at damage.entry }
 {
-    if !has_header(bytes) {
-        return Err(ParseRefused::Damaged(Damage { at: 0, entry: 0 }));
+    match format_at(bytes) {
+        Some(format) => records(alloc, format, bytes),
+        None => Err(ParseRefused::Damaged(Damage { at: 0, entry: 0 })),
     }
+}
+
+/// The records behind the header of a file.
+fn records(alloc: Global, format: Format, bytes: &[u8]) -> Result<Parsed, ParseRefused>
+    requires long { 9 < length bytes.now }
+    requires header { take 8 bytes.now ≡ header format }
+    ensures list { IfOk result (λ parsed. AreWithin parsed.bodies
+        × Loose (front parsed.format parsed.bodies) bytes.now) }
+    ensures gate { IfOk result (λ parsed. parsed.gate ≡ place_behind parsed.bodies) }
+    ensures within { IfOk result (λ parsed. parsed.gate + 1 ≤ length bytes.now) }
+    ensures damaged { (damage : Damage) → result ≡ Err (ParseRefused.Damaged damage) →
+        IsDamaged bytes.now damage.at damage.entry }
+{
     let mut bodies = Vec::new(alloc);
-    let mut rest = &bytes[8..];
+    let mut rest = &bytes[HEADER_SIZE as usize..];
     while let Some(behind) = behind_open(rest) {
         let Some((body, next)) = split_record(behind) else {
             let at = (bytes.len() - rest.len()) as u64;
@@ -116,5 +144,9 @@ pub fn parse(alloc: Global, bytes: &[u8]) -> Result<Parsed, ParseRefused>
     }
     let gate = (bytes.len() - rest.len()) as u64;
     let bodies = List::new(bodies);
-    Ok(Parsed { bodies, gate })
+    Ok(Parsed {
+        format,
+        bodies,
+        gate,
+    })
 }

@@ -3,7 +3,7 @@ use crate::disks::content;
 use crate::rows::compare;
 use sm_base::{Bytes, Fails, List, NoMemory};
 use sm_disk::{Disk, MemoryDisk};
-use sm_journal::{Appended, Damage, Journal, OpenRefused};
+use sm_journal::{Appended, Damage, Format, Journal, OpenRefused};
 use std::alloc::{AllocError, Global};
 use std::test::Fail;
 
@@ -35,7 +35,7 @@ struct Case {
     found: Found,
 }
 
-const CASES: [Case; 9] = [
+const CASES: [Case; 10] = [
     Case {
         name: "the whole file",
         length: 36,
@@ -79,10 +79,17 @@ const CASES: [Case; 9] = [
         found: Found::Records(0, 9),
     },
     Case {
-        name: "another header",
+        name: "the header of the second format",
         length: 36,
         place: 7,
         byte: 0x32,
+        found: Found::Records(1, 36),
+    },
+    Case {
+        name: "another header",
+        length: 36,
+        place: 7,
+        byte: 0x33,
         found: Found::Damaged(Damage { at: 0, entry: 0 }),
     },
     Case {
@@ -124,7 +131,7 @@ fn case_disk(alloc: Global, case: &Case) -> Result<MemoryDisk, NoMemory> {
 
 /// What opening finds on the disk, and the disk again.
 fn find(alloc: Global, disk: MemoryDisk) -> (Found, MemoryDisk) {
-    match Journal::open(alloc, disk, 0, 1000) {
+    match Journal::open(alloc, disk, 0, 1000, Format::First) {
         Ok((journal, bodies)) => {
             let mut disk = journal.close();
             match disk.length(0) {
@@ -185,7 +192,7 @@ const ANSWERS: [Answer; 4] = [
 
 /// The journal, if it was opened.
 fn opened(alloc: Global, disk: MemoryDisk) -> Option<Journal<MemoryDisk>> {
-    match Journal::open(alloc, disk, 0, 64) {
+    match Journal::open(alloc, disk, 0, 64, Format::First) {
         Ok((journal, _bodies)) => Some(journal),
         Err(_refused) => None,
     }
@@ -277,7 +284,7 @@ fn add_all<D: Disk>(journal: &mut Journal<D>) -> usize {
 }
 
 fn run(alloc: Global, disk: MemoryDisk) -> Left {
-    match Journal::open(alloc, disk, 0, 1000) {
+    match Journal::open(alloc, disk, 0, 1000, Format::First) {
         Ok((mut journal, _)) => {
             let kept = add_all(&mut journal);
             let unsure = journal.is_unsure();
@@ -306,7 +313,7 @@ fn count_first(bodies: &[Bytes]) -> Option<usize> {
 
 /// How many of the bodies stand on the disk, if it holds just the first ones.
 fn count(alloc: Global, disk: MemoryDisk) -> Option<usize> {
-    match Journal::open(alloc, disk, 0, 1000) {
+    match Journal::open(alloc, disk, 0, 1000, Format::First) {
         Ok((_journal, bodies)) => count_first(bodies.as_slice()),
         Err(_refused) => None,
     }

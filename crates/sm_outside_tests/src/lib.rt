@@ -15,6 +15,8 @@ mod folders;
 #[cfg(test)]
 mod forms;
 #[cfg(test)]
+mod fresh_files;
+#[cfg(test)]
 mod journals;
 #[cfg(test)]
 mod rows;

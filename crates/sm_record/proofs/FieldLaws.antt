@@ -383,7 +383,7 @@ unfolding tag
 tag_lawful = mapped_lawful (both text text) (both_lawful text_lawful text_lawful)
     (λ x. record { key = x.0; value = x.1 }) (λ t. (t.key, t.value)) (λ _. refl) (λ _. refl)
 
-schedule_lawful : (e : Edition) → Lawful (schedule e)
+pub schedule_lawful : (e : Edition) → Lawful (schedule e)
 schedule_lawful e = since_lawful None is_none (optional text) refl none_only (optional_lawful text text_lawful) e
 
 pub rotation_rules_lawful : (e : Edition) → Lawful (rotation_rules e)

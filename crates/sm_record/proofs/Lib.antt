@@ -10,3 +10,8 @@ pub mod SpellingLaws
 pub mod ReadingLemmas
 pub mod DecodeLemmas
 pub mod FitLemmas
+pub mod RowLemmas
+pub mod SeriesLaws
+pub mod RowLaws
+pub mod SnapshotLaws
+pub mod SequelLemmas

@@ -43,7 +43,7 @@ of_secret_lawful = mapped_lawful
     (λ r. r.secret_id)
     (λ _. refl) (λ _. refl)
 
-regions_lawful : (e : Edition) → Lawful (regions e)
+pub regions_lawful : (e : Edition) → Lawful (regions e)
 regions_lawful e = since_lawful [] is_empty (listed text) refl empty_only texts e
 
 pub create_secret_lawful : (e : Edition) → Lawful (create_secret e)

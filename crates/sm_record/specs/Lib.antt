@@ -5,3 +5,6 @@ pub mod Requests
 pub mod Entries
 pub mod Reading
 pub mod Spelling
+pub mod Series
+pub mod Rows
+pub mod Snapshots

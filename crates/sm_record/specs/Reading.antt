@@ -1,5 +1,5 @@
 -- What a reader of a field answers.
-use Rattle.std.specs.Prelude.{◌≡◌, ℕ, List, Result, Ok, Err}
+use Rattle.std.specs.Prelude.{◌≡◌, ℕ, ◌≤◌, List, Result, Ok, Err}
 use Rattle.sm_record.specs.declared.unread.Unread.{Unread}
 use Rattle.sm_record.specs.declared.unread.Unread.TheVariants.{Left, Memory}
 
@@ -23,3 +23,9 @@ Makes made view (Err unread) wanted = Fails unread wanted
 abbrev pub IsMade : {A B R : Type 0} → (A → B → Type 0) → Result (A × R) Unread → Result (B × R) Unread → Type 0
 IsMade {A} {B} made (Ok x) result = (b : B) × (made x.0 b) × (result ≡ Ok (b, x.1))
 IsMade made (Err unread) result = result ≡ Err unread
+
+-- where a field is not spelled, no more bytes are left than these
+abbrev pub LeftWithin : {X : Type 0} → Result X Unread → ℕ → Type 0
+LeftWithin (Ok x) bound = Unit {0}
+LeftWithin (Err (Left n)) bound = n ≤ bound
+LeftWithin (Err Memory) bound = Unit {0}

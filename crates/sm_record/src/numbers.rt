@@ -59,7 +59,7 @@ pub fn put_count(out: &mut Vec<u8>, number: usize) -> Result<(), NoMemory>
 
 /// Writes eight bytes.
 #[tactic(auto, unfolding(crate::specs::Fields::long))]
-fn put_long(out: &mut Vec<u8>, number: u64) -> Result<(), NoMemory>
+pub fn put_long(out: &mut Vec<u8>, number: u64) -> Result<(), NoMemory>
     ensures { OnOk result (out.new.items ≡ out.old.items ++ long.spell number) }
 {
     out.extend_from_slice(&number.to_be_bytes())?;

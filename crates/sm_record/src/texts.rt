@@ -13,7 +13,7 @@ use std::str;
 
 /// Whether the length of bytes is a number of four bytes.
 #[tactic(auto, unfolding(crate::specs::Fields::octets))]
-fn octets_fit(bytes: &[u8]) -> bool
+pub fn octets_fit(bytes: &[u8]) -> bool
     ensures { result ≡ octets.fits bytes.now }
 {
     count_fits(bytes.len())
@@ -21,7 +21,7 @@ fn octets_fit(bytes: &[u8]) -> bool
 
 /// The bytes behind a length. They are not copied, so a length that is too great asks for no memory.
 #[tactic(auto, unfolding(crate::specs::Fields::octets))]
-fn octets_at(bytes: &[u8]) -> Result<(&[u8], &[u8]), Unread>
+pub fn octets_at(bytes: &[u8]) -> Result<(&[u8], &[u8]), Unread>
     ensures { Gives (λ x. (x.0.now, x.1.now)) result (octets.read bytes.now) }
 {
     let (length, rest) = count_at(bytes)?;
@@ -34,7 +34,7 @@ fn octets_at(bytes: &[u8]) -> Result<(&[u8], &[u8]), Unread>
 }
 
 #[tactic(auto, using(std::proofs::lemmas::List::append_assoc), unfolding(crate::specs::Fields::octets))]
-fn put_octets(out: &mut Vec<u8>, bytes: &[u8]) -> Result<(), NoMemory>
+pub fn put_octets(out: &mut Vec<u8>, bytes: &[u8]) -> Result<(), NoMemory>
     requires { IsTrue (octets.fits bytes.now) }
     ensures { OnOk result (out.new.items ≡ out.old.items ++ octets.spell bytes.now) }
 {

@@ -1,6 +1,8 @@
-//! Tables of entries as bytes.
+//! Tables of entries and rows as bytes.
 #![tactic(auto)]
 
+#[cfg(test)]
+mod rows;
 #[cfg(test)]
 mod spellings;
 #[cfg(test)]

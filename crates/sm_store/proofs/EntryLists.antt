@@ -7,8 +7,9 @@ use Rattle.sm_record.specs.declared.edition.Edition.TheVariants.{First}
 use Rattle.sm_record.specs.Spelling.{spelling, HasSpelling}
 use Rattle.sm_record.proofs.SpellingLaws.{spells_one}
 use Rattle.sm_journal.specs.Records.{Recovers, RecoversEither, IsDamaged, SameList}
-use Rattle.sm_journal.proofs.Front.{one_list, not_damaged}
-use Rattle.sm_store.specs.Entries.{SpellsNone, AreSpelled, IsSpelled, HasEntries, HasEither, IsUnspelled}
+use Rattle.sm_journal.specs.declared.format.Format.TheVariants as formats
+use Rattle.sm_journal.proofs.Front.{one_list, one_format, not_damaged}
+use Rattle.sm_store.specs.Entries.{SpellsNone, AreSpelled, IsSpelled, HasEntries, HasEither, IsUnspelled, IsSecond}
 
 pub spelled_push : (list : List Entry) (e : Entry) → AreSpelled list → HasSpelling First e → AreSpelled (list ++ e ∷ [])
 spelled_push [] e all fits = (fits, tt)
@@ -39,17 +40,23 @@ same_entries (d ∷ a) (e ∷ b) left right same =
 
 pub one_list_of_entries : (bytes : List ℕ) (a b : List Entry) → HasEntries bytes a → HasEntries bytes b → a ≡ b
 one_list_of_entries bytes a b left right =
-    same_entries a b left.1 right.1 (one_list bytes (map (spelling First) a) (map (spelling First) b) left.0 right.0)
+    same_entries a b left.1 right.1 (one_list bytes formats.First formats.First (map (spelling First) a)
+    (map (spelling First) b) left.0 right.0)
 
 -- one more entry is one more body
 pub more_entries : (bytes : List ℕ) (list : List Entry) (e : Entry) → AreSpelled list → HasSpelling First e
-    → Recovers bytes (map (spelling First) list ++ spelling First e ∷ []) → HasEntries bytes (list ++ e ∷ [])
-more_entries bytes list e all fits recovers =
-    (subst (Recovers bytes) (sym (map_push (spelling First) list e)) recovers, spelled_push list e all fits)
+    → Recovers bytes formats.First (map (spelling First) list ++ spelling First e ∷ []) → HasEntries bytes
+    (list ++ e ∷ [])
+more_entries bytes list e all fits recovers = (
+  subst (Recovers bytes formats.First) (sym (map_push (spelling First) list e)) recovers,
+  spelled_push list e all
+      fits,
+)
 
 -- what a file recovers to, in entries
 pub either_entries : (list : List Entry) (failed : Option Entry) → AreSpelled list → IsSpelled failed
-    → (bytes : List ℕ) → RecoversEither (map (spelling First) list) (option_map (spelling First) failed) bytes
+    → (bytes : List ℕ) → RecoversEither formats.First (map (spelling First) list) (option_map (spelling First) failed)
+    bytes
     → HasEither list failed bytes
 either_entries list None all last bytes recovers = (recovers, all)
 either_entries list (Some e) all last bytes (inl recovers) = inl (recovers, all)
@@ -57,7 +64,7 @@ either_entries list (Some e) all last bytes (inr recovers) = inr (more_entries b
 
 -- a list that stays, in entries
 pub same_list : (x y : List ℕ) (list : List Entry) → SameList x y → HasEntries x list → HasEntries y list
-same_list x y list same has = (same (map (spelling First) list) has.0, has.1)
+same_list x y list same has = (same formats.First (map (spelling First) list) has.0, has.1)
 
 -- a body among those of spelled entries is somebody's spelling
 among : (list before : List Entry) (body : List ℕ) (after : List (List ℕ)) → AreSpelled list
@@ -77,8 +84,18 @@ not_unspelled bytes list at entry has foreign =
     let bodies = foreign.0 in
     let unspelled = foreign.2 in
     among list unspelled.before unspelled.body unspelled.after has.1
-    (one_list bytes (map (spelling First) list) bodies has.0 foreign.1 ∙ unspelled.split) unspelled.none
+    (one_list bytes formats.First formats.First (map (spelling First) list) bodies has.0 foreign.1 ∙ unspelled.split)
+    unspelled.none
 
 pub not_broken : (bytes : List ℕ) (list : List Entry) (at entry : ℕ) → HasEntries bytes list
     → IsDamaged bytes at entry → ⊥
-not_broken bytes list at entry has damaged = not_damaged bytes (map (spelling First) list) at entry has.0 damaged
+not_broken bytes list at entry has damaged = not_damaged bytes formats.First (map (spelling First) list) at entry
+    has.0 damaged
+
+pub not_second : (bytes : List ℕ) (list : List Entry) → HasEntries bytes list → IsSecond bytes → ⊥
+not_second bytes list has second = apart (one_format bytes formats.First formats.Second (map (spelling First) list)
+    second.0
+    second.1 has.0 second.2)
+  where
+    apart : formats.First ≡ formats.Second → ⊥
+    apart same = cc

@@ -4,6 +4,7 @@ use mathlib.Core.Bool.{Bool-set}
 use mathlib.Core.HLevel.{Unit-prop, ×_prop}
 use Rattle.std.specs.Option.{option_map}
 use Rattle.sm_disk.specs.declared.disk.Disk.{Ghosts}
+use Rattle.sm_journal.specs.declared.format.Format.TheVariants as formats
 use Rattle.sm_journal.proofs.OneProof.{recovers_prop, stands_prop}
 use Rattle.sm_model.specs.declared.entry.Entry.{Entry}
 use Rattle.sm_record.specs.declared.edition.Edition.TheVariants.{First}
@@ -22,7 +23,7 @@ last_prop None = Unit-prop
 last_prop (Some e) = Bool-set (has_spelling First e) true
 
 pub entries_prop : (bytes : List ℕ) (list : List Entry) → IsProp (HasEntries bytes list)
-entries_prop bytes list = ×_prop (recovers_prop bytes (map (spelling First) list)) (spelled_prop list)
+entries_prop bytes list = ×_prop (recovers_prop bytes formats.First (map (spelling First) list)) (spelled_prop list)
 
 -- two sides that exclude each other
 either_side : {A B : Type 0} → IsProp A → IsProp B → (A → B → ⊥) → IsProp (A ⊎ B)

@@ -1,9 +1,10 @@
 -- A journal's file in entries.
-use Rattle.std.specs.Prelude.{◌≡◌, ◌⊎◌, ℕ, ◌+◌, List, [], ◌∷◌, ◌++◌, map, length, Option, None, Some}
+use Rattle.std.specs.Prelude.{◌≡◌, ◌⊎◌, ℕ, ◌<◌, List, [], ◌∷◌, ◌++◌, map, length, Option, None, Some}
 use Rattle.sm_model.specs.declared.entry.Entry.{Entry}
 use Rattle.sm_record.specs.declared.edition.Edition.TheVariants.{First}
 use Rattle.sm_record.specs.Spelling.{spelling, HasSpelling}
-use Rattle.sm_journal.specs.Records.{size, Recovers}
+use Rattle.sm_journal.specs.declared.format.Format.TheVariants as formats
+use Rattle.sm_journal.specs.Records.{place_behind, Recovers}
 
 -- the entry has a spelling, and these bytes are it
 abbrev pub Spells : Entry → List ℕ → Type 0
@@ -25,7 +26,7 @@ IsSpelled (Some e) = HasSpelling First e
 
 -- The file's list of entries: the bodies of its counted records are their spellings. It has one proof at most.
 abbrev pub HasEntries : List ℕ → List Entry → Type 0
-HasEntries bytes list = Recovers bytes (map (spelling First) list) × AreSpelled list
+HasEntries bytes list = Recovers bytes formats.First (map (spelling First) list) × AreSpelled list
 
 -- the file has this list of entries, or it and one entry more, if there is one
 abbrev pub HasEither : List Entry → Option Entry → List ℕ → Type 0
@@ -40,9 +41,14 @@ pub record IsUnspelledIn (bodies : List (List ℕ)) (at entry : ℕ) : Type 0 wh
   pub spelled : AreSpelled before
   pub split : bodies ≡ map (spelling First) before ++ body ∷ after
   pub none : SpellsNone body
-  pub place : at ≡ 8 + size (map (spelling First) before)
+  pub place : at ≡ place_behind (map (spelling First) before)
   pub number : entry ≡ length before
 
 -- the file has a list of records, and one of them has a body that is no entry's spelling
 abbrev pub IsUnspelled : List ℕ → ℕ → ℕ → Type 0
-IsUnspelled bytes at entry = (bodies : List (List ℕ)) × Recovers bytes bodies × IsUnspelledIn bodies at entry
+IsUnspelled bytes at entry = (bodies : List (List ℕ)) × Recovers bytes formats.First bodies
+    × IsUnspelledIn bodies at entry
+
+-- the file is one of the second format
+abbrev pub IsSecond : List ℕ → Type 0
+IsSecond bytes = (bodies : List (List ℕ)) × (9 < length bytes) × Recovers bytes formats.Second bodies

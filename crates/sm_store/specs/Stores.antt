@@ -1,10 +1,12 @@
 -- A store, and what stands on its disk.
-use Rattle.std.specs.Prelude.{◌≡◌, ℕ, ◌+◌, ◌<◌, ◌≤◌, Bool, true, false, List, [], ◌∷◌, ◌++◌, map, length, Option, None, Some}
+use Rattle.std.specs.Prelude.{◌≡◌, ℕ, ◌+◌, ◌<◌, ◌≤◌, Bool, true, false, List, [], ◌∷◌, ◌++◌, map, Option, None, Some}
 use Rattle.std.specs.Option.{option_map}
 use Rattle.sm_disk.specs.declared.disk.Disk.{Ghosts}
 use Rattle.sm_disk.specs.Sight.{Sight}
 use Rattle.sm_disk.specs.OneFile.{Leaves}
 use Rattle.sm_journal.specs.Journals as journals
+use Rattle.sm_journal.specs.declared.format.Format.TheVariants as formats
+use Rattle.sm_journal.specs.Records.{record_size}
 use Rattle.sm_journal.specs.Making as making
 use Rattle.sm_journal.specs.declared.answers.Appended.{Appended}
 use Rattle.sm_journal.specs.declared.answers.Appended.TheVariants.{Ok, Failed, Full, TooLong}
@@ -43,7 +45,7 @@ HoldsJust store list = journals.HoldsJust store.journal (map (spelling First) li
 
 -- the file's length with one entry more
 abbrev pub length_with : {D : Type 0} {G : Ghosts D} → Store D G → Entry → ℕ
-length_with store e = length_of store + (5 + length (spelling First e))
+length_with store e = length_of store + record_size (spelling First e)
 
 -- What each answer of `append` says: full exactly where it is; Ok with the entry at the end of the list; and where the
 -- disk failed the list as before and the entry unsure. No spelling that it takes is too long.
@@ -73,4 +75,4 @@ pub record IsOpened {D : Type 0} {G : Ghosts D} (limit : ℕ) (list : List Entry
 -- is closed, and what one can be opened over.
 pub record IsIdle (list : List Entry) (now : Sight) : Type 0 where
   pub spelled : AreSpelled list
-  pub idle : making.IsIdle JOURNAL (map (spelling First) list) now
+  pub idle : making.IsIdle JOURNAL formats.First (map (spelling First) list) now

@@ -1,13 +1,13 @@
 //! The entries of a list of bodies, without the disk.
-ghost use Rattle.std.specs.Prelude.{◌≡◌, ◌<◌, ◌+◌, ◌^◌, ℕ, map, IfOk, Err};
-ghost use Rattle.sm_journal.specs.Records.{size};
+ghost use Rattle.std.specs.Prelude.{◌≡◌, ◌<◌, ◌^◌, ℕ, map, IfOk, Err};
+ghost use Rattle.sm_journal.specs.Records.{place_behind};
 ghost use Rattle.sm_journal.specs.declared.parse.Damage.{Damage};
 ghost use Rattle.sm_record.specs.Spelling.{spelling};
 ghost use Rattle.sm_store.specs.Entries.{AreSpelled, IsUnspelledIn};
 ghost use Rattle.sm_store.specs.declared.entries.EntriesRefused.TheVariants.{Memory};
 
 use sm_base::{Bytes, List};
-use sm_journal::Damage;
+use sm_journal::{Damage, HEADER_SIZE, record_size};
 use sm_model::Entry;
 use sm_record::{DecodeRefused, Edition, decode};
 use std::alloc::{AllocFailed, Global};
@@ -30,15 +30,16 @@ impl<T: Drop> From<AllocFailed<T>> for EntriesRefused {
 
 /// The entries that these bodies spell.
 pub fn entries(alloc: Global, bodies: &[Bytes]) -> Result<List<Entry>, EntriesRefused>
-    requires { 8 + size bodies.now < 2 ^ 64 }
+    requires { place_behind bodies.now < 2 ^ 64 }
     ensures list { IfOk result (λ list. AreSpelled list × (bodies.now ≡ map (spelling Edition.First) list)) }
     ensures damaged { (damage : Damage) → result ≡ Err (EntriesRefused.Damaged damage) →
         IsUnspelledIn bodies.now damage.at damage.entry }
 {
     let mut list = Vec::new(alloc);
-    let mut at = 8;
+    let mut at = HEADER_SIZE;
     for body in bodies {
-        match decode(alloc, Edition::First, body.as_slice()) {
+        let bytes = body.as_slice();
+        match decode(alloc, Edition::First, bytes) {
             Ok(entry) => list.push(entry)?,
             Err(DecodeRefused::NoEntry(_)) => {
                 let entry = list.len() as u64;
@@ -46,7 +47,7 @@ pub fn entries(alloc: Global, bodies: &[Bytes]) -> Result<List<Entry>, EntriesRe
             }
             Err(DecodeRefused::Memory) => return Err(EntriesRefused::Memory),
         }
-        at += 5 + body.len() as u64;
+        at += record_size(bytes);
     }
     Ok(List::new(list))
 }

@@ -5,13 +5,13 @@ ghost use Rattle.sm_journal.specs.Records as records;
 ghost use Rattle.sm_model.specs.declared.entry.Entry.{Entry};
 ghost use Rattle.sm_store.specs.declared.files.TheConstants.{JOURNAL};
 ghost use Rattle.sm_store.specs.declared.store.Store.{Store};
-ghost use Rattle.sm_store.specs.Entries.{HasEntries, HasEither, IsUnspelled};
+ghost use Rattle.sm_store.specs.Entries.{HasEntries, HasEither, IsUnspelled, IsSecond};
 ghost use Rattle.sm_store.specs.Stores.{disk_of, Holds};
 
 use sm_disk::Disk;
 
-/// A file has one list of entries at most, and a file that has one isn't damaged. What is said of a file has one proof
-/// at most, so a type can keep it as a fact.
+/// A file has one list of entries at most, and a file that has one isn't damaged, nor is it of the second format. What
+/// is said of a file has one proof at most, so a type can keep it as a fact.
 pub fn a_file_has_one_list()
     ensures list { (bytes : List ℕ) (a : List Entry) (b : List Entry) → HasEntries bytes a → HasEntries bytes b →
         a ≡ b }
@@ -19,6 +19,7 @@ pub fn a_file_has_one_list()
         records.IsDamaged bytes at entry → ⊥ }
     ensures spelled { (bytes : List ℕ) (list : List Entry) (at : ℕ) (entry : ℕ) → HasEntries bytes list →
         IsUnspelled bytes at entry → ⊥ }
+    ensures first { (bytes : List ℕ) (list : List Entry) → HasEntries bytes list → IsSecond bytes → ⊥ }
     ensures proof { (list : List Entry) (failed : Option Entry) (bytes : List ℕ) →
         IsProp (HasEither list failed bytes) }
 {}

@@ -15,15 +15,16 @@ use crate::files::JOURNAL;
 use crate::store::Store;
 use sm_base::List;
 use sm_disk::Disk;
-use sm_journal::{Journal, OpenRefused};
+use sm_journal::{Damage, Format, Journal, OpenRefused};
 use sm_model::Entry;
 use std::alloc::Global;
 
 impl<D: Disk> Store<D> {
     /// Opens the store of a disk, and gives its entries. It syncs the file first, mends what follows the records, and
     /// makes a file of at most nine bytes new. A file that is longer is damaged where it is outside the grammar, or
-    /// where a body is no entry's spelling: the place is the byte of the record's gate, or 0 for the header, and the
-    /// number is that of the records before it. An error hands the disk back.
+    /// where a body is no entry's spelling, or where it is of the second format, which isn't read here: the place is
+    /// the byte of the record's gate, or 0 for the header, and the number is that of the records before it. An error
+    /// hands the disk back.
     pub fn open(
         alloc: Global,
         disk: D,
@@ -45,13 +46,19 @@ impl<D: Disk> Store<D> {
         ensures later { IfOk result (λ opened. D.faults disk ≤ D.faults (disk_of opened.0)) }
         ensures refused { IfErr result (IsRefused D.Disk disk) }
     {
-        match Journal::open(alloc, disk, JOURNAL, limit) {
-            Ok((journal, bodies)) => match entries(alloc, bodies.as_slice()) {
-                Ok(list) => Ok((Store::over(journal), list)),
-                Err(EntriesRefused::Damaged(damage)) => {
-                    Err(OpenRefused::Damaged(journal.close(), damage))
-                }
-                Err(EntriesRefused::Memory) => Err(OpenRefused::Memory(journal.close())),
+        match Journal::open(alloc, disk, JOURNAL, limit, Format::First) {
+            Ok((journal, bodies)) => match journal.format() {
+                Format::First => match entries(alloc, bodies.as_slice()) {
+                    Ok(list) => Ok((Store::over(journal), list)),
+                    Err(EntriesRefused::Damaged(damage)) => {
+                        Err(OpenRefused::Damaged(journal.close(), damage))
+                    }
+                    Err(EntriesRefused::Memory) => Err(OpenRefused::Memory(journal.close())),
+                },
+                Format::Second => Err(OpenRefused::Damaged(
+                    journal.close(),
+                    Damage { at: 0, entry: 0 },
+                )),
             },
             Err(refused) => Err(refused),
         }

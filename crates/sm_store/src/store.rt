@@ -2,8 +2,9 @@
 ghost use Rattle.std.specs.Prelude.{◌≡◌, ◌≤◌, ℕ, List, Option, None, Some, true, false, length, OnOk, OnErr, IsOk};
 ghost use Rattle.sm_base.specs.Faults.{Rose};
 ghost use Rattle.sm_disk.specs.Faults.{HasCause};
-ghost use Rattle.sm_journal.specs.Journals.{file_of};
+ghost use Rattle.sm_journal.specs.Journals.{file_of, format_of};
 ghost use Rattle.sm_journal.specs.Records.{body_limit};
+ghost use Rattle.sm_journal.specs.declared.format.Format.TheVariants.{First};
 ghost use Rattle.sm_model.specs.declared.entry.Entry.{Entry};
 ghost use Rattle.sm_store.specs.declared.files.TheConstants.{JOURNAL};
 ghost use Rattle.sm_store.specs.Entries.{Spells};
@@ -18,6 +19,7 @@ use sm_journal::{Appended, Journal};
 pub struct Store<D: Disk> {
     journal: Journal<D>,
     ghost in_file: { file_of journal ≡ JOURNAL },
+    ghost in_format: { format_of journal ≡ First },
 }
 
 impl<D: Disk> Store<D> {
@@ -25,7 +27,8 @@ impl<D: Disk> Store<D> {
 
     /// A journal of entries as a store.
     pub(crate) fn over(journal: Journal<D>) -> Store<D>
-        requires { file_of journal ≡ JOURNAL }
+        requires file { file_of journal ≡ JOURNAL }
+        requires format { format_of journal ≡ First }
         ensures { result.journal ≡ journal }
     {
         Store { journal }

@@ -16,5 +16,6 @@ returns-clause-run g c images =
     c.sync.ensures.reads).leaves
 
 pub returns-clause-made : goal.returns-clause-made
-returns-clause-made g c = sync_has c.args.file (Whole []) _ _ c.sync.ensures.reads c.in_ok-sync.ensures.synced
+returns-clause-made g c = sync_has c.args.file (Whole c.args.format []) _ _ c.sync.ensures.reads
+    c.in_ok-sync.ensures.synced
     c.in_ok-begin.ensures.making.reads

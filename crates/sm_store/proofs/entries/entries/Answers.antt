@@ -1,4 +1,4 @@
-use Rattle.std.proofs.Common.{◌≡◌, ℕ, length, sym, ◌∙◌, ap, subst, Err, arith}
+use Rattle.std.proofs.Common.{◌≡◌, ℕ, ◌+◌, List, length, sym, ◌∙◌, ap, subst, Err, arith}
 use Rattle.sm_store.specs.Entries.{IsUnspelledIn}
 use Rattle.sm_store.proofs.EntryLists.{spelled_push}
 use Rattle.sm_store.proofs.ReadingRuns.{at_fits, next_list, next_at, unspelled_here, refused_damage}
@@ -13,12 +13,12 @@ returns-in-Err-NoEntry-clause-damaged c =
     (unspelled_here c.args.bodies.now c.loop-body.list.items c.loop-body.body-index c.loop-body.at c.body-item.result
     c.loop-body-test.true c.body-item.is c.loop-body.invariant.0 c.loop-body.invariant.1 c.loop-body.invariant.2
     (λ e spells. (c.in-Err-NoEntry.ensures.no_entry c.in-Err-NoEntry.field-0-0
-    (ap Err c.in-Err-NoEntry.field-0-is)).1 e spells.0 (spells.1 ∙ sym c.as_slice.ensures))))
+    (ap Err c.in-Err-NoEntry.field-0-is)).1 e spells.0 (spells.1 ∙ sym c.as_slice-bytes.ensures))))
 
-pub overflow_add-at-in-loop-body : goal.overflow_add-at-in-loop-body
-overflow_add-at-in-loop-body c = omega (
+pub overflow_add-at : goal.overflow_add-at
+overflow_add-at c = omega (
   arith,
-  c.len.ensures,
+  c.record_size-at.ensures ∙ ap (λ (b : List ℕ). 5 + length b) c.as_slice-bytes.ensures,
   at_fits c.args.bodies.now c.loop-body.list.items c.loop-body.body-index c.loop-body.at c.body-item.result
       c.loop-body-test.true c.body-item.is c.loop-body.invariant.0 c.loop-body.invariant.1 c.loop-body.invariant.2
       c.requires,
@@ -27,12 +27,15 @@ overflow_add-at-in-loop-body c = omega (
 pub loop-body-preserved : goal.loop-body-preserved
 loop-body-preserved c =
     let found = c.in-Ok.ensures.found in
-    rw (c.in_ok-push-in-Ok.ensures.items, c.len.ensures) (
+    rw (
+      c.in_ok-push-in-Ok.ensures.items,
+      c.record_size-at.ensures ∙ ap (λ (b : List ℕ). 5 + length b) c.as_slice-bytes.ensures,
+    ) (
       spelled_push c.loop-body.list.items c.in-Ok.entry c.loop-body.invariant.0 found.0,
       next_list c.args.bodies.now c.loop-body.list.items c.loop-body.body-index c.loop-body.at c.body-item.result
           c.loop-body-test.true c.body-item.is c.loop-body.invariant.0 c.loop-body.invariant.1 c.loop-body.invariant.2
-          c.in-Ok.entry found.0 (found.1 ∙ c.as_slice.ensures),
+          c.in-Ok.entry found.0 (found.1 ∙ c.as_slice-bytes.ensures),
       next_at c.args.bodies.now c.loop-body.list.items c.loop-body.body-index c.loop-body.at c.body-item.result
           c.loop-body-test.true c.body-item.is c.loop-body.invariant.0 c.loop-body.invariant.1 c.loop-body.invariant.2
-          c.in-Ok.entry (found.1 ∙ c.as_slice.ensures),
+          c.in-Ok.entry (found.1 ∙ c.as_slice-bytes.ensures),
     )

@@ -1,4 +1,4 @@
-use Rattle.sm_store.proofs.EntryLists.{one_list_of_entries, not_broken, not_unspelled}
+use Rattle.sm_store.proofs.EntryLists.{one_list_of_entries, not_broken, not_unspelled, not_second}
 use Rattle.sm_store.proofs.OneProof.{either_prop}
 use Rattle.sm_store.proofs.laws.a_file_has_one_list.Goals as goal
 
@@ -13,3 +13,6 @@ returns-clause-spelled c = not_unspelled
 
 pub returns-clause-proof : goal.returns-clause-proof
 returns-clause-proof c = either_prop
+
+pub returns-clause-first : goal.returns-clause-first
+returns-clause-first c = not_second

@@ -9,7 +9,7 @@ returns-clause-opened g c bodies at within rests = record {
     length = omega (arith, at);
     within = within;
     last = tt;
-    recovers = λ image was. ends_either Sure bodies None within tt _ (rests image was);
+    recovers = λ image was. ends_either c.args.format Sure bodies None within tt _ (rests image was);
     ends = rests;
   };
   sure = refl;

@@ -1,16 +1,17 @@
-use Rattle.sm_journal.specs.Records.{RecoversEither}
-use Rattle.sm_journal.proofs.Standing.{then_on, at_err}
+use Rattle.sm_journal.proofs.Standing.{then_mended, at_err}
 use Rattle.sm_journal.proofs.journal.Journal.mend.Goals as goal
 
 pub returns-in_err-cut_tail-clause-any_moment : goal.returns-in_err-cut_tail-clause-any_moment
 returns-in_err-cut_tail-clause-any_moment g c bodies failed stands =
-    then_on c.args.self.now.file _ (RecoversEither bodies failed) _ _ _ c.close_gate.ensures.same.file
+    then_mended c.args.self.now.file _ c.args.self.now.format _ bodies failed _ _ _ c.close_gate.ensures.same.file
+    c.close_gate.ensures.same.format
     (c.close_gate.ensures.any_moment bodies failed stands)
     (c.cut_tail.ensures.any_moment bodies failed (c.close_gate.ensures.stands bodies failed stands))
 
 pub returns-clause-any_moment : goal.returns-clause-any_moment
 returns-clause-any_moment g c bodies failed stands =
-    then_on c.args.self.now.file _ (RecoversEither bodies failed) _ _ _ c.close_gate.ensures.same.file
+    then_mended c.args.self.now.file _ c.args.self.now.format _ bodies failed _ _ _ c.close_gate.ensures.same.file
+    c.close_gate.ensures.same.format
     (c.close_gate.ensures.any_moment bodies failed stands)
     (c.cut_tail.ensures.any_moment bodies failed (c.close_gate.ensures.stands bodies failed stands))
 

@@ -1,10 +1,10 @@
 use Rattle.std.proofs.Common.{◌≡◌, ◌<◌, ◌+◌, ◌++◌, length}
-use Rattle.sm_journal.specs.Records.{first_format, front, size, AreWithin}
-use Rattle.sm_journal.proofs.parse.parse.Given as goal
+use Rattle.sm_journal.specs.Records.{front, size, AreWithin}
+use Rattle.sm_journal.proofs.parse.records.Given as goal
 
 abbrev pub invariant-loop-behind : goal.invariant-loop-behind
 invariant-loop-behind l = record {
-  split : l.bytes ≡ front first_format l.bodies.items ++ l.rest;
+  split : l.bytes ≡ front l.format l.bodies.items ++ l.rest;
   within : AreWithin l.bodies.items;
   size : length l.bytes ≡ 8 + size l.bodies.items + length l.rest;
   more : 0 < length l.rest;

@@ -1,0 +1,183 @@
+//! A file that is made beside the one that counts, and a root that names it, with each device call failing in turn.
+ghost use Rattle.std.specs.Prelude.{◌≡◌, ◌∷◌, [], false, OnOk};
+ghost use Rattle.sm_journal.specs.Freshes.{IsBegun};
+ghost use Rattle.sm_journal.specs.Journals.{file_of, is_unsure};
+
+use crate::disks::content;
+use crate::rows::compare;
+use sm_base::{Bytes, Fails, List, NoMemory};
+use sm_disk::{DiskFailed, MemoryDisk};
+use sm_journal::{Format, Fresh, Journal, named_file};
+use std::alloc::Global;
+use std::test::Fail;
+
+/// The one record of the file that counts before.
+const OLD: &[u8] = b"old";
+
+/// The records of the file that counts behind.
+const NEW: [&[u8]; 2] = [b"new", b""];
+
+/// The bytes of the file that counts behind.
+const WHOLE: [u8; 22] = [
+    0x53, 0x4d, 0x4a, 0x52, 0x4e, 0x4c, 0x30, 0x32, 1, 0, 0, 0, 3, 0x6e, 0x65, 0x77, 1, 0, 0, 0, 0,
+    0,
+];
+
+/// What a disk recovers to.
+#[derive(Clone, Copy, Debug, PartialEq, Eq)]
+enum Came {
+    Old,
+    New,
+    Other,
+}
+
+/// What became of a switch to the new file.
+#[derive(Drop)]
+struct Left {
+    disk: MemoryDisk,
+    done: bool,
+}
+
+/// A disk whose first file has the one record, whose second has what was left there, and whose root is empty.
+fn disk_before(alloc: Global, fails: Fails) -> Result<MemoryDisk, NoMemory> {
+    let journal_0 = Bytes::from_slice(alloc, b"SMJRNL01\x01\0\0\0\x03old\0")?;
+    let journal_1 = Bytes::from_slice(alloc, b"SMJRNL01\x01junk of a longer file")?;
+    MemoryDisk::new(alloc, journal_0, journal_1, Bytes::empty(alloc), fails)
+}
+
+/// Adds the new records.
+fn add_both(fresh: &mut Fresh<MemoryDisk>) -> Result<(), DiskFailed>
+    requires { IsBegun 1 1000 [] fresh.old }
+    ensures { OnOk result (IsBegun 1 1000 ((110 ∷ 101 ∷ 119 ∷ []) ∷ [] ∷ []) fresh.new) }
+{
+    fresh.add(b"new")?;
+    fresh.add(b"")?;
+    Ok(())
+}
+
+/// Lets the root name the new file.
+fn name_new(mut journal: Journal<MemoryDisk>) -> Left
+    requires sure { is_unsure journal ≡ false }
+    requires file { file_of journal ≡ 1 }
+{
+    let done = journal.root(1).is_ok();
+    Left {
+        disk: journal.close(),
+        done,
+    }
+}
+
+fn seal(fresh: Fresh<MemoryDisk>) -> Left
+    requires { IsBegun 1 1000 ((110 ∷ 101 ∷ 119 ∷ []) ∷ [] ∷ []) fresh }
+{
+    match fresh.seal() {
+        Ok(journal) => name_new(journal),
+        Err(disk) => Left { disk, done: false },
+    }
+}
+
+/// Makes the new file and names it.
+fn switch(disk: MemoryDisk) -> Left {
+    match Fresh::make(disk, 1, 1000) {
+        Ok(mut fresh) => match add_both(&mut fresh) {
+            Ok(()) => seal(fresh),
+            Err(_) => Left {
+                disk: fresh.close(),
+                done: false,
+            },
+        },
+        Err(disk) => Left { disk, done: false },
+    }
+}
+
+/// Which records these are.
+fn came_of(format: Format, bodies: &[Bytes]) -> Came {
+    if format == Format::First && bodies.len() == 1 && bodies[0].as_slice() == OLD {
+        return Came::Old;
+    }
+    if format == Format::Second && are_new(bodies) {
+        return Came::New;
+    }
+    Came::Other
+}
+
+fn are_new(bodies: &[Bytes]) -> bool {
+    bodies.len() == NEW.len()
+        && bodies
+            .iter()
+            .zip(&NEW)
+            .all(|(body, new)| body.as_slice() == *new)
+}
+
+/// What a disk recovers to.
+fn recovered(alloc: Global, mut disk: MemoryDisk) -> Came {
+    match named_file(&mut disk) {
+        Ok(file) => match Journal::open(alloc, disk, file, 1000, Format::Second) {
+            Ok((journal, bodies)) => came_of(journal.format(), bodies.as_slice()),
+            Err(_refused) => Came::Other,
+        },
+        Err(_) => Came::Other,
+    }
+}
+
+fn fails(alloc: Global, call: u64, later: bool) -> Result<Fails, Fail> {
+    let calls = List::new(Vec::from_slice(alloc, &[call])?);
+    let from = if later { Some(call) } else { None };
+    Ok(Fails { calls, from })
+}
+
+/// Whether a crash with this fill leaves one of the two, and the new one where the switch was done.
+fn is_one(alloc: Global, left: &Left, fill: u8) -> Result<bool, Fail> {
+    let came = recovered(alloc, left.disk.crash(fill)?);
+    Ok(came == Came::New || came == Came::Old && !left.done)
+}
+
+/// The first fill where a crash leaves something else.
+fn lost_after(alloc: Global, left: &Left) -> Result<Option<u8>, Fail> {
+    for fill in [0, 1, 7] {
+        if !is_one(alloc, left, fill)? {
+            return Ok(Some(fill));
+        }
+    }
+    Ok(None)
+}
+
+/// The first fill where a crash after a switch with this fault leaves something else.
+fn lost_by_fault(alloc: Global, call: u64, later: bool) -> Result<Option<u8>, Fail> {
+    let disk = disk_before(alloc, fails(alloc, call, later)?)?;
+    lost_after(alloc, &switch(disk))
+}
+
+/// The first call, whether later calls fail too, and the first fill, where a crash leaves something else.
+fn lost_in_a_switch(alloc: Global) -> Result<Option<(u64, bool, u8)>, Fail> {
+    for call in 1..=14u64 {
+        for later in [false, true] {
+            if let Some(fill) = lost_by_fault(alloc, call, later)? {
+                return Ok(Some((call, later, fill)));
+            }
+        }
+    }
+    Ok(None)
+}
+
+#[test]
+fn a_switch_leaves_one_of_two_files(rt: HostRuntime) -> Result<(), Fail> {
+    assert_eq!(rt; lost_in_a_switch(rt.alloc())?, None);
+    Ok(())
+}
+
+/// The new file, once it is named.
+fn new_file(alloc: Global) -> Result<Vec<u8>, Fail> {
+    let mut left = switch(disk_before(alloc, Fails::never(alloc))?);
+    if !left.done {
+        return Err("not named".into());
+    }
+    content(alloc, &mut left.disk, 1)
+}
+
+#[test]
+fn new_files_have_exact_bytes(rt: HostRuntime) -> Result<(), Fail> {
+    let came = new_file(rt.alloc())?;
+    compare(&rt, "a new file of two bodies", came.as_slice(), &WHOLE);
+    Ok(())
+}
