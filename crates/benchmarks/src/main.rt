@@ -2,8 +2,11 @@
 //! `benchmarks pieces 100` reads a message with a body of so many bytes, which come one by one, and says how many;
 //! `benchmarks open FOLDER` opens the store of a folder, `benchmarks copy FROM TO` adds its entries to another folder's
 //! store, and both say how many entries there are; `benchmarks account FOLDER` opens the account of a folder, and says
-//! how many entries that has; `benchmarks run FOLDER` answers the messages of standard input on that account, and then
-//! says with which code the run ended.
+//! how many entries that has; `benchmarks faults FOLDER 100` asks that account for so many secrets, where its disk
+//! fails, and `benchmarks looks FOLDER 100` looks so often for the step of a rotation there that never goes on: both
+//! say how many marks the history has of it; `benchmarks dues FOLDER 100` asks so often whether a rotation is due
+//! there, and says how often one is; `benchmarks run FOLDER` answers the messages of standard input on that
+//! account, and then says with which code the run ended.
 #![tactic(auto)]
 
 mod accounts;
@@ -41,7 +44,7 @@ fn main(rt: HostRuntime) -> ExitCode {
         }
         None => {
             let _ = eprintln!(rt;
-                "benchmarks: table|pieces <count>, open|account|run <folder> or copy <from> <to>"
+                "benchmarks: table|pieces <count>, open|account|run|faults|looks|dues <folder> .. or copy <from> <to>"
             );
             ExitCode::from(2)
         }
@@ -69,6 +72,15 @@ fn run(rt: &HostRuntime, words: &[String]) -> Option<(usize, &'static str)> {
         [work, folder] if work.as_str() == "account" => {
             entries(accounts::count(rt, folder.as_str()))
         }
+        [work, folder, number] if work.as_str() == "faults" => {
+            faults(accounts::faults(rt, folder.as_str(), number.as_str()))
+        }
+        [work, folder, number] if work.as_str() == "looks" => {
+            claims(accounts::looks(rt, folder.as_str(), number.as_str()))
+        }
+        [work, folder, number] if work.as_str() == "dues" => {
+            looks(accounts::dues(rt, folder.as_str(), number.as_str()))
+        }
         [work, folder] if work.as_str() == "run" => code(runs::run(rt, folder.as_str())),
         _ => None,
     }
@@ -84,6 +96,18 @@ fn bytes(count: Option<usize>) -> Option<(usize, &'static str)> {
 
 fn entries(count: Option<usize>) -> Option<(usize, &'static str)> {
     Some((count?, "entries"))
+}
+
+fn faults(count: Option<usize>) -> Option<(usize, &'static str)> {
+    Some((count?, "faults"))
+}
+
+fn claims(count: Option<usize>) -> Option<(usize, &'static str)> {
+    Some((count?, "claims"))
+}
+
+fn looks(count: Option<usize>) -> Option<(usize, &'static str)> {
+    Some((count?, "looks that find one"))
 }
 
 fn code(code: Option<usize>) -> Option<(usize, &'static str)> {

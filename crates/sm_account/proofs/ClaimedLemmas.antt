@@ -1,5 +1,5 @@
 -- The books once a step of a rotation was claimed.
-use Rattle.std.proofs.Common.{◌≡◌, ℕ, ◌+◌, ◌++◌, ◌∷◌, [], Option, Some, None, IsSomeAnd, option_map, sym, ap, ◌∙◌, subst, append-nil, arith}
+use Rattle.std.proofs.Common.{◌≡◌, ℕ, ◌+◌, ◌≤◌, List, ◌++◌, ◌∷◌, [], Option, Some, None, IsSomeAnd, option_map, length, sym, ap, ◌∙◌, subst, append-nil, arith}
 use Rattle.std.proofs.Math.Logic.{∥∥₁_map}
 use Rattle.sm_base.specs.declared.moment.Moment.{Moment}
 use Rattle.sm_disk.specs.declared.disk.Disk.{Ghosts}
@@ -7,7 +7,10 @@ use Rattle.sm_model.specs.declared.entry.Mark.TheVariants.{Claim}
 use Rattle.sm_model.specs.declared.rows.Job.{Job}
 use Rattle.sm_model.specs.declared.rows.Rows.{Rows}
 use Rattle.sm_model.specs.declared.rows.SecretRow.{SecretRow}
+use Rattle.sm_claims.specs.declared.claims.Claim.{Claim as standing}
 use Rattle.sm_claims.specs.Ready.{first_ready}
+use Rattle.sm_claims.specs.Standing.{claim_mark, claim_marks, standing_with}
+use Rattle.sm_claims.proofs.StandingLemmas.{ready_alike}
 use Rattle.sm_claims.specs.Works.{AreWorkOf, IsWorkOf, IsWorkOfJob}
 use Rattle.sm_rotation.specs.Step.{at_of}
 use Rattle.sm_rotator.specs.declared.work.Work.{Work}
@@ -15,11 +18,12 @@ use Rattle.sm_store.specs.Stores as stores
 use Rattle.sm_account.specs.declared.books.Books.{Books}
 use Rattle.sm_account.specs.declared.next_work.NextWork.TheVariants as works
 use Rattle.sm_account.specs.Books.{FaultsBound, IsLegal, MayFollowIf, Kept, all_entries, base_in, disk_in, history_in}
-use Rattle.sm_account.specs.Claims.{ClaimsReady, ClaimsReadyStep, IsAtStep}
+use Rattle.sm_account.specs.Claims.{ClaimsReady, ClaimsReadyStep, ClaimsStand, IsAtStep}
 use Rattle.sm_account.specs.History.{entries_in, faults_in}
-use Rattle.sm_account.specs.NextWork.{NextAs}
+use Rattle.sm_account.specs.NextWork.{NextAs, claim_by}
 use Rattle.sm_account.specs.States.{State, state_at}
 use Rattle.sm_account.proofs.ClaimLaws.{claims_more}
+use Rattle.sm_account.proofs.StandLemmas.{counted_more, stand_claimed}
 use Rattle.sm_account.proofs.StateLaws.{entries_more, faults_more, state_claimed}
 
 -- a work of a secret is of the step that the secret's job is at
@@ -56,11 +60,25 @@ none_is found ready none are = of found (subst (AreWorkOf found) none are)
     of None are = tt
     of (Some row) are = absurd are
 
+-- what is ready by the claims that stand is ready by the history
+pub ready_same : {D : Type 0} {G : Ghosts D} (books : Books D G) (kept : Kept G books) (moment : Moment)
+    (claims : List standing) → claims ≡ books.claims.items → books.last.0 ≤ moment.0
+    → first_ready (claim_marks claims) moment books.table.secrets
+    ≡ first_ready (history_in books) moment books.table.secrets
+ready_same books kept moment claims are later =
+    ap (λ cs. first_ready (claim_marks cs) moment books.table.secrets) are
+    ∙ sym (ready_alike (history_in books) (claim_marks books.claims.items) moment
+    (λ arn job. kept.stand arn job moment later) books.table.secrets)
+
 module _ {D : Type 0} {G : Ghosts D} (old new : Books D G) (seat : ℕ) (work : Work) (moment : Moment)
-    (rest : new ≡ record old { marks = new.marks })
-    (history : history_in new ≡ history_in old ++ (seat, Claim work.arn work.at moment) ∷ []) (kept : Kept G old)
+    (rest : new ≡ record old { claims = new.claims; told = new.told; marks = new.marks })
+    (history : history_in new ≡ history_in old ++ (seat, Claim work.arn work.at moment) ∷ [])
+    (counted : new.marks ≡ old.marks + 1)
+    (added : new.claims.items
+    ≡ standing_with old.claims.items (claim_by work moment) old.last)
+    (kept : Kept G old)
     (ready : IsSomeAnd (first_ready (history_in old) moment old.table.secrets) (λ row. IsWorkOf row work)) where
-  all_is : all_entries (record old { marks = new.marks }) ≡ all_entries old
+  all_is : all_entries (record old { claims = new.claims; told = new.told; marks = new.marks }) ≡ all_entries old
   all_is =
       ap (λ h. old.taken.value ++ entries_in h) history
       ∙ ap (λ es. old.taken.value ++ es) (entries_more (history_in old) seat (Claim work.arn work.at moment)
@@ -76,6 +94,14 @@ module _ {D : Type 0} {G : Ghosts D} (old new : Books D G) (seat : ℕ) (work : 
       (∥∥₁_map kept.claims (λ c. claims_more (base_in old) [] (history_in old) seat
       (Claim work.arn work.at moment) c step))
 
+  stand : ClaimsStand (history_in new) new.claims.items old.last
+  stand =
+      subst (λ h. ClaimsStand h new.claims.items old.last) (sym history)
+      (subst
+      (λ claims. ClaimsStand (history_in old ++ (seat, claim_mark (claim_by work moment)) ∷ []) claims old.last)
+      (sym added)
+      (stand_claimed (history_in old) old.claims.items old.last seat kept.stand (claim_by work moment)))
+
   no_more : faults_in (history_in new) ≡ faults_in (history_in old) + 0
   no_more = ap faults_in history ∙ faults_more (history_in old) seat (Claim work.arn work.at moment)
 
@@ -84,12 +110,14 @@ module _ {D : Type 0} {G : Ghosts D} (old new : Books D G) (seat : ℕ) (work : 
 
   pub claimed_kept : Kept G new
   claimed_kept =
-      let same : Kept G (record old { marks = new.marks }) = record {
+      let same : Kept G (record old { claims = new.claims; told = new.told; marks = new.marks }) = record {
         sound = kept.sound;
         bound = kept.bound;
         within = kept.within;
-        recovered = kept.recovered;
-        few = kept.few;
+        whole = kept.whole ∙ sym all_is;
+        counted = counted
+            ∙ counted_more (history_in old) seat (Claim work.arn work.at moment) old.marks kept.counted
+            ∙ ap length (sym history);
         limit = kept.limit;
         under = kept.under;
         state = kept.state ∙ sym (state_claimed (base_in old) (history_in old) seat work.arn work.at moment)
@@ -101,5 +129,6 @@ module _ {D : Type 0} {G : Ghosts D} (old new : Books D G) (seat : ℕ) (work : 
         told = omega (arith, no_more, kept.told);
         faults = faults;
         claims = claims;
+        stand = stand;
       } in
       subst (Kept G) (sym rest) same

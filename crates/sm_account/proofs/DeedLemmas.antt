@@ -9,9 +9,8 @@ use Rattle.sm_model.specs.declared.entry.Mark.TheVariants.{Entry, Claim, Fault}
 use Rattle.sm_account.specs.declared.books.Books.{Books}
 use Rattle.sm_account.specs.Books.{SameOrigin, all_entries, disk_in, history_in, state_in}
 use Rattle.sm_account.specs.Crashes.{Throughout}
-use Rattle.sm_account.specs.Deeds.{Deed, Nothing, Claimed, Made, Failed, FailedBy, IfFailed, Leaves, LeavesTried, StaysBy, marks_by, tried_by}
+use Rattle.sm_account.specs.Deeds.{Deed, Nothing, Claimed, Made, Failed, FailedBy, IfFailed, Leaves, LeavesTried, StaysBy, tried_by}
 use Rattle.sm_account.specs.Growing.{SameButRoom}
-use Rattle.sm_account.specs.History.{by_seat, entries_in}
 
 -- nothing was done
 pub nothing_done : {D : Type 0} {G : Ghosts D} (books : Books D G) (seat : ℕ) → Leaves G books books seat Nothing
@@ -25,15 +24,12 @@ nothing_done books seat = record {
   fault = tt;
 }
 
+-- only room was taken
 module _ {D : Type 0} {G : Ghosts D} (old new : Books D G) (seat : ℕ)
-    (rest : new ≡ record old { marks = new.marks }) where
-  disk_same : disk_in new ≡ disk_in old
-  disk_same = ap disk_in rest
-
-  -- only room for marks was taken
-  pub room_taken : history_in new ≡ history_in old → Leaves G old new seat Nothing
-  room_taken history = record {
-    history = history ∙ sym (append-nil (history_in old));
+    (rest : new ≡ record old { entries = new.entries; claims = new.claims }) where
+  pub room_taken : Leaves G old new seat Nothing
+  room_taken = record {
+    history = ap history_in rest ∙ sym (append-nil (history_in old));
     origin = record {
       taken = ap (λ (b : Books D G). b.taken.value) rest;
       began = ap (λ (b : Books D G). b.began.value) rest;
@@ -42,11 +38,13 @@ module _ {D : Type 0} {G : Ghosts D} (old new : Books D G) (seat : ℕ)
     stays = (ap state_in rest, ap (λ (b : Books D G). b.store) rest);
     failed = ap (λ (b : Books D G). b.failed.value) rest;
     any_moment = ap (λ (b : Books D G). b.store) rest;
-    later = omega (arith, ap G.faults disk_same);
+    later = omega (arith, ap (λ (b : Books D G). G.faults (disk_in b)) rest);
     fault = tt;
   }
 
-  -- a claim was added
+-- a claim was added
+module _ {D : Type 0} {G : Ghosts D} (old new : Books D G) (seat : ℕ)
+    (rest : new ≡ record old { claims = new.claims; told = new.told; marks = new.marks }) where
   pub claim_added : (arn : List ℕ) (at : At) (moment : Moment)
       → history_in new ≡ history_in old ++ (seat, Claim arn at moment) ∷ []
       → Leaves G old new seat (Claimed arn at moment)
@@ -60,37 +58,38 @@ module _ {D : Type 0} {G : Ghosts D} (old new : Books D G) (seat : ℕ)
     stays = (ap state_in rest, ap (λ (b : Books D G). b.store) rest);
     failed = ap (λ (b : Books D G). b.failed.value) rest;
     any_moment = ap (λ (b : Books D G). b.store) rest;
-    later = omega (arith, ap G.faults disk_same);
+    later = omega (arith, ap (λ (b : Books D G). G.faults (disk_in b)) rest);
     fault = tt;
   }
 
--- room for a mark changes nothing that is told
+-- room for an entry changes nothing that is told
 module _ {D : Type 0} {G : Ghosts D} (old mid new : Books D G) (seat : ℕ) (room : SameButRoom old mid) where
-  stays_at : (deed : Deed) → StaysBy deed (record old { marks = mid.marks }) new → StaysBy deed old new
+  stays_at : (deed : Deed) → StaysBy deed (record old { entries = mid.entries; claims = mid.claims }) new
+      → StaysBy deed old new
   stays_at Nothing stays = stays
   stays_at (Claimed arn at moment) stays = stays
   stays_at (Made entry) stays = stays
   stays_at (Failed entry) stays = stays
 
-  failed_at : (deed : Deed) → FailedBy deed (record old { marks = mid.marks }) new → FailedBy deed old new
+  failed_at : (deed : Deed) → FailedBy deed (record old { entries = mid.entries; claims = mid.claims }) new
+      → FailedBy deed old new
   failed_at Nothing failed = failed
   failed_at (Claimed arn at moment) failed = failed
   failed_at (Made entry) failed = failed
   failed_at (Failed entry) failed = failed
 
-  leaves_at : (tried : Option entries) → LeavesTried G tried (record old { marks = mid.marks }) new
+  leaves_at : (tried : Option entries)
+      → LeavesTried G tried (record old { entries = mid.entries; claims = mid.claims }) new
       → LeavesTried G tried old new
   leaves_at None leaves = leaves
-  leaves_at (Some own) leaves =
-      subst (λ all. Throughout G all old.failed.value own (disk_in old) (disk_in new))
-      (ap (λ h. old.taken.value ++ entries_in h) room.history) leaves
+  leaves_at (Some own) leaves = leaves
 
   pub behind_room : (deed : Deed) → Leaves G mid new seat deed → Leaves G old new seat deed
   behind_room deed h =
-      let r : Leaves G (record old { marks = mid.marks }) new seat deed =
+      let r : Leaves G (record old { entries = mid.entries; claims = mid.claims }) new seat deed =
       subst (λ b. Leaves G b new seat deed) room.rest h in
       record {
-        history = r.history ∙ ap (λ h. h ++ by_seat seat (marks_by deed)) room.history;
+        history = r.history;
         origin = record { taken = r.origin.taken; began = r.origin.began; limit = r.origin.limit };
         stays = stays_at deed r.stays;
         failed = failed_at deed r.failed;

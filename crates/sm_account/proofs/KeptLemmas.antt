@@ -19,11 +19,12 @@ use Rattle.sm_store.specs.Stores as stores
 use Rattle.sm_account.specs.declared.books.Books.{Books}
 use Rattle.sm_account.specs.declared.writing.Written.TheVariants as written
 use Rattle.sm_account.specs.Books.{count_limit, IsLegal, MayFollow, MayFollowIf, history_in, disk_in, all_entries, base_in, state_in, faults_of, Kept, IsDueAt}
-use Rattle.sm_account.specs.Claims.{ClaimsReady, ClaimsReadyStep}
+use Rattle.sm_account.specs.Claims.{ClaimsReady, ClaimsReadyStep, ClaimsStand}
 use Rattle.sm_account.specs.History.{entries_in, faults_in}
 use Rattle.sm_account.specs.States.{first_moment, base_of, State, state_at, state_with}
 use Rattle.sm_account.specs.Writing.{WritesAs}
 use Rattle.sm_account.proofs.ClaimLaws.{claims_more}
+use Rattle.sm_account.proofs.StandLemmas.{counted_more, stand_entered, stand_failed}
 use Rattle.sm_account.proofs.StateLaws.{entries_more, faults_more, replay_joined, last_joined, state_more, state_faulted, legal_more}
 
 module _ {D : Type 0} {G : Ghosts D} (books : Books D G) (kept : Kept G books) where
@@ -57,10 +58,11 @@ at_most_one (Some entry) = omega arith
 pub record Continues {D : Type 0} {G : Ghosts D} (old new : Books D G) (seat : ℕ) (mark : Mark) : Type 0 where
   pub taken : new.taken.value ≡ old.taken.value
   pub began : new.began.value ≡ old.began.value
-  pub recovered : new.recovered ≡ old.recovered
   pub limit : new.limit ≡ old.limit
   pub under : stores.limit_of new.store ≡ stores.limit_of old.store
-  pub history : new.marks.items ≡ old.marks.items ++ (seat, mark) ∷ []
+  pub history : history_in new ≡ history_in old ++ (seat, mark) ∷ []
+  pub counted : new.marks ≡ old.marks + 1
+  pub claims : new.claims.items ≡ old.claims.items
 
 module _ {D : Type 0} {G : Ghosts D} (old new : Books D G) (seat : ℕ) (kept : Kept G old) where
   -- each claim is still of the step that was ready
@@ -73,6 +75,19 @@ module _ {D : Type 0} {G : Ghosts D} (old new : Books D G) (seat : ℕ) (kept : 
       (subst (λ h. ∥ ClaimsReady (base_in old) h ∥₁) (sym goes.history)
       (∥∥₁_map kept.claims (λ claims. claims_more (base_in old) [] (history_in old) seat mark claims ready)))
 
+  -- its mark is counted
+  marks_count : (mark : Mark) → Continues old new seat mark → new.marks ≡ length (history_in new)
+  marks_count mark goes =
+      goes.counted ∙ counted_more (history_in old) seat mark old.marks kept.counted ∙ ap length (sym goes.history)
+
+  -- the same claims stand for those of the history
+  stands_on : (mark : Mark) → Continues old new seat mark → (from : Moment)
+      → ClaimsStand (history_in old ++ (seat, mark) ∷ []) old.claims.items from
+      → ClaimsStand (history_in new) new.claims.items from
+  stands_on mark goes from stand =
+      subst (λ h. ClaimsStand h new.claims.items from) (sym goes.history)
+      (subst (λ claims. ClaimsStand (history_in old ++ (seat, mark) ∷ []) claims from) (sym goes.claims) stand)
+
   module _ (entry : entries) (ready : List ℕ) (change : Change) (due : IsDueAt old entry ready change)
       (goes : Continues old new seat (Entry entry)) where
     all_more : all_entries new ≡ all_entries old ++ entry ∷ []
@@ -83,6 +98,7 @@ module _ {D : Type 0} {G : Ghosts D} (old new : Books D G) (seat : ℕ) (kept : 
 
     module _ (table : new.table ≡ changed (sweep old.table entry.moment) change) (last : new.last ≡ entry.moment)
         (made : new.made ≡ old.made + 1) (none : new.failed.value ≡ None) (sound : Sound new.table)
+        (added : new.entries.items ≡ old.entries.items ++ entry ∷ [])
         (wrote : WritesAs old.store entry new.store written.Ok)
         (count : G.faults (disk_in old) ≤ G.faults (disk_in new))
       where
@@ -113,8 +129,8 @@ module _ {D : Type 0} {G : Ghosts D} (old new : Books D G) (seat : ℕ) (kept : 
           sound = sound;
           bound = subst (λ (m : Moment). m.0 ≤ LAST_READING) (sym last) due.bound;
           within = omega (arith, made, due.counted);
-          recovered = goes.recovered ∙ kept.recovered ∙ ap length (sym goes.taken);
-          few = omega (arith, goes.recovered, kept.few);
+          whole = added ∙ ap (λ (es : List entries). es ++ entry ∷ []) kept.whole ∙ sym all_more;
+          counted = marks_count (Entry entry) goes;
           limit = subst (λ (n : ℕ). (9 ≤ n) × (n ≤ JOURNAL_LIMIT)) (sym goes.limit) kept.limit;
           under = goes.under ∙ kept.under ∙ sym goes.limit;
           state = state_new;
@@ -131,6 +147,10 @@ module _ {D : Type 0} {G : Ghosts D} (old new : Books D G) (seat : ℕ) (kept : 
           told = subst (λ f. faults_of f ≤ faults_in (history_in new)) (sym none) (omega arith);
           faults = faults_new;
           claims = claims_go_on (Entry entry) goes tt;
+          stand =
+              subst (λ (m : Moment). ClaimsStand (history_in new) new.claims.items m) (sym last)
+              (stands_on (Entry entry) goes entry.moment
+              (stand_entered (history_in old) old.claims.items old.last seat kept.stand entry entry.moment due.later));
         }
 
   -- the disk failed, and the history has one fault more
@@ -164,15 +184,16 @@ module _ {D : Type 0} {G : Ghosts D} (old new : Books D G) (seat : ℕ) (kept : 
             let began : G.faults new.began.value ≡ G.faults old.began.value = ap G.faults goes.began in
             omega (arith, began, one_more, kept.faults, rose)
 
-        pub kept_faulted : stores.is_unsure new.store ≡ is_some new.failed.value
+        pub kept_faulted : new.entries.items ≡ old.entries.items
+            → stores.is_unsure new.store ≡ is_some new.failed.value
             → stores.Holds new.store (all_entries old) new.failed.value
             → ∥ MayFollowIf (all_entries old) new.failed.value ∥₁ → Kept G new
-        kept_faulted sure holds next = record {
+        kept_faulted still sure holds next = record {
           sound = subst Sound (sym table) kept.sound;
           bound = subst (λ (m : Moment). m.0 ≤ LAST_READING) (sym last) kept.bound;
           within = omega (arith, made, kept.within);
-          recovered = goes.recovered ∙ kept.recovered ∙ ap length (sym goes.taken);
-          few = omega (arith, goes.recovered, kept.few);
+          whole = still ∙ kept.whole ∙ sym all_same;
+          counted = marks_count Fault goes;
           limit = subst (λ (n : ℕ). (9 ≤ n) × (n ≤ JOURNAL_LIMIT)) (sym goes.limit) kept.limit;
           under = goes.under ∙ kept.under ∙ sym goes.limit;
           state = state_there;
@@ -183,4 +204,8 @@ module _ {D : Type 0} {G : Ghosts D} (old new : Books D G) (seat : ℕ) (kept : 
           told = omega (arith, one_more, at_most_one new.failed.value);
           faults = faults_risen;
           claims = claims_go_on Fault goes tt;
+          stand =
+              subst (λ (m : Moment). ClaimsStand (history_in new) new.claims.items m) (sym last)
+              (stands_on Fault goes old.last
+              (stand_failed (history_in old) old.claims.items old.last seat kept.stand));
         }

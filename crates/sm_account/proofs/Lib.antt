@@ -1,5 +1,6 @@
 pub mod StateLaws
 pub mod ClaimLaws
+pub mod StandLemmas
 pub mod KeptLemmas
 pub mod MakeLemmas
 pub mod WriteLemmas

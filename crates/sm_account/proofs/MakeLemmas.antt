@@ -26,7 +26,9 @@ module _ {D : Type 0} {G : Ghosts D} (old new : Books D G) (store : Store D G) (
         last = entry.moment;
         made = old.made + 1;
         failed = new.failed;
-        marks = new.marks;
+        entries = new.entries;
+        told = new.told;
+        marks = old.marks + 1;
       })
       (history : history_in new ≡ history_in old ++ (seat, Entry entry) ∷ []) where
     stored : new.store ≡ store
@@ -43,29 +45,34 @@ module _ {D : Type 0} {G : Ghosts D} (old new : Books D G) (store : Store D G) (
     goes = record {
       taken = ap (λ (b : Books D G). b.taken.value) rest;
       began = ap (λ (b : Books D G). b.began.value) rest;
-      recovered = ap (λ (b : Books D G). b.recovered) rest;
       limit = ap (λ (b : Books D G). b.limit) rest;
       under = ap stores.limit_of stored ∙ under;
       history = history;
+      counted = ap (λ (b : Books D G). b.marks) rest;
+      claims = ap (λ (b : Books D G). b.claims.items) rest;
     }
 
-    pub entered_kept : new.failed.value ≡ None → Sound new.table → WritesAs old.store entry store written.Ok
+    pub entered_kept : new.failed.value ≡ None → Sound new.table
+        → new.entries.items ≡ old.entries.items ++ entry ∷ [] → WritesAs old.store entry store written.Ok
         → G.faults (disk_in old) ≤ G.faults (stores.disk_of store) → Kept G new
-    entered_kept none sound wrote count =
+    entered_kept none sound added wrote count =
         kept_made old new seat kept entry ready change due goes (ap (λ (b : Books D G). b.table) rest)
-        (ap (λ (b : Books D G). b.last) rest) (ap (λ (b : Books D G). b.made) rest) none sound
+        (ap (λ (b : Books D G). b.last) rest) (ap (λ (b : Books D G). b.made) rest) none sound added
         (subst (λ s. WritesAs old.store entry s written.Ok) (sym stored) wrote)
         (subst (λ s. G.faults (disk_in old) ≤ G.faults (stores.disk_of s)) (sym stored) count)
 
   -- where only the store and the marks are others, the entry whose write failed is the same
-  pub failed_stays : new ≡ record old { store = store; marks = new.marks }
-      → (new.failed ≡ old.failed) × (new ≡ record old { store = store; failed = new.failed; marks = new.marks })
+  pub failed_stays : new ≡ record old { store = store; told = new.told; marks = old.marks + 1 }
+      → (new.failed ≡ old.failed)
+      × (new ≡ record old { store = store; failed = new.failed; told = new.told; marks = old.marks + 1 })
   failed_stays rest =
-      let same : new.failed ≡ old.failed = ap (λ (b : Books D G). b.failed) rest in
-      (same, rest ∙ ap (λ f. record old { store = store; failed = f; marks = new.marks }) (sym same))
+      let same : new.failed ≡ old.failed = ap (λ (b : Books D G). b.failed) rest in (
+        same,
+        rest ∙ ap (λ f. record old { store = store; failed = f; told = new.told; marks = old.marks + 1 }) (sym same),
+      )
 
   -- the disk failed, and a fault was added
-  module _ (rest : new ≡ record old { store = store; failed = new.failed; marks = new.marks })
+  module _ (rest : new ≡ record old { store = store; failed = new.failed; told = new.told; marks = old.marks + 1 })
       (history : history_in new ≡ history_in old ++ (seat, Fault) ∷ [])
       (length : stores.length_of store ≡ stores.length_of old.store) where
     stored_still : new.store ≡ store
@@ -82,10 +89,11 @@ module _ {D : Type 0} {G : Ghosts D} (old new : Books D G) (store : Store D G) (
     goes_still = record {
       taken = ap (λ (b : Books D G). b.taken.value) rest;
       began = ap (λ (b : Books D G). b.began.value) rest;
-      recovered = ap (λ (b : Books D G). b.recovered) rest;
       limit = ap (λ (b : Books D G). b.limit) rest;
       under = ap stores.limit_of stored_still ∙ under;
       history = history;
+      counted = ap (λ (b : Books D G). b.marks) rest;
+      claims = ap (λ (b : Books D G). b.claims.items) rest;
     }
 
     bytes : stores.length_of new.store ≡ stores.length_of old.store
@@ -104,6 +112,7 @@ module _ {D : Type 0} {G : Ghosts D} (old new : Books D G) (store : Store D G) (
         kept_faulted old new seat kept goes_still (ap (λ (b : Books D G). b.table) rest)
         (ap (λ (b : Books D G). b.last) rest) (ap (λ (b : Books D G). b.made) rest) bytes
         (subst (λ s. Rose (G.faults (disk_in old)) (G.faults (stores.disk_of s))) (sym stored_still) rose)
+        (ap (λ (b : Books D G). b.entries.items) rest)
         (ap stores.is_unsure stored_still ∙ sure)
         (subst (λ s. stores.Holds s (all_entries old) new.failed.value) (sym stored_still) holds) next
 
@@ -139,7 +148,9 @@ module _ {D : Type 0} {G : Ghosts D} (old mid new : Books D G) (wrote : mid ≡ 
         last = entry.moment;
         made = mid.made + 1;
         failed = new.failed;
-        marks = new.marks;
+        entries = new.entries;
+        told = new.told;
+        marks = mid.marks + 1;
       }
       → new ≡ record old {
         store = mid.store;
@@ -147,7 +158,9 @@ module _ {D : Type 0} {G : Ghosts D} (old mid new : Books D G) (wrote : mid ≡ 
         last = entry.moment;
         made = old.made + 1;
         failed = new.failed;
-        marks = new.marks;
+        entries = new.entries;
+        told = new.told;
+        marks = old.marks + 1;
       }
   behind_enter entry change rest =
       rest ∙ ap (λ (b : Books D G). record b {
@@ -155,12 +168,21 @@ module _ {D : Type 0} {G : Ghosts D} (old mid new : Books D G) (wrote : mid ≡ 
         last = entry.moment;
         made = b.made + 1;
         failed = new.failed;
-        marks = new.marks;
+        entries = new.entries;
+        told = new.told;
+        marks = b.marks + 1;
       }) wrote
 
-  pub behind_fault : new ≡ record mid { marks = new.marks } → new ≡ record old { store = mid.store; marks = new.marks }
-  behind_fault rest = rest ∙ ap (λ (b : Books D G). record b { marks = new.marks }) wrote
+  pub behind_fault : new ≡ record mid { told = new.told; marks = mid.marks + 1 }
+      → new ≡ record old { store = mid.store; told = new.told; marks = old.marks + 1 }
+  behind_fault rest = rest ∙ ap (λ (b : Books D G). record b { told = new.told; marks = b.marks + 1 }) wrote
 
-  pub behind_tear : new ≡ record mid { failed = new.failed; marks = new.marks }
-      → new ≡ record old { store = mid.store; failed = new.failed; marks = new.marks }
-  behind_tear rest = rest ∙ ap (λ (b : Books D G). record b { failed = new.failed; marks = new.marks }) wrote
+  pub behind_tear : new ≡ record mid { failed = new.failed; told = new.told; marks = mid.marks + 1 }
+      → new ≡ record old { store = mid.store; failed = new.failed; told = new.told; marks = old.marks + 1 }
+  behind_tear rest =
+      rest ∙ ap (λ (b : Books D G). record b { failed = new.failed; told = new.told; marks = b.marks + 1 }) wrote
+
+  pub behind_entries : (entry : entries) → new.entries.items ≡ mid.entries.items ++ entry ∷ []
+      → new.entries.items ≡ old.entries.items ++ entry ∷ []
+  behind_entries entry added =
+      added ∙ ap (λ (b : Books D G). b.entries.items ++ entry ∷ []) wrote

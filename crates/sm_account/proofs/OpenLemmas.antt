@@ -24,7 +24,7 @@ use Rattle.sm_account.specs.declared.books.Books.{Books}
 use Rattle.sm_account.specs.declared.replaying.Standing.{Standing}
 use Rattle.sm_account.specs.Accounts as accounts
 use Rattle.sm_account.specs.Books.{FaultsBound, faults_of, IsLegal, MayFollowIf, Kept, all_entries, base_in, disk_in, history_in, state_in}
-use Rattle.sm_account.specs.Claims.{ClaimsReady}
+use Rattle.sm_account.specs.Claims.{ClaimsReady, ClaimsStand}
 use Rattle.sm_account.specs.History.{entries_in, faults_in}
 use Rattle.sm_account.specs.Openings.{AreBooksOver, IsOpenedOver, IsRefused, IsStopped}
 use Rattle.sm_account.specs.Replaying.{IsReplayOf}
@@ -33,10 +33,6 @@ use Rattle.sm_account.specs.States.{base_of, sizes_of, state_after, state_at}
 sizes_are : (list : List Entry) → size (map (spelling First) list) ≡ sizes_of list
 sizes_are [] = refl
 sizes_are (e ∷ list) = omega (arith, sizes_are list)
-
-fewer : (list : List Entry) → length list ≤ sizes_of list
-fewer [] = omega arith
-fewer (e ∷ list) = omega (arith, fewer list)
 
 module _ {D : Type 0} {G : Ghosts D} (store : Store D G) (list : List Entry) (limit : ℕ)
     (opened : stores.IsOpened limit list store) where
@@ -47,17 +43,16 @@ module _ {D : Type 0} {G : Ghosts D} (store : Store D G) (list : List Entry) (li
   pub sizes_fit : sizes_of list < 2 ^ 63
   sizes_fit = omega (arith, length_is, store.journal.fits)
 
-  pub few : length list < 2 ^ 63
-  few = omega (arith, sizes_fit, fewer list)
-
   -- what each part of the books is made of
   pub record AreOver (standing : Standing) (books : Books D G) : Type 0 where
     pub table : books.table ≡ standing.table
     pub store_is : books.store ≡ store
-    pub marks : books.marks.items ≡ []
+    pub entries_are : books.entries.items ≡ list
+    pub claims_are : books.claims.items ≡ []
+    pub history_is : history_in books ≡ []
+    pub marks : books.marks ≡ 0
     pub last : books.last ≡ standing.last
     pub made : books.made ≡ 0
-    pub recovered : books.recovered ≡ length list
     pub limit_is : books.limit ≡ limit
     pub taken : books.taken.value ≡ list
     pub failed : books.failed.value ≡ None
@@ -67,7 +62,7 @@ module _ {D : Type 0} {G : Ghosts D} (store : Store D G) (list : List Entry) (li
       (later : G.faults books.began.value ≤ G.faults (stores.disk_of store)) where
     all_is : all_entries books ≡ list
     all_is = ap (λ (t : List Entry). t ++ entries_in (history_in books)) is.taken
-        ∙ ap (λ h. list ++ entries_in h) is.marks ∙ append-nil list
+        ∙ ap (λ h. list ++ entries_in h) is.history_is ∙ append-nil list
 
     state_is : state_in books ≡ state_at (base_in books) (history_in books)
     state_is =
@@ -85,7 +80,7 @@ module _ {D : Type 0} {G : Ghosts D} (store : Store D G) (list : List Entry) (li
         let there : state_at (base_in books) (history_in books) ≡ state_after (base_of list limit) [] =
         ap (λ t. state_at (base_of t books.limit) (history_in books)) is.taken
         ∙ ap (λ l. state_at (base_of list l) (history_in books)) is.limit_is
-        ∙ ap (state_at (base_of list limit)) is.marks in
+        ∙ ap (state_at (base_of list limit)) is.history_is in
         step ∙ sym there
 
     holds_is : stores.Holds books.store (all_entries books) books.failed.value
@@ -96,7 +91,7 @@ module _ {D : Type 0} {G : Ghosts D} (store : Store D G) (list : List Entry) (li
 
     faults_is : FaultsBound (G.faults books.began.value) (history_in books) (G.faults (disk_in books))
     faults_is =
-        let none : faults_in (history_in books) ≡ 0 = ap faults_in is.marks in
+        let none : faults_in (history_in books) ≡ 0 = ap faults_in is.history_is in
         let same : G.faults (disk_in books) ≡ G.faults (stores.disk_of store) =
         ap (λ (s : Store D G). G.faults (stores.disk_of s)) is.store_is in
         omega (arith, none, same, later)
@@ -106,8 +101,8 @@ module _ {D : Type 0} {G : Ghosts D} (store : Store D G) (list : List Entry) (li
       sound = subst Sound (sym is.table) replayed.sound;
       bound = subst (λ (m : Moment). m.0 ≤ LAST_READING) (sym is.last) replayed.bound;
       within = omega (arith, is.made);
-      recovered = is.recovered ∙ ap length (sym is.taken);
-      few = omega (arith, is.recovered, few);
+      whole = is.entries_are ∙ sym all_is;
+      counted = is.marks ∙ ap length (sym is.history_is);
       limit = subst (λ (n : ℕ). (9 ≤ n) × (n ≤ JOURNAL_LIMIT)) (sym is.limit_is) limits;
       under = ap stores.limit_of is.store_is ∙ opened.under ∙ sym is.limit_is;
       state = state_is;
@@ -117,7 +112,10 @@ module _ {D : Type 0} {G : Ghosts D} (store : Store D G) (list : List Entry) (li
       next = subst (λ f. ∥ MayFollowIf (all_entries books) f ∥₁) (sym is.failed) ∣ tt ∣₁;
       told = subst (λ f. faults_of f ≤ faults_in (history_in books)) (sym is.failed) (omega arith);
       faults = faults_is;
-      claims = subst (λ h. ∥ ClaimsReady (base_in books) h ∥₁) (sym is.marks) ∣ tt ∣₁;
+      claims = subst (λ h. ∥ ClaimsReady (base_in books) h ∥₁) (sym is.history_is) ∣ tt ∣₁;
+      stand =
+          subst (λ h. ClaimsStand h books.claims.items books.last) (sym is.history_is)
+          (subst (λ claims. ClaimsStand [] claims books.last) (sym is.claims_are) (λ arn job moment after. refl));
     }
 
 -- what an account is opened over, by its books

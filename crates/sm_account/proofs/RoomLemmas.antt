@@ -1,5 +1,5 @@
--- Books that have room for a mark more, and an entry that is due at them.
-use Rattle.std.proofs.Common.{◌≡◌, ◌≤◌, ◌++◌, sym, ap, ◌∙◌, subst}
+-- Books that have room for an entry more, and an entry that is due at them.
+use Rattle.std.proofs.Common.{◌≡◌, ◌≤◌, sym, ap, ◌∙◌, subst}
 use Rattle.sm_base.specs.declared.moment.Moment.{Moment}
 use Rattle.sm_base.specs.declared.moment.TheConstants.{LAST_READING}
 use Rattle.sm_disk.specs.declared.disk.Disk.{Ghosts}
@@ -12,15 +12,12 @@ use Rattle.sm_table.specs.Sweep.{sweep}
 use Rattle.sm_core.specs.Effects.{Makes}
 use Rattle.sm_core.specs.Histories.{LegalEntry}
 use Rattle.sm_store.specs.Entries.{Spells}
-use Rattle.sm_store.specs.Stores as stores
 use Rattle.sm_account.specs.declared.books.Books.{Books}
 use Rattle.sm_account.specs.declared.due.Due.{Due}
-use Rattle.sm_account.specs.Books.{FaultsBound, faults_of, IsLegal, MayFollowIf, Kept, all_entries, base_in, disk_in, state_in}
-use Rattle.sm_account.specs.Claims.{ClaimsReady}
+use Rattle.sm_account.specs.Books.{Kept, history_in, state_in}
+use Rattle.sm_account.specs.Claims.{ClaimsStand}
 use Rattle.sm_account.specs.Growing.{IsGrown, SameButRoom}
 use Rattle.sm_account.specs.Handling.{LimitsAside}
-use Rattle.sm_account.specs.History.{entries_in, faults_in}
-use Rattle.sm_account.specs.States.{state_at}
 
 module _ {D : Type 0} {G : Ghosts D} (old mid : Books D G) (room : SameButRoom old mid) where
   table_is : mid.table ≡ old.table
@@ -29,28 +26,25 @@ module _ {D : Type 0} {G : Ghosts D} (old mid : Books D G) (room : SameButRoom o
   pub same_state : state_in mid ≡ state_in old
   same_state = ap state_in room.rest
 
-  all_is : all_entries (record old { marks = mid.marks }) ≡ all_entries old
-  all_is = ap (λ h. old.taken.value ++ entries_in h) room.history
-
   pub room_kept : Kept G old → Kept G mid
   room_kept kept =
-      let same : Kept G (record old { marks = mid.marks }) = record {
+      let same : Kept G (record old { entries = mid.entries; claims = mid.claims }) = record {
         sound = kept.sound;
         bound = kept.bound;
         within = kept.within;
-        recovered = kept.recovered;
-        few = kept.few;
+        whole = room.entries ∙ kept.whole;
+        counted = kept.counted;
         limit = kept.limit;
         under = kept.under;
-        state = kept.state ∙ ap (state_at (base_in old)) (sym room.history);
+        state = kept.state;
         sure = kept.sure;
-        holds = subst (λ all. stores.Holds old.store all old.failed.value) (sym all_is) kept.holds;
-        legal = subst (λ all. ∥ IsLegal all ∥₁) (sym all_is) kept.legal;
-        next = subst (λ all. ∥ MayFollowIf all old.failed.value ∥₁) (sym all_is) kept.next;
-        told = subst (λ h. faults_of old.failed.value ≤ faults_in h) (sym room.history) kept.told;
-        faults = subst (λ h. FaultsBound (G.faults old.began.value) h (G.faults (disk_in old))) (sym room.history)
-            kept.faults;
-        claims = subst (λ h. ∥ ClaimsReady (base_in old) h ∥₁) (sym room.history) kept.claims;
+        holds = kept.holds;
+        legal = kept.legal;
+        next = kept.next;
+        told = kept.told;
+        faults = kept.faults;
+        claims = kept.claims;
+        stand = subst (λ claims. ClaimsStand (history_in old) claims old.last) (sym room.claims) kept.stand;
       } in
       subst (Kept G) (sym room.rest) same
 

@@ -15,7 +15,7 @@ use Rattle.sm_journal.specs.Records.{body_limit}
 use Rattle.sm_store.specs.Entries.{Spells}
 use Rattle.sm_store.specs.Stores as stores
 use Rattle.sm_account.specs.declared.books.Books.{Books}
-use Rattle.sm_account.specs.Claims.{ClaimsReady}
+use Rattle.sm_account.specs.Claims.{ClaimsReady, ClaimsStand}
 use Rattle.sm_account.specs.History.{entries_in, faults_in}
 use Rattle.sm_account.specs.States.{Base, base_of, State, state_at, first_moment, size_of}
 
@@ -39,7 +39,7 @@ MayFollowIf entries (Some entry) = MayFollow entries entry
 
 module _ {D : Type 0} {G : Ghosts D} where
   abbrev pub history_in : Books D G → List (ℕ × Mark)
-  history_in books = books.marks.items
+  history_in books = books.told.value
 
   abbrev pub disk_in : Books D G → D
   disk_in books = stores.disk_of books.store
@@ -72,14 +72,14 @@ faults_of (Some entry) = 1
 
 -- What always holds: the rows are sound; the state is that at the history; each image of the disk recovers to all
 -- entries, or while the tail is unsure to these or these and the one whose write failed last, whose fault the history
--- has; all this is legal; the history has at most as many faults as the disk's count rose by; and each claim is of the
--- step that was ready.
+-- has; all this is legal; the history has at most as many faults as the disk's count rose by; each claim is of the step
+-- that was ready; and what is kept of the entries, the marks and the claims is what the history says of them.
 pub record Kept {D : Type 0} (G : Ghosts D) (books : Books D G) : Type 0 where
   pub sound : Sound books.table
   pub bound : books.last.0 ≤ LAST_READING
   pub within : books.made ≤ ENTRIES_LIMIT
-  pub recovered : books.recovered ≡ length books.taken.value
-  pub few : books.recovered < 2 ^ 63
+  pub whole : books.entries.items ≡ all_entries books
+  pub counted : books.marks ≡ length (history_in books)
   pub limit : (9 ≤ books.limit) × (books.limit ≤ JOURNAL_LIMIT)
   pub under : stores.limit_of books.store ≡ books.limit
   pub state : state_in books ≡ state_at (base_in books) (history_in books)
@@ -90,6 +90,7 @@ pub record Kept {D : Type 0} (G : Ghosts D) (books : Books D G) : Type 0 where
   pub told : faults_of books.failed.value ≤ faults_in (history_in books)
   pub faults : FaultsBound (G.faults books.began.value) (history_in books) (G.faults (disk_in books))
   pub claims : ∥ ClaimsReady (base_in books) (history_in books) ∥₁
+  pub stand : ClaimsStand (history_in books) books.claims.items books.last
 
 -- what the books began with stays
 pub record SameOrigin {D : Type 0} {G : Ghosts D} (old new : Books D G) : Type 0 where

@@ -1,12 +1,16 @@
 -- The claims of a history: each is of the first step that was ready when it was made.
 -- AWS Secrets Manager User Guide: "Lambda rotation functions".
-use Rattle.std.specs.Prelude.{◌≡◌, ⊤, ℕ, List, [], ◌∷◌, ◌++◌, Option, Some, IsSomeAnd, option_map}
+use Rattle.std.specs.Prelude.{◌≡◌, ◌≤◌, ⊤, ℕ, List, [], ◌∷◌, ◌++◌, Option, Some, IsSomeAnd, option_map}
 use Rattle.sm_base.specs.declared.moment.Moment.{Moment}
 use Rattle.sm_model.specs.declared.entry.At.{At}
 use Rattle.sm_model.specs.declared.entry.Mark.{Mark}
 use Rattle.sm_model.specs.declared.entry.Mark.TheVariants.{Entry, Claim, Fault}
+use Rattle.sm_model.specs.declared.rows.Job.{Job}
 use Rattle.sm_model.specs.declared.rows.SecretRow.{SecretRow}
+use Rattle.sm_claims.specs.Claims.{is_claimed}
 use Rattle.sm_claims.specs.Ready.{first_ready}
+use Rattle.sm_claims.specs.Standing.{claim_marks}
+use Rattle.sm_claims.specs.declared.claims.Claim.{Claim as claims}
 use Rattle.sm_core.specs.Histories.{replay}
 use Rattle.sm_rotation.specs.Step.{at_of}
 use Rattle.sm_account.specs.History.{entries_in}
@@ -34,3 +38,8 @@ ClaimsReadyBehind base before (x ∷ xs) = ClaimsReadyStep base before x.1 × Cl
 -- each claim of the history is of the step that was ready before it, at its moment
 abbrev pub ClaimsReady : Base → List (ℕ × Mark) → Type 0
 ClaimsReady base history = ClaimsReadyBehind base [] history
+
+-- from the moment on, the history has a claim of a step that has not ended exactly where one of these claims is such
+abbrev pub ClaimsStand : List (ℕ × Mark) → List claims → Moment → Type 0
+ClaimsStand history standing from = (arn : List ℕ) (job : Job) (moment : Moment) → from.0 ≤ moment.0
+    → is_claimed history arn job moment ≡ is_claimed (claim_marks standing) arn job moment

@@ -1,5 +1,5 @@
 -- An entry that is due, with all the memory that it needs.
-use Rattle.std.specs.Prelude.{◌≡◌, ◌≤◌, length}
+use Rattle.std.specs.Prelude.{◌≡◌, ◌-◌, ◌<◌, ◌≤◌, ◌^◌, length, vec_len, vec_capacity}
 use Rattle.sm_disk.specs.declared.disk.Disk.{Ghosts}
 use Rattle.sm_journal.specs.Records.{body_limit}
 use Rattle.sm_model.specs.declared.entry.Change.{Change}
@@ -7,7 +7,6 @@ use Rattle.sm_model.specs.declared.entry.Entry.{Entry}
 use Rattle.sm_store.specs.Entries.{Spells}
 use Rattle.sm_account.specs.declared.books.Books.{Books}
 use Rattle.sm_account.specs.declared.due.Due.{Due}
-use Rattle.sm_account.specs.Books.{history_in}
 
 -- the entry, its spelling, and its change as it was prepared on the books' rows
 pub record IsGrown {D : Type 0} {G : Ghosts D} (books : Books D G) (entry : Entry) (change : Change) (due : Due)
@@ -18,7 +17,13 @@ pub record IsGrown {D : Type 0} {G : Ghosts D} (books : Books D G) (entry : Entr
   pub before : due.prepared.before ≡ books.table
   pub change_is : due.prepared.change ≡ change
 
--- nothing has changed but the room for marks
+-- there is room for an entry, and its mark can be counted
+pub record HasRoom {D : Type 0} {G : Ghosts D} (books : Books D G) : Type 0 where
+  pub entry : vec_len books.entries < vec_capacity books.entries
+  pub mark : books.marks < 2 ^ 64 - 1
+
+-- nothing has changed but the room for entries and claims
 pub record SameButRoom {D : Type 0} {G : Ghosts D} (old new : Books D G) : Type 0 where
-  pub history : history_in new ≡ history_in old
-  pub rest : new ≡ record old { marks = new.marks }
+  pub entries : new.entries.items ≡ old.entries.items
+  pub claims : new.claims.items ≡ old.claims.items
+  pub rest : new ≡ record old { entries = new.entries; claims = new.claims }

@@ -3,7 +3,9 @@
 use Rattle.std.specs.Prelude.{⊤, Option, Some, None}
 use Rattle.sm_base.specs.declared.moment.Moment.{Moment}
 use Rattle.sm_model.specs.declared.rows.SecretRow.{SecretRow}
+use Rattle.sm_claims.specs.declared.claims.Claim.{Claim}
 use Rattle.sm_claims.specs.Works.{IsWorkOf}
+use Rattle.sm_rotator.specs.declared.work.Work.{Work}
 use Rattle.sm_account.specs.declared.next_work.NextWork.{NextWork}
 use Rattle.sm_account.specs.declared.next_work.NextWork.TheVariants as works
 use Rattle.sm_account.specs.Deeds.{Deed, Nothing, Claimed}
@@ -15,6 +17,10 @@ NextAs (works.Work work) None = ⊥
 NextAs works.None (Some row) = ⊥
 NextAs works.None None = ⊤
 NextAs works.Memory ready = ⊤
+
+-- the claim of a work's step
+abbrev pub claim_by : Work → Moment → Claim
+claim_by work moment = record { arn = work.arn; at = work.at; made = moment }
 
 -- a work is claimed at the moment
 abbrev pub next_by : NextWork → Moment → Deed

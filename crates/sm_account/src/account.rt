@@ -1,4 +1,5 @@
 //! The account.
+ghost use Rattle.std.specs.Prelude.{◌≡◌, slice_get, option_copied};
 ghost use Rattle.sm_account.specs.Allowed.{EntriesAllowed, StayVouched};
 ghost use Rattle.sm_base.specs.declared.limits.TheConstants.{CALLER_LIMIT};
 ghost use Rattle.sm_account.specs.Books.{Kept};
@@ -12,7 +13,7 @@ use crate::report::{Reported, report};
 use crate::start_due::{StartedDue, start_due};
 use sm_claims::has_due;
 use sm_disk::Disk;
-use sm_model::{Label, Moment, Person, Request, SecretId, Value};
+use sm_model::{Entry, Label, Moment, Person, Request, SecretId, Value};
 use sm_rotator::{Rotator, Verdict};
 use sm_table::Table;
 use sm_versions::{Found, find};
@@ -40,7 +41,7 @@ impl<D: Disk + Drop, R: Rotator> Drop for Account<D, R> {
 }
 
 impl<D: Disk, R: Rotator> Account<D, R> {
-    ghost use Rattle.std.specs.Prelude.{◌≡◌, ◌≤◌, ◌+◌, ◌-◌, ◌++◌, ℕ, length, is_some, option_copied};
+    ghost use Rattle.std.specs.Prelude.{◌≡◌, ◌≤◌, ◌+◌, ◌-◌, ◌++◌, ℕ, length, is_some, option_copied, slice_get};
     ghost use Rattle.sm_base.specs.declared.moment.TheConstants.{LAST_READING};
     ghost use Rattle.sm_disk.specs.OneFile.{EachHas};
     ghost use Rattle.sm_model.specs.Needed.{needed};
@@ -80,7 +81,7 @@ impl<D: Disk, R: Rotator> Account<D, R> {
     pub(crate) fn marks_count(&self) -> u64
         ensures { result ≡ length (history self.now) }
     {
-        self.books.marks.len() as u64
+        self.books.marks
     }
 
     /// Answers a request of a person at a reading of the clock, with the random bytes that were drawn for it. An entry
@@ -225,7 +226,15 @@ impl<D: Disk, R: Rotator> Account<D, R> {
     pub fn entries(&self) -> u64
         ensures { result ≡ length (all_of self.now) }
     {
-        self.books.recovered + self.books.made
+        self.books.entries.len() as u64
+    }
+
+    /// The entry at a place, counted from 0, of those that were recovered and then those that were made. It takes no
+    /// memory.
+    pub fn entry(&self, place: u64) -> Option<&Entry>
+        ensures { option_copied result ≡ slice_get (all_of self.now) place }
+    {
+        entry_at(self.books.entries.as_slice(), place as usize)
     }
 
     /// How many doors are open. It takes no memory.
@@ -254,4 +263,11 @@ impl<D: Disk, R: Rotator> Account<D, R> {
         let Books { store, .. } = books;
         store.close()
     }
+}
+
+/// The entry at a place.
+fn entry_at(entries: &[Entry], place: usize) -> Option<&Entry>
+    ensures { option_copied result ≡ slice_get entries.now place }
+{
+    entries.get(place)
 }

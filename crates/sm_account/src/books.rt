@@ -1,6 +1,8 @@
 //! The books of an account: its secrets, its entries on the disk, and its history.
+use crate::told::Told;
+use sm_claims::Claim;
 use sm_disk::Disk;
-use sm_model::{Entry, List, Mark, Moment};
+use sm_model::{Entry, List, Moment};
 use sm_store::Store;
 use sm_table::Table;
 use std::alloc::Global;
@@ -12,14 +14,18 @@ pub struct Books<D: Disk> {
     pub alloc: Global,
     pub table: Table,
     pub store: Store<D>,
+    /// The entries: those that were recovered at the opening, and then those that were made since.
+    pub entries: Vec<Entry>,
+    /// The claims that may be open at some moment to come.
+    pub claims: Vec<Claim>,
     /// The history since the opening: each mark beside the seat that made it.
-    pub marks: Vec<(u32, Mark)>,
+    pub told: Told,
+    /// How many marks the history has.
+    pub marks: u64,
     /// The moment of the last entry, or 0.
     pub last: Moment,
     /// How many entries the history has.
     pub made: u64,
-    /// How many entries were recovered at the opening.
-    pub recovered: u64,
     /// The greatest length of the journal, in bytes.
     pub limit: u64,
     /// The entries that were recovered.

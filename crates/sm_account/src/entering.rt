@@ -1,9 +1,10 @@
 //! Entering what is due: an entry is made, unless it would pass a limit or the disk fails.
-ghost use Rattle.std.specs.Prelude.{◌≡◌, ◌≤◌, ◌<◌, length, vec_len, vec_capacity, IfOk};
+ghost use Rattle.std.specs.Prelude.{◌≡◌, ◌≤◌, length, IfOk};
 ghost use Rattle.sm_journal.specs.Records.{body_limit};
 ghost use Rattle.sm_store.specs.Entries.{Spells};
 ghost use Rattle.sm_account.specs.Books.{Kept, state_in};
 ghost use Rattle.sm_account.specs.Deeds.{Leaves};
+ghost use Rattle.sm_account.specs.Growing.{HasRoom};
 ghost use Rattle.sm_account.specs.Handling.{LimitsAside, MayEnter};
 ghost use Rattle.sm_account.specs.Limits.{EntersAs, entered_by, passed_at, tried_entry};
 
@@ -54,7 +55,7 @@ pub fn enter<D: Disk>(books: &mut Books<D>, seat: u32, entry: Entry) -> Result<E
 pub fn enter_due<D: Disk>(books: &mut Books<D>, seat: u32, due: Due) -> Entered
     requires kept { Kept D.Disk books.old }
     requires due { LimitsAside books.old due }
-    requires room { vec_len books.old.marks < vec_capacity books.old.marks }
+    requires room { HasRoom books.old }
     ensures kept { Kept D.Disk books.new }
     ensures enters { EntersAs result (passed_at (state_in books.old) due.entry) }
     ensures leaves { Leaves D.Disk books.old books.new seat (entered_by result due.entry) }

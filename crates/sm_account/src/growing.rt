@@ -1,5 +1,5 @@
 //! All the memory that an entry needs.
-ghost use Rattle.std.specs.Prelude.{◌≡◌, ◌≤◌, ◌<◌, length, vec_len, vec_capacity, IfOk, OnOk, None, false};
+ghost use Rattle.std.specs.Prelude.{◌≡◌, ◌≤◌, length, IfOk, OnOk, None, false};
 ghost use Rattle.sm_base.specs.declared.limits.TheConstants.{CALLER_LIMIT};
 ghost use Rattle.sm_base.specs.declared.moment.TheConstants.{LAST_READING};
 ghost use Rattle.sm_core.specs.Effects.{entry_of};
@@ -9,7 +9,7 @@ ghost use Rattle.sm_model.specs.Needed.{needed};
 ghost use Rattle.sm_sizes.specs.Spellable.{IsSpellable};
 ghost use Rattle.sm_sizes.specs.Texts.{HasFewTags};
 ghost use Rattle.sm_table.specs.Changes.{CanMake};
-ghost use Rattle.sm_account.specs.Growing.{IsGrown, SameButRoom};
+ghost use Rattle.sm_account.specs.Growing.{HasRoom, IsGrown, SameButRoom};
 
 use crate::books::Books;
 use crate::due::Due;
@@ -18,7 +18,7 @@ use sm_model::{Act, Bytes, Change, Copied, Entry, Moment, NoMemory, Person, Requ
 use sm_sizes::spell;
 use std::alloc::Global;
 
-/// Takes all the memory that the entry of an accepted request needs: a place in the history, the entry and its
+/// Takes all the memory that the entry of an accepted request needs: a place for it, the entry and its
 /// spelling, and what its change needs. The books stay.
 pub fn grow_request<D: Disk>(
     books: &mut Books<D>,
@@ -37,7 +37,7 @@ pub fn grow_request<D: Disk>(
     requires few { HasFewTags request.now }
     ensures grown { IfOk result (λ due. IsGrown books.old
         (entry_of moment person.now.key drawn.now request.now) change due) }
-    ensures room { OnOk result (vec_len books.new.marks < vec_capacity books.new.marks) }
+    ensures room { OnOk result (HasRoom books.new) }
     ensures same { SameButRoom books.old books.new }
 {
     let entry = make_entry(books.alloc, moment, person, drawn, request)?;
@@ -52,17 +52,29 @@ pub fn grow<D: Disk>(books: &mut Books<D>, entry: Entry, change: Change) -> Resu
     requires key { length entry.caller ≤ CALLER_LIMIT }
     requires act { IsSpellable entry }
     ensures grown { IfOk result (λ due. IsGrown books.old entry change due) }
-    ensures room { OnOk result (vec_len books.new.marks < vec_capacity books.new.marks) }
+    ensures room { OnOk result (HasRoom books.new) }
     ensures same { SameButRoom books.old books.new }
 {
     let ready = spell(books.alloc, &entry)?;
     let prepared = books.table.prepare(change)?;
-    books.marks.reserve(1)?;
+    make_room(books)?;
     Ok(Due {
         entry,
         ready,
         prepared,
     })
+}
+
+/// Takes a place for an entry. A history has no more marks than can be counted: past that memory is wanted.
+fn make_room<D: Disk>(books: &mut Books<D>) -> Result<(), NoMemory>
+    ensures room { OnOk result (HasRoom books.new) }
+    ensures same { SameButRoom books.old books.new }
+{
+    if books.marks == u64::MAX {
+        return Err(NoMemory);
+    }
+    books.entries.reserve(1)?;
+    Ok(())
 }
 
 /// The entry of an accepted request.

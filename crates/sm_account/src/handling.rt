@@ -1,9 +1,10 @@
 //! Handling a request at the books.
-ghost use Rattle.std.specs.Prelude.{◌≡◌, ◌<◌, ◌≤◌, length, vec_len, vec_capacity};
+ghost use Rattle.std.specs.Prelude.{◌≡◌, ◌≤◌, length};
 ghost use Rattle.sm_base.specs.declared.limits.TheConstants.{CALLER_LIMIT};
 ghost use Rattle.sm_base.specs.declared.moment.TheConstants.{LAST_READING};
 ghost use Rattle.sm_model.specs.Needed.{needed};
 ghost use Rattle.sm_account.specs.Books.{Kept, state_in};
+ghost use Rattle.sm_account.specs.Growing.{HasRoom};
 ghost use Rattle.sm_account.specs.Handling.{Handles, LimitsAside};
 ghost use Rattle.sm_account.specs.Outcome.{limit_passed, outcome, outcome_within};
 
@@ -56,7 +57,7 @@ pub fn handle<D: Disk>(
 fn finish<D: Disk>(books: &mut Books<D>, seat: u32, reply: Reply, due: Due) -> Handled
     requires kept { Kept D.Disk books.old }
     requires due { LimitsAside books.old due }
-    requires room { vec_len books.old.marks < vec_capacity books.old.marks }
+    requires room { HasRoom books.old }
     ensures kept { Kept D.Disk books.new }
     ensures handles { Handles D.Disk books.old books.new seat result
         (outcome_within (limit_passed (state_in books.old) due.entry) reply due.entry) }

@@ -18,6 +18,7 @@ mod replaying;
 pub mod report;
 pub mod start_due;
 pub mod storied;
+mod told;
 mod writing;
 
 pub use account::Account;

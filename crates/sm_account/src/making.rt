@@ -1,12 +1,14 @@
 //! Making an entry: on the disk, in the rows and in the history.
-ghost use Rattle.std.specs.Prelude.{◌≡◌, ◌⊎◌, ◌+◌, ◌<◌, ◌≤◌, ◌++◌, ◌∷◌, [], None, Some, vec_len, vec_capacity, IsSome, OnErr, IsOk};
+ghost use Rattle.std.specs.Prelude.{◌≡◌, ◌⊎◌, ◌+◌, ◌<◌, ◌≤◌, ◌-◌, ◌^◌, ◌++◌, ◌∷◌, [], None, Some, IsSome, OnErr, IsOk};
 ghost use Rattle.sm_base.specs.declared.limits.TheConstants.{ENTRIES_LIMIT};
+ghost use Rattle.sm_model.specs.declared.entry.Mark.TheVariants as mark;
 ghost use Rattle.sm_table.specs.Changes.{changed, StandsAt};
 ghost use Rattle.sm_table.specs.Sound.{ChangeSound, Sound};
 ghost use Rattle.sm_table.specs.Sweep.{sweep};
 ghost use Rattle.sm_disk.specs.Faults.{HasCause};
 ghost use Rattle.sm_account.specs.Books.{Kept, IsDueAt, SameOrigin, all_entries, disk_in, history_in, state_in};
 ghost use Rattle.sm_account.specs.Crashes.{Throughout};
+ghost use Rattle.sm_account.specs.Growing.{HasRoom};
 ghost use Rattle.sm_account.specs.Making.{mark_made};
 ghost use Rattle.sm_account.specs.Writing.{WritesAs, OnFault};
 ghost use Rattle.sm_base.specs.Faults.{Rose};
@@ -14,9 +16,10 @@ ghost use Rattle.sm_store.specs.Stores.{limit_of};
 
 use crate::books::Books;
 use crate::due::Due;
+use crate::told::Told;
 use crate::writing::{Written, write};
 use sm_disk::{Disk, DiskFailed};
-use sm_model::{Entry, Mark};
+use sm_model::Entry;
 use std::snapshot::Snapshot;
 
 /// Writes an entry that is due, makes its change and adds it to the history. Where the disk fails the rows stay, and
@@ -25,7 +28,7 @@ pub fn make<D: Disk>(books: &mut Books<D>, seat: u32, due: Due) -> Result<(), Di
     requires kept { Kept D.Disk books.old }
     requires due { IsDueAt books.old due.entry due.ready due.prepared.change }
     requires prepared { due.prepared.before ≡ books.old.table }
-    requires room { vec_len books.old.marks < vec_capacity books.old.marks }
+    requires room { HasRoom books.old }
     ensures kept { Kept D.Disk books.new }
     ensures history { history_in books.new ≡ history_in books.old ++ (seat, mark_made result due.entry) ∷ [] }
     ensures origin { SameOrigin books.old books.new }
@@ -74,16 +77,19 @@ fn enter<D: Disk>(books: &mut Books<D>, seat: u32, due: Due)
     requires prepared { due.prepared.before ≡ books.old.table }
     requires stands { StandsAt books.old.table due.entry.moment due.prepared.change }
     requires counted { books.old.made < ENTRIES_LIMIT }
-    requires room { vec_len books.old.marks < vec_capacity books.old.marks }
-    ensures history { history_in books.new ≡ history_in books.old ++ (seat, Mark.Entry due.entry) ∷ [] }
+    requires room { HasRoom books.old }
+    ensures history { history_in books.new ≡ history_in books.old ++ (seat, mark.Entry due.entry) ∷ [] }
     ensures sure { books.new.failed.value ≡ None }
     ensures rest { books.new ≡ record books.old {
       table = changed (sweep books.old.table due.entry.moment) due.prepared.change;
       last = due.entry.moment;
       made = books.old.made + 1;
       failed = books.new.failed;
-      marks = books.new.marks;
+      entries = books.new.entries;
+      told = books.new.told;
+      marks = books.old.marks + 1;
     } }
+    ensures entries { books.new.entries.items ≡ books.old.entries.items ++ due.entry ∷ [] }
     ensures sound { Sound books.old.table →
         ChangeSound (sweep books.old.table due.entry.moment) due.prepared.change → Sound books.new.table }
 {
@@ -97,27 +103,35 @@ fn enter<D: Disk>(books: &mut Books<D>, seat: u32, due: Due)
     books.made += 1;
     let none: Option<Entry> = None;
     books.failed = Snapshot::of(&none);
-    books.marks.push_reserved((seat, Mark::Entry(entry)));
+    books.told = Told::entered(&books.told, &seat, &entry);
+    books.marks += 1;
+    books.entries.push_reserved(entry);
 }
 
 /// Adds a fault of the disk to the history.
 fn fault<D: Disk>(books: &mut Books<D>, seat: u32)
-    requires { vec_len books.old.marks < vec_capacity books.old.marks }
-    ensures history { history_in books.new ≡ history_in books.old ++ (seat, Mark.Fault) ∷ [] }
-    ensures rest { books.new ≡ record books.old { marks = books.new.marks } }
+    requires { books.old.marks < 2 ^ 64 - 1 }
+    ensures history { history_in books.new ≡ history_in books.old ++ (seat, mark.Fault) ∷ [] }
+    ensures rest { books.new ≡ record books.old { told = books.new.told; marks = books.old.marks + 1 } }
 {
-    books.marks.push_reserved((seat, Mark::Fault));
+    books.told = Told::failed(&books.told, &seat);
+    books.marks += 1;
 }
 
 /// Adds a fault of the disk to the history, where an entry may stand on the disk or not.
 fn tear<D: Disk>(books: &mut Books<D>, seat: u32, due: Due)
-    requires { vec_len books.old.marks < vec_capacity books.old.marks }
-    ensures history { history_in books.new ≡ history_in books.old ++ (seat, Mark.Fault) ∷ [] }
+    requires { books.old.marks < 2 ^ 64 - 1 }
+    ensures history { history_in books.new ≡ history_in books.old ++ (seat, mark.Fault) ∷ [] }
     ensures torn { books.new.failed.value ≡ Some due.entry }
-    ensures rest { books.new ≡ record books.old { failed = books.new.failed; marks = books.new.marks } }
+    ensures rest { books.new ≡ record books.old {
+      failed = books.new.failed;
+      told = books.new.told;
+      marks = books.old.marks + 1;
+    } }
 {
     let Due { entry, .. } = due;
     let torn = Some(entry);
     books.failed = Snapshot::of(&torn);
-    books.marks.push_reserved((seat, Mark::Fault));
+    books.told = Told::failed(&books.told, &seat);
+    books.marks += 1;
 }

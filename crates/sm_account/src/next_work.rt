@@ -1,18 +1,23 @@
 //! The next work of a rotator (AWS Secrets Manager User Guide, "Lambda rotation functions").
-ghost use Rattle.std.specs.Prelude.{◌≡◌, ◌≤◌, ◌++◌, ◌∷◌, [], IsSomeAnd, OnOk, OnErr};
+ghost use Rattle.std.specs.Prelude.{◌≡◌, ◌≤◌, ◌+◌, ◌++◌, ◌∷◌, [], IsSomeAnd, IfOk, OnOk, OnErr};
 ghost use Rattle.sm_base.specs.declared.moment.TheConstants.{LAST_READING};
 ghost use Rattle.sm_claims.specs.Ready.{first_ready};
+ghost use Rattle.sm_claims.specs.Standing.{standing_with};
 ghost use Rattle.sm_claims.specs.Works.{IsWorkOf};
 ghost use Rattle.sm_core.specs.Histories.{later};
+ghost use Rattle.sm_model.specs.declared.entry.Mark.TheVariants as mark;
 ghost use Rattle.sm_account.specs.Books.{Kept, history_in};
 ghost use Rattle.sm_account.specs.Deeds.{Leaves};
-ghost use Rattle.sm_account.specs.NextWork.{NextAs, next_by};
+ghost use Rattle.sm_account.specs.Growing.{SameButRoom};
+ghost use Rattle.sm_account.specs.NextWork.{NextAs, claim_by, next_by};
 
 use crate::books::Books;
-use sm_claims::ready_work;
+use crate::told::Told;
+use sm_claims::{Claim, add_claim, ready_work};
 use sm_disk::Disk;
-use sm_model::{Copied, Mark, Moment, NoMemory};
+use sm_model::{Copied, Moment, NoMemory};
 use sm_rotator::Work;
+use std::alloc::Global;
 
 /// What there is to do for a rotator.
 #[derive(Drop)]
@@ -34,7 +39,7 @@ pub fn next_work<D: Disk>(books: &mut Books<D>, seat: u32, now: Moment) -> NextW
     ensures leaves { Leaves D.Disk books.old books.new seat (next_by result (later books.old.last now)) }
 {
     let moment = Moment(books.last.0.max(now.0));
-    match ready_work(books.alloc, &books.table, books.marks.as_slice(), moment) {
+    match ready_work(books.alloc, &books.table, books.claims.as_slice(), moment) {
         Ok(ready) => match ready {
             Some(work) => take_up(books, seat, work, moment),
             None => NextWork::None,
@@ -58,7 +63,7 @@ fn take_up<D: Disk>(books: &mut Books<D>, seat: u32, work: Work, moment: Moment)
     }
 }
 
-/// Adds a claim of the work's step to the history.
+/// Adds a claim of the work's step to the history, and to the claims that stand.
 fn claim<D: Disk>(
     books: &mut Books<D>,
     seat: u32,
@@ -66,15 +71,37 @@ fn claim<D: Disk>(
     moment: Moment,
 ) -> Result<(), NoMemory>
     ensures claimed { OnOk result (history_in books.new
-        ≡ history_in books.old ++ (seat, Mark.Claim work.now.arn work.now.at moment) ∷ []) }
-    ensures same { OnErr result (history_in books.new ≡ history_in books.old) }
-    ensures rest { books.new ≡ record books.old { marks = books.new.marks } }
+        ≡ history_in books.old ++ (seat, mark.Claim work.now.arn work.now.at moment) ∷ []) }
+    ensures counted { OnOk result (books.new.marks ≡ books.old.marks + 1) }
+    ensures added { OnOk result (books.new.claims.items
+        ≡ standing_with books.old.claims.items (claim_by work.now moment) books.old.last) }
+    ensures same { OnErr result (SameButRoom books.old books.new) }
+    ensures rest { books.new ≡ record books.old {
+      claims = books.new.claims;
+      told = books.new.told;
+      marks = books.new.marks;
+    } }
 {
-    let arn = work.arn.copy(books.alloc)?;
-    let at = work.at.copy(books.alloc)?;
-    books.marks.reserve(1)?;
-    books
-        .marks
-        .push_reserved((seat, Mark::Claim(arn, at, moment)));
+    let claim = claim_by(books.alloc, work, moment)?;
+    if books.marks == u64::MAX {
+        return Err(NoMemory);
+    }
+    books.claims.reserve(1)?;
+    books.told = Told::claimed(&books.told, &seat, &claim);
+    books.marks += 1;
+    let from = books.last;
+    add_claim(&mut books.claims, claim, from);
     Ok(())
+}
+
+/// A claim of the work's step.
+fn claim_by(alloc: Global, work: &Work, moment: Moment) -> Result<Claim, NoMemory>
+    ensures { IfOk result (λ claim. claim ≡ claim_by work.now moment) }
+{
+    let arn = work.arn.copy(alloc)?;
+    Ok(Claim {
+        arn,
+        at: work.at.copy(alloc)?,
+        made: moment,
+    })
 }

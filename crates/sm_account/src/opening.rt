@@ -16,6 +16,7 @@ ghost use Rattle.sm_account.specs.States.{sizes_of};
 use crate::account::Account;
 use crate::books::Books;
 use crate::replaying::{Standing, Stopped, replay_all};
+use crate::told::Told;
 use sm_disk::Disk;
 use sm_journal::{Damage, OpenRefused};
 use sm_model::{Entry, List, NoMemory};
@@ -50,7 +51,7 @@ impl<D: Disk, R: Rotator> Account<D, R> {
     {
         let began = Snapshot::of(&disk);
         match Store::open(alloc, disk, limit) {
-            Ok((store, entries)) => match open_books(alloc, store, &entries, began, limit) {
+            Ok((store, entries)) => match open_books(alloc, store, entries, began, limit) {
                 Ok(books) => Ok(Account::over(books, doors)),
                 Err(refused) => Err(refused),
             },
@@ -63,15 +64,15 @@ impl<D: Disk, R: Rotator> Account<D, R> {
 fn open_books<D: Disk>(
     alloc: Global,
     store: Store<D>,
-    entries: &List<Entry>,
+    entries: List<Entry>,
     began: Snapshot<D>,
     limit: u64,
 ) -> Result<Books<D>, OpenRefused<D>>
-    requires opened { stores.IsOpened limit entries.now store }
+    requires opened { stores.IsOpened limit entries store }
     requires limits { (9 ≤ limit) × (limit ≤ JOURNAL_LIMIT) }
     requires later { D.faults began.value ≤ D.faults (stores.disk_of store) }
-    ensures books { IfOk result (AreBooksOver D.Disk store entries.now began.value limit) }
-    ensures refused { IfErr result (IsStopped (stores.disk_of store) entries.now) }
+    ensures books { IfOk result (AreBooksOver D.Disk store entries began.value limit) }
+    ensures refused { IfErr result (IsStopped (stores.disk_of store) entries) }
 {
     match replay_all(alloc, entries.as_slice()) {
         Ok(standing) => Ok(books_over(alloc, store, entries, standing, began, limit)),
@@ -95,28 +96,31 @@ fn open_books<D: Disk>(
 fn books_over<D: Disk>(
     alloc: Global,
     store: Store<D>,
-    entries: &List<Entry>,
+    entries: List<Entry>,
     standing: Standing,
     began: Snapshot<D>,
     limit: u64,
 ) -> Books<D>
-    requires opened { stores.IsOpened limit entries.now store }
+    requires opened { stores.IsOpened limit entries store }
     requires limits { (9 ≤ limit) × (limit ≤ JOURNAL_LIMIT) }
     requires later { D.faults began.value ≤ D.faults (stores.disk_of store) }
-    requires replayed { IsReplayOf entries.now standing }
-    ensures { AreBooksOver D.Disk store entries.now began.value limit result }
+    requires replayed { IsReplayOf entries standing }
+    ensures { AreBooksOver D.Disk store entries began.value limit result }
 {
     let Standing { table, last } = standing;
+    let taken = Snapshot::of(&entries);
     Books {
         alloc,
         table,
         store,
-        marks: Vec::new(alloc),
+        entries: entries.into_vec(),
+        claims: Vec::new(alloc),
+        told: Told::nothing(),
+        marks: 0,
         last,
         made: 0,
-        recovered: entries.len() as u64,
         limit,
-        taken: Snapshot::of(entries),
+        taken,
         began,
         failed: Snapshot::of(&None),
     }

@@ -5,6 +5,8 @@
 #[cfg(test)]
 mod asked;
 #[cfg(test)]
+mod crowds;
+#[cfg(test)]
 mod faults;
 #[cfg(test)]
 mod journals;

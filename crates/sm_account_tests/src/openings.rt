@@ -8,7 +8,7 @@ use crate::journals::{
 };
 use sm_account::{Account, Damage, OpenRefused};
 use sm_base::Fails;
-use sm_model::What;
+use sm_model::{Act, Entry, Request, What};
 use std::alloc::Global;
 use std::test::Fail;
 
@@ -189,5 +189,39 @@ fn doors(alloc: Global) -> Result<[u32; 3], Fail> {
 #[test]
 fn doors_are_closed_one_by_one(rt: HostRuntime) -> Result<(), Fail> {
     assert_eq!(rt; doors(rt.alloc())?, [2, 1, 0]);
+    Ok(())
+}
+
+/// What an entry is: a creation, a new value, something else or none.
+fn kind(entry: Option<&Entry>) -> char {
+    match entry {
+        Some(entry) => match &entry.act {
+            Act::Asked(Request::CreateSecret(_)) => 'c',
+            Act::Asked(Request::PutSecretValue(_)) => 'p',
+            _ => '?',
+        },
+        None => '-',
+    }
+}
+
+/// The first three entries of an account that recovered a creation, before and after a new value.
+fn kinds(alloc: Global) -> Result<[char; 6], Fail> {
+    let disk = disk_of(alloc, file_of(alloc, &[CREATED], b"")?, Fails::never(alloc))?;
+    let opened: Result<Kept, _> = Account::open(alloc, disk, 1, 1000);
+    let Ok(mut account) = opened else {
+        return Err("not opened".into());
+    };
+    let first = kind(account.entry(0));
+    let second = kind(account.entry(1));
+    let third = kind(account.entry(u64::MAX));
+    put(&mut account);
+    let then = kind(account.entry(0));
+    let added = kind(account.entry(1));
+    Ok([first, second, third, then, added, kind(account.entry(2))])
+}
+
+#[test]
+fn entries_are_given_by_number(rt: HostRuntime) -> Result<(), Fail> {
+    assert_eq!(rt; kinds(rt.alloc())?, ['c', '-', '-', 'c', 'p', '-']);
     Ok(())
 }

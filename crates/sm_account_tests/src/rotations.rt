@@ -156,6 +156,58 @@ const CLAIMED: [(u64, Step, &str, &str); 5] = [
     ),
 ];
 
+/// A step that nobody reports is claimed again and again, by a clock whose readings fall.
+const FALLING: [(u64, Step, &str, &str); 8] = [
+    (
+        100,
+        Step::Take,
+        "2 Set 1",
+        "2 Set 1 from 0; current 1, pending 2",
+    ),
+    (
+        70,
+        Step::Take,
+        "no work",
+        "2 Set 1 from 0; current 1, pending 2",
+    ),
+    (
+        130,
+        Step::Take,
+        "2 Set 1",
+        "2 Set 1 from 0; current 1, pending 2",
+    ),
+    (
+        101,
+        Step::Take,
+        "no work",
+        "2 Set 1 from 0; current 1, pending 2",
+    ),
+    (
+        159,
+        Step::Take,
+        "no work",
+        "2 Set 1 from 0; current 1, pending 2",
+    ),
+    (
+        160,
+        Step::Take,
+        "2 Set 1",
+        "2 Set 1 from 0; current 1, pending 2",
+    ),
+    (
+        0,
+        Step::Take,
+        "no work",
+        "2 Set 1 from 0; current 1, pending 2",
+    ),
+    (
+        189,
+        Step::Take,
+        "no work",
+        "2 Set 1 from 0; current 1, pending 2",
+    ),
+];
+
 /// A verdict on the last step comes after the rotation was cancelled.
 const LATE: [(u64, Step, &str, &str); 4] = [
     (
@@ -292,6 +344,8 @@ fn claims_and_late_verdicts(rt: HostRuntime) -> Result<(), Fail> {
     let alloc = rt.alloc();
     let seen = run(alloc, LocalRotator::new(alloc), &[&FILLED, &CLAIMED])?;
     assert_eq!(rt; seen, None, "a claim ends");
+    let seen = run(alloc, LocalRotator::new(alloc), &[&FILLED, &FALLING])?;
+    assert_eq!(rt; seen, None, "a clock falls");
     let seen = run(alloc, LocalRotator::new(alloc), &[&WELL[..5], &LATE])?;
     assert_eq!(rt; seen, None, "a verdict after a cancel");
     Ok(())

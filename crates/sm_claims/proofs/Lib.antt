@@ -1,4 +1,5 @@
 pub mod PlaceLemmas
+pub mod StandingLemmas
 pub mod ReadyLemmas
 pub mod DueLemmas
 pub mod WorkLemmas

@@ -15,3 +15,8 @@ abbrev pub first_due : List SecretRow → Moment → List ℕ → Option SecretR
 first_due [] moment token = None
 first_due (row ∷ rows) moment token =
     if is_due_for row moment token then Some row else first_due rows moment token
+
+-- this secret, if there is one and it is due for the token
+abbrev pub due_of : Moment → List ℕ → Option SecretRow → Option SecretRow
+due_of moment token None = None
+due_of moment token (Some row) = if is_due_for row moment token then Some row else None

@@ -1,9 +1,10 @@
 //! Judging GetSecretValue (AWS Secrets Manager API Reference, GetSecretValue).
-ghost use Rattle.std.specs.Prelude.{◌≡◌, IfOk, None};
+ghost use Rattle.std.specs.Prelude.{◌≡◌, IfOk, None, Some};
 ghost use Rattle.sm_forms.specs.GetSecretValue.{get_forms};
 ghost use Rattle.sm_judging.specs.Secrets.{unless_scheduled};
 ghost use Rattle.sm_reads.specs.GetSecretValue.{get_call, text_of, bytes_of, got_secret, get_version, get_found, get_on, get_judged, get_judgement};
-ghost use Rattle.sm_versions.specs.Find.{lookup};
+ghost use Rattle.sm_table.specs.Changes.{row_with};
+ghost use Rattle.sm_versions.specs.Find.{lookup, looked_up};
 
 use sm_judging::Judged;
 use sm_judging::labels_shown::labels_shown;
@@ -61,29 +62,47 @@ fn judge_call(
     ensures { IfOk result (λ judged. judged ≡ get_judged table.now moment call.now) }
 {
     match table.find(&call.id, moment) {
-        Some(row) => get_unless_scheduled(alloc, row, call),
+        Some(row) => get_unless_scheduled(alloc, table, row, call),
         None => Ok(Judged::Refuse(Why::NoSecret)),
     }
 }
 
-/// Judges a GetSecretValue of this row.
-fn get_unless_scheduled(alloc: Global, row: &SecretRow, call: &GetCall) -> Result<Judged, NoMemory>
+/// Judges a GetSecretValue of this row of the table.
+fn get_unless_scheduled(
+    alloc: Global,
+    table: &Table,
+    row: &SecretRow,
+    call: &GetCall,
+) -> Result<Judged, NoMemory>
+    requires { row_with table.now.secrets row.now.serial ≡ Some row.now }
     ensures { IfOk result (λ judged. judged ≡ unless_scheduled row.now.deletion (get_on row.now call.now)) }
 {
     match row.deletion {
         Some(date) => Ok(Judged::Refuse(Why::Scheduled(date))),
-        None => get_on(alloc, row, call),
+        None => get_on(alloc, table, row, call),
     }
 }
 
-/// Judges a GetSecretValue of this row, which is not scheduled for deletion.
-fn get_on(alloc: Global, row: &SecretRow, call: &GetCall) -> Result<Judged, NoMemory>
+/// Judges a GetSecretValue of this row of the table, which is not scheduled for deletion.
+fn get_on(alloc: Global, table: &Table, row: &SecretRow, call: &GetCall) -> Result<Judged, NoMemory>
+    requires { row_with table.now.secrets row.now.serial ≡ Some row.now }
     ensures { IfOk result (λ judged. judged ≡ get_on row.now call.now) }
 {
-    match sm_versions::find(row, call.version.as_ref(), call.label.as_ref()) {
+    match version_of(table, row, call) {
         Found::Version(version) => get_version(alloc, row, version),
         Found::None => Ok(Judged::Refuse(Why::NoVersion)),
         Found::Differ => Ok(Judged::Refuse(Why::Differ)),
+    }
+}
+
+/// The version that the call names, by the index of the row's labels.
+fn version_of<'a>(table: &'a Table, row: &SecretRow, call: &GetCall) -> Found<'a>
+    requires { row_with table.now.secrets row.now.serial ≡ Some row.now }
+    ensures { looked_up result ≡ lookup row.now call.now.version call.now.label }
+{
+    match table.find_version(row.serial, call.version.as_ref(), call.label.as_ref()) {
+        Some(found) => found,
+        None => unreachable!(),
     }
 }
 

@@ -7,7 +7,7 @@ pub mod finishing;
 pub mod starting;
 pub mod stepping;
 
-pub use due::{is_due, is_due_for_some};
+pub use due::is_due;
 pub use sm_versions::settle;
 pub use starting::{Began, begin};
 pub use stepping::{Applied, apply};

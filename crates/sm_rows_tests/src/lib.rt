@@ -2,6 +2,10 @@
 #![tactic(auto)]
 
 #[cfg(test)]
+mod list_table;
+#[cfg(test)]
 mod rows;
+#[cfg(test)]
+mod twins;
 #[cfg(test)]
 mod versions;

@@ -7,7 +7,7 @@ use sm_model::{
     SharedList,
 };
 use sm_table::Table;
-use sm_table::edits::is_gone;
+use sm_table::deletion::is_gone;
 use std::alloc::Global;
 use std::test::Fail;
 
@@ -36,7 +36,7 @@ const BEGINNING: &str = "arn:aws:secretsmanager:us-east-1:000000000000:secret:";
 
 /// A secret without versions.
 #[tactic(auto, using(sm_versions::proofs::ArnLemmas::drawn_is_arn_of))]
-fn fresh(alloc: Global, serial: u64, name: Name, letter: u8) -> Result<SecretRow, Fail>
+pub fn fresh(alloc: Global, serial: u64, name: Name, letter: u8) -> Result<SecretRow, Fail>
     ensures { IfOk result (λ row. (row.serial ≡ serial) × (row.name ≡ name) × IsArnOf row.arn row.name) }
 {
     Ok(SecretRow {
@@ -66,7 +66,8 @@ fn fresh(alloc: Global, serial: u64, name: Name, letter: u8) -> Result<SecretRow
     })
 }
 
-fn add(
+/// Adds a secret of this name, whose ARN ends in six times the letter, unless the name is held.
+pub fn add(
     alloc: Global,
     table: &mut Table,
     name: &str,

@@ -29,7 +29,7 @@ enum Call {
     Settle,
 }
 
-fn token(alloc: Global, number: u32) -> Result<Token, Fail> {
+pub fn token(alloc: Global, number: u32) -> Result<Token, Fail> {
     let text = format!(in alloc; "{number:032}")?;
     Ok(Token::read(alloc, text.as_bytes())?)
 }

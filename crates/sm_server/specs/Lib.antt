@@ -7,3 +7,4 @@ pub mod Ran
 pub mod Complete
 pub mod Stored
 pub mod Served
+pub mod JustOpened

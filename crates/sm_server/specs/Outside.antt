@@ -1,5 +1,5 @@
 -- What the outside of a run tells, and what passes between a run and the outside.
-use Rattle.std.specs.Prelude.{◌≡◌, ℕ, List, Option}
+use Rattle.std.specs.Prelude.{◌≡◌, ◌≤◌, ℕ, List, Option}
 use Rattle.std.specs.Io.KnownBytes.{append_known}
 use Rattle.sm_io.specs.declared.clock.Clock.{Ghosts as ClockGhosts}
 use Rattle.sm_io.specs.declared.sink.Sink.{Ghosts as SinkGhosts}
@@ -16,6 +16,14 @@ pub record Counts : Type 0 where
   pub disk : ℕ
   pub random : ℕ
   pub rotator : ℕ
+
+-- no count fell
+pub record NoCountFell (before after : Counts) : Type 0 where
+  pub source : before.source ≤ after.source
+  pub sink : before.sink ≤ after.sink
+  pub disk : before.disk ≤ after.disk
+  pub random : before.random ≤ after.random
+  pub rotator : before.rotator ≤ after.rotator
 
 -- what the source has left, what the sink took, what the clock and the random source told, and the counts of faults
 pub record Outside : Type 0 where

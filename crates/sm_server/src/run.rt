@@ -12,7 +12,8 @@ ghost use Rattle.sm_principal.specs.Callers.{people_of};
 ghost use Rattle.sm_server.specs.Asked.{PeopleDecide};
 ghost use Rattle.sm_server.specs.Checks.{Shows};
 ghost use Rattle.sm_server.specs.Complete.{AreFollowed, Ran};
-ghost use Rattle.sm_server.specs.Outside.{outside_by};
+ghost use Rattle.sm_server.specs.JustOpened.{IsJustOpened};
+ghost use Rattle.sm_server.specs.Outside.{NoCountFell, outside_by};
 ghost use Rattle.sm_server.specs.Ran.{Runs, Story, course_of};
 ghost use Rattle.sm_server.specs.Status.{WasFollowed, WasOpened, WasUnderstood};
 ghost use Rattle.sm_server.specs.Stored.{Leaves, Stands, StaysVouched, WantsBy, status_unopened, disk_unopened};
@@ -169,10 +170,7 @@ fn run_opened<Q: Source, K: Sink, D: Disk, C: Clock, W: Words, R: Rotator>(
     random: &mut W,
     rotator: &mut R,
 ) -> (Status, D)
-    requires fresh { history account ≡ [] }
-    requires base { base account ≡ base_of (taken account) JOURNAL_LIMIT }
-    requires sure { failed account ≡ None }
-    requires later { D.faults (began account) ≤ D.faults (disk account) }
+    requires { IsJustOpened account }
     ensures ran { (story : Story) × (story.task ≡ task) × (story.people ≡ people.now) × (story.taken ≡ taken account)
         × Runs (course_of R.replies story) result.0
         (outside_by Q.Source K.Sink C.Clock W.Words R.Rotator source.old sink.old
@@ -182,11 +180,11 @@ fn run_opened<Q: Source, K: Sink, D: Disk, C: Clock, W: Words, R: Rotator>(
         × Stands D.Disk story (began account) result.1
         × ∥ StaysVouched R.replies story.taken story.history story.failed ∥₁ }
     ensures opened { WasOpened result.0 }
-    ensures source_later { Q.source_faults source.old ≤ Q.source_faults source.new }
-    ensures sink_later { K.sink_faults sink.old ≤ K.sink_faults sink.new }
-    ensures disk_later { D.faults (disk account) ≤ D.faults result.1 }
-    ensures random_later { W.faults random.old ≤ W.faults random.new }
-    ensures rotator_later { R.faults rotator.old ≤ R.faults rotator.new }
+    ensures later { NoCountFell
+        (outside_by Q.Source K.Sink C.Clock W.Words R.Rotator source.old sink.old
+        (D.faults (disk account)) clock.old random.old rotator.old).counts
+        (outside_by Q.Source K.Sink C.Clock W.Words R.Rotator source.new sink.new
+        (D.faults result.1) clock.new random.new rotator.new).counts }
 {
     match task {
         Task::Answer => answer_opened(alloc, people, account, source, sink, clock, random, rotator),

@@ -27,7 +27,8 @@ in_by : (b : Bool) (r row : SecretRow) (rs : List SecretRow) (rest : Option Secr
 in_by true r row rs rest e later = inl (cc)
 in_by false r row rs rest e later = inr (later e)
 
-named_in : (rows : List SecretRow) (name : List ℕ) (row : SecretRow) → row_named rows name ≡ Some row → IsIn rows row
+pub named_in : (rows : List SecretRow) (name : List ℕ) (row : SecretRow) → row_named rows name ≡ Some row → IsIn rows
+    row
 named_in [] name row e = absurd (cc)
 named_in (r ∷ rs) name row e = in_by (same_text r.name name) r row rs (row_named rs name) e (named_in rs name row)
 
@@ -130,6 +131,23 @@ row_still rows moment row kept still =
       stands = row_with_own (swept rows.secrets moment) 0 rows.next row after.serials still;
       kept = in_kept (swept rows.secrets moment) row after.each still;
     }
+
+-- what a look-up gives is the row with its own serial
+pub found_own : (rows : Rows) (moment : Moment) (id : SecretId) (result : Option SecretRow)
+    → rises 0 (row_serials rows.secrets) rows.next ≡ true → result ≡ found rows moment id
+    → IfSome result (λ row. row_with rows.secrets row.serial ≡ Some row)
+found_own rows moment id None h e = tt
+found_own rows moment id (Some row) h e =
+    row_with_own rows.secrets 0 rows.next row h
+    (unswept_in rows.secrets moment row (named_by_in (swept rows.secrets moment) id row (sym e)))
+
+pub found_arn_own : (rows : Rows) (moment : Moment) (arn : List ℕ) (result : Option SecretRow)
+    → rises 0 (row_serials rows.secrets) rows.next ≡ true → result ≡ found_arn rows moment arn
+    → IfSome result (λ row. row_with rows.secrets row.serial ≡ Some row)
+found_arn_own rows moment arn None h e = tt
+found_arn_own rows moment arn (Some row) h e =
+    row_with_own rows.secrets 0 rows.next row h
+    (unswept_in rows.secrets moment row (with_arn_in (swept rows.secrets moment) arn row (sym e)))
 
 -- and so is the row that was found
 pub found_is_row : (rows : Rows) (moment : Moment) (id : SecretId) (row : SecretRow) → RowsKept rows

@@ -1,8 +1,7 @@
 -- Look-ups in rows that were swept.
-use Rattle.std.proofs.Common.{◌≡◌, ℕ, ◌+◌, length, Bool, true, false, not, ◌&&◌, cond, eqb, List, [], ◌∷◌, Option, Some, None, IfSome, refl, sym, ap, ◌∙◌, arith}
+use Rattle.std.proofs.Common.{◌≡◌, ℕ, Bool, true, false, not, ◌&&◌, cond, eqb, List, [], ◌∷◌, Option, Some, None, IfSome, refl, sym, ap, ◌∙◌, arith}
 use Rattle.std.proofs.lemmas.Bool.{eqb-true, false≢true}
-use Rattle.std.specs.List.{find, count_by}
-use Rattle.std.proofs.lemmas.List.Recursion.{is_count_by}
+use Rattle.std.specs.List.{find}
 use Rattle.sm_base.specs.declared.moment.Moment.{Moment}
 use Rattle.sm_model.specs.declared.rows.SecretRow.{SecretRow}
 use Rattle.sm_base.specs.Texts.{same_text}
@@ -25,11 +24,6 @@ pub row_with_short_arn_is_find : (rows : List SecretRow) (moment : Moment) (arn 
     rows
 row_with_short_arn_is_find [] moment arn = refl
 row_with_short_arn_is_find (r ∷ rs) moment arn = grind (arith, row_with_short_arn_is_find rs moment arn)
-
-pub row_with_is_find : (rows : List SecretRow) (serial : ℕ)
-    → row_with rows serial ≡ find (λ r. eqb r.serial serial) rows
-row_with_is_find [] serial = refl
-row_with_is_find (r ∷ rs) serial = grind (arith, row_with_is_find rs serial)
 
 -- the row with a serial has it
 pub row_with_has : (rows : List SecretRow) (serial : ℕ) (row : SecretRow) → row_with rows serial ≡ Some row
@@ -70,15 +64,3 @@ row_with_stays (r ∷ rs) moment serial row e stays =
     by true t e later = let same : r ≡ row = cc in
         head (is_gone r moment) (ap (λ q. is_gone q moment) same ∙ stays) (sym t) same
     by false t e later = tail (is_gone r moment) (sym t) (later e stays)
-
--- the rows that were not swept, counted
-pub swept_count : (rows : List SecretRow) (moment : Moment)
-    → length (swept rows moment) ≡ count_by (λ r. not (is_gone r moment)) rows
-swept_count rows moment =
-    is_count_by (λ rs. length (swept rs moment)) (λ r. not (is_gone r moment)) refl
-    (λ r rs. by (is_gone r moment) r (swept rs moment)) rows
-  where
-    by : (gone : Bool) (r : SecretRow) (rs : List SecretRow)
-        → length (cond gone rs (r ∷ rs)) ≡ cond (not gone) (1 + length rs) (length rs)
-    by true r rs = refl
-    by false r rs = omega arith

@@ -1,60 +1,25 @@
 -- Rows with an index.
-use Rattle.std.proofs.Common.{◌≡◌, ◌≢◌, ◌⊎◌, inl, inr, ℕ, zero, suc, ◌+◌, ◌<◌, ◌≤◌, Bool, true, false, not, ◌&&◌, ◌||◌, cond, eqb, List, [], ◌∷◌, ◌++◌, length, get_or, Option, Some, None, refl, sym, ap, ◌∙◌, arith}
+use Rattle.std.proofs.Common.{◌≡◌, ◌≢◌, ◌⊎◌, inl, inr, ℕ, suc, ◌+◌, ◌<◌, leb, Bool, true, false, not, ◌&&◌, ◌||◌, cond, eqb, List, [], ◌∷◌, ◌++◌, filter, length, take, slice_get, Option, Some, None, refl, sym, ap, subst, ◌∙◌, arith}
 use Rattle.std.proofs.lemmas.Grind.{common_steps}
-use Rattle.std.proofs.lemmas.Bool.{and_parts, false≢true}
+use Rattle.std.proofs.lemmas.Bool.{and_parts, eqb-true, false≢true}
 use Rattle.std.proofs.lemmas.Bool.Decides.{nat_tests}
 use Rattle.std.specs.List.{find}
+use Rattle.std.specs.Option.{option_map}
 use Rattle.sm_base.specs.declared.moment.Moment.{Moment}
 use Rattle.sm_model.specs.declared.rows.SecretRow.{SecretRow}
+use Rattle.sm_versions.specs.Serials.{rises}
 use Rattle.sm_versions.specs.Texts.{is_among, once}
 use Rattle.sm_base.specs.Texts.{same_text}
 use Rattle.sm_model.specs.Due.{is_reached}
 use Rattle.sm_versions.proofs.TextLemmas.{same_text_tells, same_text_itself}
 use Rattle.sm_table.specs.Sweep.{is_gone, swept}
 use Rattle.sm_table.specs.Found.{row_named}
-use Rattle.sm_table.specs.Changes.{replaced}
-use Rattle.sm_table.specs.Kept.{row_names}
-use Rattle.sm_table.specs.Indexed.{grown, all_stay, earlier}
-
--- ---- room
-
--- there is room for as many as there are
-pub grown_holds : (n : ℕ) → n ≤ grown n
-grown_holds zero = omega arith
-grown_holds (suc n) = grind (arith, nat_tests, grown_holds n)
-
-pub grown_step : (n : ℕ) → grown n ≤ grown (suc n)
-grown_step n = grind (arith, nat_tests)
-
--- and more where there are more
-pub grown_more : (m n : ℕ) → m ≤ n → grown m ≤ grown n
-grown_more m zero h = by m h
-  where
-    by : (m : ℕ) → m ≤ zero → grown m ≤ grown zero
-    by zero h = omega arith
-    by (suc m) h = absurd (omega arith)
-grown_more m (suc n) h = by (eqb m (suc n)) refl (grown_more m n) (grown_step n)
-  where
-    by : (b : Bool) → b ≡ eqb m (suc n) → (m ≤ n → grown m ≤ grown n) → grown n ≤ grown (suc n)
-        → grown m ≤ grown (suc n)
-    by true t rest step = let same : m ≡ suc n = grind (arith, nat_tests) in omega (arith, ap grown same)
-    by false t rest step = let lower : m ≤ n = grind (arith, nat_tests) in omega (arith, rest lower)
-
-pub room_next : (n room count result : ℕ) → room ≡ grown n → count ≡ n
-    → result ≡ cond (eqb room count) (count + count + 1) room → result ≡ grown (suc n)
-room_next n room count result e f g = rw (← e, ← f) g
-
--- where room is left there is as much for one more, and there are rows
-pub not_full : (n : ℕ) → grown n ≢ n → grown (suc n) ≡ grown n
-not_full n spare = by (eqb (grown n) n) refl
-  where
-    by : (b : Bool) → b ≡ eqb (grown n) n → cond b (n + n + 1) (grown n) ≡ grown n
-    by true t = absurd (spare (grind (arith, nat_tests)))
-    by false t = refl
-
-pub not_empty : (n : ℕ) → grown n ≢ n → 0 < n
-not_empty zero spare = absurd (spare refl)
-not_empty (suc n) spare = omega arith
+use Rattle.sm_table.specs.Changes.{row_with, replaced, dropped}
+use Rattle.sm_table.specs.Kept.{row_names, row_serials, IsRising}
+use Rattle.sm_table.specs.Maps.{by_name, serial_of, without_name, without_row, stays}
+use Rattle.sm_table.specs.Indexed.{all_stay, earlier}
+use Rattle.sm_table.proofs.FoundLaws.{IsIn, named_in, row_with_own}
+use Rattle.sm_table.proofs.MapLemmas.{dropped_above, more}
 
 -- ---- dates
 
@@ -116,36 +81,22 @@ pub stay_put : (rows : List SecretRow) (row : SecretRow) (date : Option Moment)
 stay_put rows row date stay moment h =
     let parts = both_later date row.deletion moment h in stay_replaced rows row moment (stay moment parts.0) parts.1
 
+-- and for the rows that are left where one is dropped
+pub stay_dropped : (rows : List SecretRow) (serial : ℕ) (moment : Moment) → all_stay rows moment ≡ true
+    → all_stay (dropped rows serial) moment ≡ true
+stay_dropped [] serial moment h = h
+stay_dropped (r ∷ rs) serial moment h = grind (arith, common_steps, stay_dropped rs serial moment)
+
+-- one row more, as at a step of a loop
+pub stay_more : (rows : List SecretRow) (i : ℕ) (row : SecretRow) (date : Option Moment)
+    → slice_get rows i ≡ Some row
+    → ((moment : Moment) → is_reached date moment ≡ false → all_stay (take i rows) moment ≡ true)
+    → (moment : Moment) → is_reached (earlier date row.deletion) moment ≡ false
+    → all_stay (take (i + 1) rows) moment ≡ true
+stay_more rows i row date here stay moment h =
+    rw (more rows i row here) (stay_added (take i rows) row date stay moment h)
+
 -- ---- names
-
-lacks_named : (rows : List SecretRow) (name : List ℕ) → is_among (row_names rows) name ≡ false
-    → row_named rows name ≡ None
-lacks_named [] name h = refl
-lacks_named (r ∷ rs) name h = grind (arith, common_steps, lacks_named rs name)
-
-lacks_at : (ts : List (List ℕ)) (i : ℕ) (t : List ℕ) → i < length ts → is_among ts t ≡ false → get_or ts i [] ≢ t
-lacks_at [] i t lt h = absurd (omega arith)
-lacks_at (x ∷ ts) zero t lt h = λ e. by (same_text x t) refl h e
-  where
-    by : (b : Bool) → b ≡ same_text x t → (b || is_among ts t) ≡ false → x ≡ t → ⊥
-    by true s q e = false≢true (sym q)
-    by false s q e = false≢true (s ∙ ap (λ y. same_text y t) e ∙ same_text_itself t)
-lacks_at (x ∷ ts) (suc i) t lt h = by (same_text x t) h (lacks_at ts i t (omega arith))
-  where
-    by : (b : Bool) → (b || is_among ts t) ≡ false → (is_among ts t ≡ false → get_or ts i [] ≢ t) → get_or ts i [] ≢ t
-    by true q rest = absurd (false≢true (sym q))
-    by false q rest = rest q
-
-absent_lacks : (ts : List (List ℕ)) (t : List ℕ) → ((k : ℕ) → k < length ts → get_or ts k [] ≢ t)
-    → is_among ts t ≡ false
-absent_lacks [] t absent = refl
-absent_lacks (x ∷ ts) t absent =
-    by (same_text_tells x t) (absent_lacks ts t (λ k lt. absent (suc k) (omega arith)))
-  where
-    by : ((same_text x t ≡ true) × (x ≡ t)) ⊎ ((same_text x t ≡ false) × (x ≢ t)) → is_among ts t ≡ false
-        → (same_text x t || is_among ts t) ≡ false
-    by (inl p) rest = absurd (absent zero (omega arith) p.1)
-    by (inr p) rest = rw p.0 rest
 
 lacks_all : (ts : List (List ℕ)) (t : List ℕ) → not (is_among ts t) ≡ true → is_among ts t ≡ false
 lacks_all ts t h = by (is_among ts t) h
@@ -154,27 +105,151 @@ lacks_all ts t h = by (is_among ts t) h
     by true q = absurd (false≢true q)
     by false q = refl
 
--- a name that stands at no place names no row
-pub absent_named : (rows : List SecretRow) (name : List ℕ)
-    → ((k : ℕ) → k < length (row_names rows) → get_or (row_names rows) k [] ≢ name) → row_named rows name ≡ None
-absent_named rows name absent = lacks_named rows name (absent_lacks (row_names rows) name absent)
+-- the serial behind a name is that of the row that has the name
+serial_named : (rows : List SecretRow) (name : List ℕ)
+    → serial_of (by_name rows) name ≡ option_map (λ r. r.serial) (row_named rows name)
+serial_named [] name = refl
+serial_named (r ∷ rs) name = grind (arith, common_steps, serial_named rs name)
 
--- the row that has the name, where no name stands twice
-pub there_named : (rows : List SecretRow) (i : ℕ) (row : SecretRow) (name : List ℕ) → once (row_names rows) ≡ true
-    → i < length (row_names rows) → row ≡ get_or rows i row → get_or (row_names rows) i [] ≡ name
-    → row_named rows name ≡ Some row
-there_named [] i row name h lt e named = absurd (omega arith)
-there_named (r ∷ rs) zero row name h lt e named = rw (e, ← named) (rw (same_text_itself r.name) refl)
-there_named (r ∷ rs) (suc i) row name h lt e named =
-    let parts = and_parts (not (is_among (row_names rs) r.name)) (once (row_names rs)) h in
-    differs (same_text_tells r.name name) (lacks_all (row_names rs) r.name parts.0)
-    (there_named rs i row name parts.1 (omega arith) e named)
+pub named_some : (rows : List SecretRow) (name : List ℕ) (serial : ℕ) → IsRising rows
+    → serial_of (by_name rows) name ≡ Some serial → row_with rows serial ≡ row_named rows name
+named_some rows name serial rising e = by (row_named rows name) refl (sym (serial_named rows name) ∙ e)
   where
-    differs : ((same_text r.name name ≡ true) × (r.name ≡ name)) ⊎ ((same_text r.name name ≡ false) × (r.name ≢ name))
-        → is_among (row_names rs) r.name ≡ false → row_named rs name ≡ Some row
-        → row_named (r ∷ rs) name ≡ Some row
-    differs (inl p) lacks rest = absurd (lacks_at (row_names rs) i r.name (omega arith) lacks (named ∙ sym p.1))
-    differs (inr p) lacks rest = rw p.0 rest
+    by : (r : Option SecretRow) → row_named rows name ≡ r → option_map (λ r. r.serial) r ≡ Some serial
+        → row_with rows serial ≡ r
+    by None f g = absurd (cc)
+    by (Some row) f g =
+        let same : row.serial ≡ serial = cc in
+        subst (λ n. row_with rows n ≡ Some row) same
+        (row_with_own rows 0 rising.0 row rising.1 (named_in rows name row f))
+
+pub named_none : (rows : List SecretRow) (name : List ℕ) → serial_of (by_name rows) name ≡ None
+    → row_named rows name ≡ None
+named_none rows name e = by (row_named rows name) (sym (serial_named rows name) ∙ e)
+  where
+    by : (r : Option SecretRow) → option_map (λ r. r.serial) r ≡ None → r ≡ None
+    by None g = refl
+    by (Some row) g = absurd (cc)
+
+pub named_absent : (rows : List SecretRow) (name : List ℕ) → row_named rows name ≡ None
+    → serial_of (by_name rows) name ≡ None
+named_absent rows name e = serial_named rows name ∙ ap (option_map (λ r. r.serial)) e
+
+pub by_name_push : (rows : List SecretRow) (row : SecretRow)
+    → by_name (rows ++ row ∷ []) ≡ by_name rows ++ (row.name, row.serial) ∷ []
+by_name_push [] row = refl
+by_name_push (r ∷ rs) row = ap (λ ps. (r.name, r.serial) ∷ ps) (by_name_push rs row)
+
+-- a row in the place of one with its name
+pub by_name_replaced : (rows : List SecretRow) (row : SecretRow) → row_names (replaced rows row) ≡ row_names rows
+    → by_name (replaced rows row) ≡ by_name rows
+by_name_replaced [] row e = refl
+by_name_replaced (r ∷ rs) row e = by (eqb r.serial row.serial) refl e (by_name_replaced rs row)
+  where
+    by : (b : Bool) → b ≡ eqb r.serial row.serial
+        → row_names (cond b (row ∷ rs) (r ∷ replaced rs row)) ≡ r.name ∷ row_names rs
+        → (row_names (replaced rs row) ≡ row_names rs → by_name (replaced rs row) ≡ by_name rs)
+        → by_name (cond b (row ∷ rs) (r ∷ replaced rs row)) ≡ (r.name, r.serial) ∷ by_name rs
+    by true s e rest =
+        let name : row.name ≡ r.name = cc in
+        let serial : row.serial ≡ r.serial = sym (eqb-true r.serial row.serial (sym s)) in
+        rw (name, serial) refl
+    by false s e rest = let same : row_names (replaced rs row) ≡ row_names rs = cc in
+        ap (λ ps. (r.name, r.serial) ∷ ps) (rest same)
+
+-- the names of the rows that are not gone
+names_swept : (rows qs : List SecretRow) (moment : Moment)
+    → ((q : SecretRow) → IsIn qs q → row_with rows q.serial ≡ Some q)
+    → filter (λ (p : List ℕ × ℕ). stays (row_with rows p.1) moment) (by_name qs) ≡ by_name (swept qs moment)
+names_swept rows [] moment own = refl
+names_swept rows (q ∷ qs) moment own =
+    rw (own q (inl refl)) (by (is_gone q moment) (names_swept rows qs moment (λ p i. own p (inr i))))
+  where
+    by : (b : Bool)
+        → filter (λ (p : List ℕ × ℕ). stays (row_with rows p.1) moment) (by_name qs) ≡ by_name (swept qs moment)
+        → cond (not b)
+        ((q.name, q.serial) ∷ filter (λ (p : List ℕ × ℕ). stays (row_with rows p.1) moment) (by_name qs))
+        (filter (λ (p : List ℕ × ℕ). stays (row_with rows p.1) moment) (by_name qs))
+        ≡ by_name (cond b (swept qs moment) (q ∷ swept qs moment))
+    by true rest = rest
+    by false rest = ap (λ ps. (q.name, q.serial) ∷ ps) rest
+
+pub by_name_swept : (rows : List SecretRow) (moment : Moment) → IsRising rows
+    → filter (λ (p : List ℕ × ℕ). stays (row_with rows p.1) moment) (by_name rows) ≡ by_name (swept rows moment)
+by_name_swept rows moment rising =
+    names_swept rows rows moment (λ q i. row_with_own rows 0 rising.0 q rising.1 i)
+
+-- the names without that of a row that was dropped
+with_lacks : (rows : List SecretRow) (serial : ℕ) (row : SecretRow) (name : List ℕ)
+    → row_with rows serial ≡ Some row → is_among (row_names rows) name ≡ false → same_text row.name name ≡ false
+with_lacks [] serial row name e lacks = absurd (cc)
+with_lacks (r ∷ rs) serial row name e lacks =
+    by (eqb r.serial serial) (same_text r.name name) refl e lacks (with_lacks rs serial row name)
+  where
+    by : (b s : Bool) → s ≡ same_text r.name name → cond b (Some r) (row_with rs serial) ≡ Some row
+        → (s || is_among (row_names rs) name) ≡ false
+        → (row_with rs serial ≡ Some row → is_among (row_names rs) name ≡ false → same_text row.name name ≡ false)
+        → same_text row.name name ≡ false
+    by b true t e lacks rest = absurd (false≢true (sym lacks))
+    by true false t e lacks rest = let same : r ≡ row = cc in ap (λ q. same_text q.name name) (sym same) ∙ sym t
+    by false false t e lacks rest = rest e lacks
+
+turned : (a b : List ℕ) → same_text b a ≡ false → same_text a b ≡ false
+turned a b h = by (same_text_tells a b)
+  where
+    by : ((same_text a b ≡ true) × (a ≡ b)) ⊎ ((same_text a b ≡ false) × (a ≢ b)) → same_text a b ≡ false
+    by (inl p) = absurd (false≢true (sym h ∙ ap (λ t. same_text t a) (sym p.1) ∙ same_text_itself a))
+    by (inr p) = p.0
+
+dropped_from : (rows : List SecretRow) (serial low next : ℕ) (row : SecretRow)
+    → rises low (row_serials rows) next ≡ true → once (row_names rows) ≡ true → row_with rows serial ≡ Some row
+    → without_name (by_name rows) row.name ≡ by_name (dropped rows serial)
+dropped_from [] serial low next row h names e = absurd (cc)
+dropped_from (r ∷ rs) serial low next row h names e =
+    let parts = and_parts (leb low r.serial) (rises (r.serial + 1) (row_serials rs) next) h in
+    let each = and_parts (not (is_among (row_names rs) r.name)) (once (row_names rs)) names in
+    by (eqb r.serial serial) refl e (dropped_above rs serial (r.serial + 1) next parts.1)
+    (λ f. with_lacks rs serial row r.name f (lacks_all (row_names rs) r.name each.0))
+    (dropped_from rs serial (r.serial + 1) next row parts.1 each.1)
+  where
+    by : (b : Bool) → b ≡ eqb r.serial serial → cond b (Some r) (row_with rs serial) ≡ Some row
+        → (serial < r.serial + 1 → dropped rs serial ≡ rs)
+        → (row_with rs serial ≡ Some row → same_text row.name r.name ≡ false)
+        → (row_with rs serial ≡ Some row → without_name (by_name rs) row.name ≡ by_name (dropped rs serial))
+        → without_name ((r.name, r.serial) ∷ by_name rs) row.name ≡ by_name
+        (cond b (dropped rs serial) (r ∷ dropped rs serial))
+    by true t e above other rest =
+        let same : r ≡ row = cc in
+        let serials : r.serial ≡ serial = eqb-true r.serial serial (sym t) in
+        rw (ap (λ q. same_text q.name row.name) same ∙ same_text_itself row.name)
+        (ap by_name (sym (above (omega (arith, serials)))))
+    by false t e above other rest =
+        rw (turned r.name row.name (other e)) (ap (λ ps. (r.name, r.serial) ∷ ps) (rest e))
+
+pub by_name_dropped : (rows : List SecretRow) (serial : ℕ) (row : SecretRow) → IsRising rows
+    → once (row_names rows) ≡ true → row_with rows serial ≡ Some row
+    → without_name (by_name rows) row.name ≡ by_name (dropped rows serial)
+by_name_dropped rows serial row rising names e = dropped_from rows serial 0 rising.0 row rising.1 names e
+
+pub dropped_absent : (rows : List SecretRow) (serial : ℕ) → row_with rows serial ≡ None → dropped rows serial ≡ rows
+dropped_absent [] serial none = refl
+dropped_absent (r ∷ rs) serial none = by (eqb r.serial serial) none (dropped_absent rs serial)
+  where
+    by : (b : Bool) → cond b (Some r) (row_with rs serial) ≡ None
+        → (row_with rs serial ≡ None → dropped rs serial ≡ rs) → cond b (dropped rs serial) (r ∷ dropped rs serial) ≡
+        r ∷ rs
+    by true none rest = absurd (cc)
+    by false none rest = ap (λ qs. r ∷ qs) (rest none)
+
+pub by_name_without : (rows : List SecretRow) (serial : ℕ) (row : Option SecretRow) → IsRising rows
+    → once (row_names rows) ≡ true → row ≡ row_with rows serial
+    → without_row (by_name rows) row ≡ by_name (dropped rows serial)
+by_name_without rows serial None rising names e = ap by_name (sym (dropped_absent rows serial (sym e)))
+by_name_without rows serial (Some row) rising names e = by_name_dropped rows serial row rising names (sym e)
+
+pub by_name_count : (rows : List SecretRow) → length (by_name rows) ≡ length rows
+by_name_count [] = refl
+by_name_count (r ∷ rs) = ap suc (by_name_count rs)
 
 -- ---- a test that only rows of one name pass
 

@@ -44,7 +44,7 @@ swept_rises (r ∷ rs) moment low next h =
     by true gone stays = gone (rises_past low r.serial (row_serials rs) next h)
     by false gone stays = rises_on low r.serial (row_serials rs) (row_serials (swept rs moment)) next h stays
 
-dropped_rises : (rows : List SecretRow) (serial low next : ℕ) → rises low (row_serials rows) next ≡ true
+pub dropped_rises : (rows : List SecretRow) (serial low next : ℕ) → rises low (row_serials rows) next ≡ true
     → rises low (row_serials (dropped rows serial)) next ≡ true
 dropped_rises [] serial low next h = h
 dropped_rises (r ∷ rs) serial low next h =
@@ -57,7 +57,7 @@ dropped_rises (r ∷ rs) serial low next h =
     by true gone stays = gone (rises_past low r.serial (row_serials rs) next h)
     by false gone stays = rises_on low r.serial (row_serials rs) (row_serials (dropped rs serial)) next h stays
 
-replaced_serials : (rows : List SecretRow) (row : SecretRow) → row_serials (replaced rows row) ≡ row_serials rows
+pub replaced_serials : (rows : List SecretRow) (row : SecretRow) → row_serials (replaced rows row) ≡ row_serials rows
 replaced_serials [] row = refl
 replaced_serials (r ∷ rs) row = by (eqb r.serial row.serial) refl (replaced_serials rs row)
   where

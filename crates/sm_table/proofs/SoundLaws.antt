@@ -83,7 +83,7 @@ changed_each rows Nothing new each = each
 
 -- ---- how many rows
 
-swept_fewer : (rows : List SecretRow) (moment : Moment) → length (swept rows moment) ≤ length rows
+pub swept_fewer : (rows : List SecretRow) (moment : Moment) → length (swept rows moment) ≤ length rows
 swept_fewer [] moment = omega arith
 swept_fewer (r ∷ rs) moment = grind (arith, common_steps, swept_fewer rs moment)
 

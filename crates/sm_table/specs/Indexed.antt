@@ -1,15 +1,13 @@
--- Rows with an index of their names, the earliest date at which one of them is gone, and room that doubles.
-use Rattle.std.specs.Prelude.{◌≡◌, ℕ, zero, suc, ◌+◌, ◌<◌, ◌≤◌, Bool, true, false, not, ◌&&◌, nat_eq, nat_le, List, [], ◌∷◌, length, Option, Some, None, IsSome, IfSome, vec_len, vec_capacity, if◌then◌else◌}
+-- Rows by their serials and by their names, the earliest date at which one of them is gone, and the room for more.
+use Rattle.std.specs.Prelude.{◌≡◌, ℕ, zero, suc, ◌+◌, ◌-◌, ◌≤◌, Bool, true, false, not, ◌&&◌, nat_eq, nat_le, min, List, [], ◌∷◌, length, Option, Some, None, if◌then◌else◌}
 use Rattle.sm_base.specs.declared.moment.Moment.{Moment}
-use Rattle.sm_model.specs.declared.entry.Change.{Change}
-use Rattle.sm_model.specs.declared.entry.Change.TheVariants.{Add, Replace, Drop, Nothing}
 use Rattle.sm_model.specs.declared.rows.SecretRow.{SecretRow}
 use Rattle.sm_model.specs.Due.{is_reached}
 use Rattle.sm_table.specs.declared.indexed.Indexed.{Indexed}
 use Rattle.sm_table.specs.declared.indexed.Room.{Room}
 use Rattle.sm_table.specs.Sweep.{is_gone}
-use Rattle.sm_table.specs.Kept.{row_names}
-use Rattle.sm_table.specs.Index.{IsIndex}
+use Rattle.sm_table.specs.Maps.{by_name}
+use Rattle.sm_table.specs.Signs.{IsSigns, SignsRoom}
 
 -- no row is gone at the moment
 abbrev pub all_stay : List SecretRow → Moment → Bool
@@ -22,43 +20,35 @@ earlier None other = other
 earlier (Some date) None = Some date
 earlier (Some date) (Some other) = if nat_le date.0 other.0 then Some date else Some other
 
--- for how many rows there is room at least where there are so many: where none is left it doubles
-abbrev pub grown : ℕ → ℕ
-grown zero = zero
-grown (suc n) = if nat_eq (grown n) n then n + n + 1 else grown n
+-- for how many rows there is room behind the one with this serial, where it came with new room: for as many as
+-- were made before it, and at most for 1,023
+abbrev pub behind : ℕ → ℕ
+behind serial = min serial 1023
 
--- where there are so many rows there may be no room left
-abbrev pub IsFull : ℕ → Type 0
-IsFull count = grown count ≡ count
+-- for how many more rows there is room at least, where the next serial is this: where none is left, the next row comes
+-- with new room
+unfoldable pub room_left : ℕ → ℕ
+room_left zero = zero
+room_left (suc serial) = if nat_eq (room_left serial) 0 then behind serial else room_left serial - 1
 
--- there is room for so many rows and their names
+-- there is room for so many more rows
 pub record HasRoom (indexed : Indexed) (count : ℕ) : Type 0 where
-  pub rows : count ≤ vec_capacity indexed.rows
-  pub links : count ≤ vec_capacity indexed.index.links
-  pub chains : 0 < vec_len indexed.index.heads
+  pub rows : count ≤ indexed.rows.room
+  pub names : count ≤ indexed.names.room
+  pub signs : SignsRoom indexed.signs (length indexed.rows.list + count)
 
--- The index is one of the names of the rows, none is gone before the date, and there is the room that there has to be.
+-- the names and the signs are those of the rows, and none is gone before the date
 pub record IsIndexed (indexed : Indexed) : Type 0 where
-  pub index : IsIndex indexed.index.heads.items indexed.index.links.items (row_names indexed.rows.items)
-  pub stay : (moment : Moment) → is_reached indexed.soonest moment ≡ false → all_stay indexed.rows.items moment ≡ true
-  pub room : indexed.room ≡ grown (length indexed.rows.items)
-  pub rows_room : grown (length indexed.rows.items) ≤ vec_capacity indexed.rows
-  pub links_room : grown (length indexed.rows.items) ≤ vec_capacity indexed.index.links
+  pub names : indexed.names.pairs ≡ by_name indexed.rows.list
+  pub signs : IsSigns indexed.signs indexed.rows.list
+  pub stay : (moment : Moment) → is_reached indexed.soonest moment ≡ false → all_stay indexed.rows.list moment ≡ true
 
--- empty room for so many rows and their names
+-- empty room for so many rows
 pub record IsRoom (room : Room) (count : ℕ) : Type 0 where
-  pub empty : room.rows.items ≡ []
-  pub rows : count ≤ vec_capacity room.rows
-  pub links : count ≤ vec_capacity room.index.links
-  pub chains : 0 < vec_len room.index.heads
-
-abbrev pub adds : Change → Bool
-adds (Add row) = true
-adds (Replace row) = false
-adds (Drop serial) = false
-adds Nothing = false
-
--- the room for a change of so many rows: where it adds one and no room is left there is some, and that is for one more
-pub record IsRoomFor (change : Change) (count : ℕ) (room : Option Room) : Type 0 where
-  pub needed : adds change ≡ true → IsFull count → IsSome room
-  pub enough : IfSome room (λ r. IsRoom r (grown (suc count)))
+  pub no_rows : room.rows.list ≡ []
+  pub no_names : room.names.pairs ≡ []
+  pub no_jobs : room.signs.jobs.items ≡ []
+  pub no_dates : room.signs.dates.items ≡ []
+  pub rows : count ≤ room.rows.room
+  pub names : count ≤ room.names.room
+  pub signs : SignsRoom room.signs count

@@ -5,4 +5,9 @@ pub mod Ready
 pub mod Kept
 pub mod Sound
 pub mod Index
+pub mod Maps
+pub mod Ordered
+pub mod Jobs
+pub mod Dates
+pub mod Signs
 pub mod Indexed

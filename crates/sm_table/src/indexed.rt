@@ -1,112 +1,174 @@
-//! Rows with an index of their names and the earliest date at which one of them is gone.
-ghost use Rattle.std.specs.Prelude.{◌≡◌, ◌+◌, ◌<◌, ◌≤◌, ◌^◌, ℕ, suc, false, true, None, [], ◌∷◌, ◌++◌, length, nat_eq, if◌then◌else◌, IsTrue, IsSome, IfOk, IfSome, vec_len, vec_capacity, option_copied};
-ghost use Rattle.std.specs.Vec.{vec_ptr};
-ghost use Rattle.sm_base.specs.declared.moment.Moment.{Moment};
-ghost use Rattle.sm_model.specs.Due.{is_reached};
+//! Rows, found by their serials and their names, and the earliest date at which one of them is gone.
+ghost use Rattle.std.specs.Prelude.{◌≡◌, ◌+◌, ◌<◌, ◌≤◌, ◌^◌, ℕ, suc, None, [], ◌∷◌, ◌++◌, length, IsTrue, IsSome, IfOk, IfSome, option_copied, nat_eq, if◌then◌else◌, ◌-◌};
 ghost use Rattle.sm_versions.specs.Texts.{once};
 ghost use Rattle.sm_table.specs.Sweep.{swept};
 ghost use Rattle.sm_table.specs.Found.{row_named};
 ghost use Rattle.sm_table.specs.Changes.{replaced, dropped};
 ghost use Rattle.sm_table.specs.Kept.{row_names, IsRising};
-ghost use Rattle.sm_table.specs.Indexed.{IsFull, all_stay, earlier, grown, HasRoom, IsIndexed, IsRoom, IsRoomFor};
+ghost use Rattle.sm_table.specs.Indexed.{behind, room_left, HasRoom, IsIndexed, IsRoom};
+ghost use Rattle.sm_table.specs.Maps.{without_row};
+ghost use Rattle.sm_table.specs.Ready.{CanAdd, IsAdded};
+ghost use Rattle.sm_table.specs.Signs.{SignsRoom};
+ghost use Rattle.sm_table.specs.Dates.{first_due};
 
-use crate::edits::{self, is_reached};
-use crate::index::Index;
-use crate::search;
-use sm_model::{Change, Moment, NoMemory, SecretRow};
+use crate::dates;
+use crate::deletion::earlier;
+use crate::kept::Kept;
+use crate::name_map::NameMap;
+use crate::row_map::RowMap;
+use crate::signs::Signs;
+use sm_model::{Moment, NoMemory, SecretRow};
+use sm_versions::is_reached;
 use std::alloc::Global;
+
+/// The most rows for which there is room behind one that came with new room.
+const MOST_BEHIND: u64 = 1023;
 
 /// Rows in order of creation.
 #[derive(Drop)]
 pub struct Indexed {
-    pub rows: Vec<SecretRow>,
-    pub index: Index,
+    pub rows: RowMap,
+    pub names: NameMap,
+    pub signs: Signs,
     /// No row is gone before this date.
     pub soonest: Option<Moment>,
-    /// For how many rows there has to be room.
-    pub room: usize,
+    /// For how many more rows there is room.
+    pub left: u64,
 }
 
-/// Empty room, into which the rows move where they have none left.
+/// Empty room, into which the rows move where none is left.
 #[derive(Drop)]
 pub struct Room {
-    pub rows: Vec<SecretRow>,
-    pub index: Index,
+    pub rows: RowMap,
+    pub names: NameMap,
+    pub signs: Signs,
+}
+
+/// A row to be added, and the memory that it takes.
+#[derive(Drop)]
+pub struct Added {
+    pub kept: Kept,
+    pub name: Vec<u8>,
+    /// Where no room is left, room for it and all others.
+    pub room: Option<Room>,
+}
+
+/// A change with the memory that it takes.
+#[derive(Drop)]
+pub enum Step {
+    Add(Added),
+    Replace(Kept),
+    Drop(u64),
+    Nothing,
 }
 
 impl Indexed {
     /// No rows. It takes no memory.
     pub fn new(alloc: Global) -> Indexed
         ensures kept { IsIndexed result }
-        ensures rows { result.rows.items ≡ [] }
+        ensures rows { result.rows.list ≡ [] }
+        ensures left { result.left ≡ 0 }
     {
         Indexed {
-            rows: Vec::new(alloc),
-            index: Index::new(alloc),
+            rows: RowMap::new(alloc),
+            names: NameMap::new(alloc),
+            signs: Signs::new(alloc),
             soonest: None,
-            room: 0,
+            left: 0,
         }
     }
 
     /// The row with the name, whether it is gone or not.
+    #[tactic(auto, using(crate::proofs::IndexedLemmas::named_some, crate::proofs::IndexedLemmas::named_none))]
     pub fn named(&self, name: &[u8]) -> Option<&SecretRow>
         requires kept { IsIndexed self.now }
-        requires names { IsTrue (once (row_names self.now.rows.items)) }
-        ensures { option_copied result ≡ row_named self.now.rows.items name.now }
+        requires rising { IsRising self.now.rows.list }
+        ensures { option_copied result ≡ row_named self.now.rows.list name.now }
     {
-        match self.index.place(self.rows.as_slice(), name) {
-            Some(i) => Some(&self.rows[i]),
+        match self.names.serial_of(name) {
+            Some(serial) => self.rows.get(serial),
             None => None,
         }
     }
 
     /// How many rows are there at the moment.
+    #[tactic(auto, using(crate::proofs::IndexedLemmas::stay_swept))]
     pub fn count_at(&self, moment: Moment) -> usize
         requires { IsIndexed self.now }
-        ensures { result ≡ length (swept self.now.rows.items moment) }
+        ensures { result ≡ length (swept self.now.rows.list moment) }
     {
         if is_reached(self.soonest, moment) {
-            search::count(self.rows.as_slice(), moment)
+            self.rows.count_at(moment)
         } else {
             self.rows.len()
         }
     }
 
-    /// The room that the change needs: twice as much, where it adds a row and none is left.
-    pub fn room_for(&self, alloc: Global, change: &Change) -> Result<Option<Room>, NoMemory>
-        requires { IsIndexed self.now }
-        ensures room { IfOk result (IsRoomFor change.now (length self.now.rows.items)) }
-        ensures only { IfOk result (λ room. IsSome room → IsFull (length self.now.rows.items)) }
+    /// The serial of the first row that is due at the moment for a token that none of its versions has.
+    pub fn first_due(&self, moment: Moment) -> Option<u64>
+        requires kept { IsIndexed self.now }
+        requires rising { IsRising self.now.rows.list }
+        ensures { result ≡ first_due self.now.rows.list moment }
     {
-        match change {
-            Change::Add(_) => self.more(alloc),
-            Change::Replace(_) | Change::Drop(_) | Change::Nothing => Ok(None),
-        }
+        dates::lowest_due(&self.rows, moment, self.signs.dates.as_slice())
     }
 
-    /// Twice as much room, where none is left.
-    fn more(&self, alloc: Global) -> Result<Option<Room>, NoMemory>
-        requires { IsIndexed self.now }
-        ensures needed { IfOk result (λ room. IsFull (length self.now.rows.items) → IsSome room) }
-        ensures enough { IfOk result (λ room. IfSome room (λ r. IsRoom r (grown (suc (length self.now.rows.items))))) }
-        ensures only { IfOk result (λ room. IsSome room → IsFull (length self.now.rows.items)) }
+    /// A row to be added, with all the memory that this takes.
+    pub fn added(&self, alloc: Global, row: SecretRow) -> Result<Added, NoMemory>
+        requires { self.now.left ≡ room_left row.serial }
+        ensures row { IfOk result (λ added. added.kept ≡ row) }
+        ensures brought { IfOk result (λ added. IsAdded added row.serial (length self.now.rows.list)) }
     {
-        let count = self.rows.len();
-        if count < self.room {
+        let room = self.room_behind(alloc, row.serial)?;
+        let name = Vec::from_slice(alloc, row.name.as_text().as_bytes())?;
+        let kept = Kept::of(alloc, row)?;
+        Ok(Added { kept, name, room })
+    }
+
+    /// Room for all rows, the one with the serial, and those behind it that come without new room, where none is left.
+    fn room_behind(&self, alloc: Global, serial: u64) -> Result<Option<Room>, NoMemory>
+        requires { self.now.left ≡ room_left serial }
+        ensures needed { IfOk result (λ room. room_left serial ≡ 0 → IsSome room) }
+        ensures enough { IfOk result (λ room. IfSome room
+            (λ r. IsRoom r (length self.now.rows.list + 1 + behind serial))) }
+        ensures only { IfOk result (λ room. IsSome room → room_left serial ≡ 0) }
+    {
+        if self.left > 0 {
             return Ok(None);
         }
-        let room = room_of(alloc, count + count + 1)?;
+        let room = Room::for_rows(alloc, self.rows.len() + 1 + behind(serial) as usize)?;
         Ok(Some(room))
     }
 
-    /// Moves the rows into the room, if there is some.
-    pub fn bring(&mut self, room: Option<Room>)
-        requires kept { IsIndexed self.old }
-        requires enough { IfSome room (λ r. IsRoom r (grown (suc (length self.old.rows.items)))) }
+    /// Adds a row at the end.
+    pub fn add(&mut self, added: Added)
+        requires { CanAdd self.old added }
         ensures kept { IsIndexed self.new }
-        ensures rows { self.new.rows.items ≡ self.old.rows.items }
-        ensures room { (IsFull (length self.old.rows.items) → IsSome room)
-            → HasRoom self.new (grown (suc (length self.old.rows.items))) }
+        ensures rows { self.new.rows.list ≡ self.old.rows.list ++ added.kept ∷ [] }
+        ensures left { self.new.left ≡ room_left (suc added.kept.serial) }
+        ensures room { HasRoom self.new (room_left (suc added.kept.serial)) }
+    {
+        let Added { kept, name, room } = added;
+        let serial = kept.row().serial;
+        self.make_room(room, serial);
+        self.soonest = earlier(self.soonest, kept.row().deletion);
+        self.left = left_behind(self.left, serial);
+        self.signs.add(&self.rows, kept.row());
+        self.names.add(name, serial);
+        self.rows.add(kept);
+    }
+
+    /// Moves the rows into the room, if there is some, so that there is room for the one with the serial and those
+    /// behind it that come without new room.
+    fn make_room(&mut self, room: Option<Room>, serial: u64)
+        requires kept { IsIndexed self.old }
+        requires left { HasRoom self.old (room_left serial) }
+        requires needed { room_left serial ≡ 0 → IsSome room }
+        requires enough { IfSome room (λ r. IsRoom r (length self.old.rows.list + 1 + behind serial)) }
+        ensures kept { IsIndexed self.new }
+        ensures rows { self.new.rows.list ≡ self.old.rows.list }
+        ensures left { self.new.left ≡ self.old.left }
+        ensures room { HasRoom self.new (suc (room_left (suc serial))) }
         ensures in_place { room ≡ None → self.new ≡ self.old }
     {
         match room {
@@ -118,143 +180,110 @@ impl Indexed {
     /// Moves the rows into the room.
     fn move_into(&mut self, room: Room)
         requires kept { IsIndexed self.old }
-        requires enough { IsRoom room (grown (suc (length self.old.rows.items))) }
+        requires room { IsRoom room (length self.old.rows.list) }
         ensures kept { IsIndexed self.new }
-        ensures rows { self.new.rows.items ≡ self.old.rows.items }
-        ensures room { HasRoom self.new (grown (suc (length self.old.rows.items))) }
+        ensures rows { self.new.rows.list ≡ self.old.rows.list }
+        ensures left { self.new.left ≡ self.old.left }
+        ensures rows_room { room.rows.room ≤ self.new.rows.room + length self.old.rows.list }
+        ensures names_room { room.names.room ≤ self.new.names.room + length self.old.rows.list }
+        ensures signs_room { (count : ℕ) → SignsRoom room.signs count → SignsRoom self.new.signs count }
     {
-        let Room { rows, mut index } = room;
-        let rows = edits::moved(&mut self.rows, rows);
-        index.fill(rows.as_slice());
+        let Room {
+            mut rows,
+            mut names,
+            signs,
+        } = room;
+        let signs = self.signs.moved(signs);
+        rows.take_all(&mut self.rows);
+        names.take_all(&mut self.names);
         self.rows = rows;
-        self.index = index;
+        self.names = names;
+        self.signs = signs;
     }
 
     /// Drops the rows whose deletion date is reached.
     pub fn sweep(&mut self, moment: Moment)
-        requires { IsIndexed self.old }
+        requires kept { IsIndexed self.old }
+        requires rising { IsRising self.old.rows.list }
         ensures kept { IsIndexed self.new }
-        ensures rows { self.new.rows.items ≡ swept self.old.rows.items moment }
+        ensures rows { self.new.rows.list ≡ swept self.old.rows.list moment }
+        ensures left { self.new.left ≡ self.old.left }
         ensures room { (count : ℕ) → HasRoom self.old count → HasRoom self.new count }
     {
         if is_reached(self.soonest, moment) {
-            edits::sweep(&mut self.rows, moment);
-            self.mend();
+            self.names.sweep(&self.rows, moment);
+            self.signs.drop_gone(&self.rows, moment);
+            self.rows.sweep(moment);
+            self.soonest = self.rows.soonest();
         }
     }
 
-    /// Makes all but the rows anew, where there are less of them.
-    fn mend(&mut self)
-        requires rows_room { grown (length self.old.rows.items) ≤ vec_capacity self.old.rows }
-        requires links_room { grown (length self.old.rows.items) ≤ vec_capacity self.old.index.links }
-        requires chains { 0 < length self.old.rows.items → 0 < vec_len self.old.index.heads }
+    /// Puts the row in the place of the one with its serial.
+    pub fn replace(&mut self, kept: Kept)
+        requires kept { IsIndexed self.old }
+        requires rising { IsRising self.old.rows.list }
+        requires names { row_names (replaced self.old.rows.list kept) ≡ row_names self.old.rows.list }
+        requires room { HasRoom self.old 0 }
         ensures kept { IsIndexed self.new }
-        ensures rows { self.new.rows.items ≡ self.old.rows.items }
+        ensures rows { self.new.rows.list ≡ replaced self.old.rows.list kept }
+        ensures left { self.new.left ≡ self.old.left }
         ensures room { (count : ℕ) → HasRoom self.old count → HasRoom self.new count }
     {
-        self.index.fill(self.rows.as_slice());
-        self.soonest = soonest(self.rows.as_slice());
-        self.room = grown(self.rows.len());
-    }
-
-    /// Adds a row at the end.
-    pub fn add(&mut self, row: SecretRow)
-        requires kept { IsIndexed self.old }
-        requires room { HasRoom self.old (grown (suc (length self.old.rows.items))) }
-        ensures kept { IsIndexed self.new }
-        ensures rows { self.new.rows.items ≡ self.old.rows.items ++ row ∷ [] }
-        ensures in_place { vec_ptr self.new.rows ≡ vec_ptr self.old.rows }
-    {
-        self.index.add(&row.name);
-        self.soonest = earlier(self.soonest, row.deletion);
-        self.room = next_room(self.room, self.rows.len());
-        self.rows.push_reserved(row);
-    }
-
-    /// Puts the row in the place of the one with its serial.
-    pub fn replace(&mut self, row: SecretRow)
-        requires kept { IsIndexed self.old }
-        requires rising { IsRising self.old.rows.items }
-        requires names { row_names (replaced self.old.rows.items row) ≡ row_names self.old.rows.items }
-        ensures kept { IsIndexed self.new }
-        ensures rows { self.new.rows.items ≡ replaced self.old.rows.items row }
-    {
-        let place = self
-            .index
-            .place(self.rows.as_slice(), row.name.as_text().as_bytes());
-        self.soonest = earlier(self.soonest, row.deletion);
-        edits::replace(&mut self.rows, place, row);
+        self.soonest = earlier(self.soonest, kept.row().deletion);
+        self.signs.replace(&self.rows, kept.row());
+        self.rows.replace(kept);
     }
 
     /// Drops the row with this serial.
     pub fn drop_row(&mut self, serial: u64)
-        requires { IsIndexed self.old }
+        requires kept { IsIndexed self.old }
+        requires rising { IsRising self.old.rows.list }
+        requires names { IsTrue (once (row_names self.old.rows.list)) }
+        requires room { HasRoom self.old 0 }
         ensures kept { IsIndexed self.new }
-        ensures rows { self.new.rows.items ≡ dropped self.old.rows.items serial }
+        ensures rows { self.new.rows.list ≡ dropped self.old.rows.list serial }
+        ensures left { self.new.left ≡ self.old.left }
+        ensures room { (count : ℕ) → HasRoom self.old count → HasRoom self.new count }
     {
-        edits::drop_row(&mut self.rows, serial);
-        self.mend();
+        drop_name(&mut self.names, self.rows.get(serial));
+        self.signs.remove(&self.rows, serial);
+        self.rows.remove(serial);
     }
 }
 
-/// Empty room for so many rows.
-fn room_of(alloc: Global, count: usize) -> Result<Room, NoMemory>
-    requires { 0 < count }
-    ensures { IfOk result (λ room. IsRoom room count) }
-{
-    let rows = Vec::with_capacity(alloc, count)?;
-    let index = Index::with_room(alloc, count)?;
-    Ok(Room { rows, index })
-}
-
-/// The earlier of two dates.
-fn earlier(date: Option<Moment>, other: Option<Moment>) -> Option<Moment>
-    ensures { result ≡ earlier date other }
-{
-    match (date, other) {
-        (None, other) => other,
-        (Some(date), None) => Some(date),
-        (Some(date), Some(other)) => {
-            if date.0 <= other.0 {
-                Some(date)
-            } else {
-                Some(other)
-            }
-        }
+impl Room {
+    /// Empty room for so many rows.
+    fn for_rows(alloc: Global, count: usize) -> Result<Room, NoMemory>
+        ensures { IfOk result (λ room. IsRoom room count) }
+    {
+        let rows = RowMap::with_room(alloc, count)?;
+        let names = NameMap::with_room(alloc, count)?;
+        let signs = Signs::with_room(alloc, count)?;
+        Ok(Room { rows, names, signs })
     }
 }
 
-/// The earliest date at which one of the rows is gone.
-fn soonest(rows: &[SecretRow]) -> Option<Moment>
-    ensures { (moment : Moment) → is_reached result moment ≡ false → all_stay rows.now moment ≡ true }
+/// Drops the name of the row, if there is one.
+fn drop_name(names: &mut NameMap, row: Option<&SecretRow>)
+    ensures pairs { names.new.pairs ≡ without_row names.old.pairs (option_copied row.entry) }
+    ensures room { names.old.room ≤ names.new.room }
 {
-    let mut date = None;
-    for row in rows {
-        date = earlier(date, row.deletion);
+    match row {
+        Some(row) => names.remove(row.name.as_text().as_bytes()),
+        None => {}
     }
-    date
 }
 
-/// For how many rows there has to be room where there are so many.
-fn grown(count: usize) -> usize
-    requires { count < 2 ^ 63 }
-    ensures { result ≡ grown count }
+/// For how many rows there is room behind the one with this serial, where it came with new room.
+fn behind(serial: u64) -> u64
+    ensures { result ≡ behind serial }
 {
-    let mut room = 0;
-    for there in 0..count {
-        room = next_room(room, there);
-    }
-    room
+    serial.min(MOST_BEHIND)
 }
 
-/// The same where there is one more.
-fn next_room(room: usize, count: usize) -> usize
-    requires { count < 2 ^ 63 }
-    ensures { result ≡ (if nat_eq room count then count + count + 1 else room) }
+/// For how many more rows there is room behind the one with this serial, where there was room for so many.
+fn left_behind(left: u64, serial: u64) -> u64
+    ensures { result ≡ (if nat_eq left 0 then behind serial else left - 1) }
 {
-    if room == count {
-        count + count + 1
-    } else {
-        room
-    }
+    if left == 0 { behind(serial) } else { left - 1 }
 }

@@ -2,10 +2,15 @@
 //! memory that the change needs.
 #![tactic(auto)]
 
-pub mod edits;
-pub mod index;
+pub mod dates;
+pub mod deletion;
 pub mod indexed;
+pub mod jobs;
+pub mod kept;
+pub mod name_map;
+pub mod row_map;
 pub mod search;
+pub mod signs;
 pub mod table;
 
 pub use table::{Prepared, Table};

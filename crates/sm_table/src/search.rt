@@ -1,16 +1,14 @@
-//! Look-ups in a list of rows.
-ghost use Rattle.std.specs.Prelude.{◌≡◌, ◌&&◌, not, nat_eq, length, IsTrue, IfSome, option_copied};
-ghost use Rattle.std.specs.List.{find};
+//! Look-ups by a name or an ARN.
+ghost use Rattle.std.specs.Prelude.{◌≡◌, ◌&&◌, not, IsTrue, option_copied};
 ghost use Rattle.sm_versions.specs.Texts.{once};
 ghost use Rattle.sm_base.specs.Texts.{same_text};
 ghost use Rattle.sm_table.specs.Sweep.{is_gone, swept};
 ghost use Rattle.sm_table.specs.Found.{row_named, row_with_arn, row_with_short_arn, row_by_arn, short_arn};
-ghost use Rattle.sm_table.specs.Changes.{row_with};
 ghost use Rattle.sm_table.specs.Index.{name_in};
 ghost use Rattle.sm_table.specs.Indexed.{IsIndexed};
-ghost use Rattle.sm_table.specs.Kept.{row_names, EachArn};
+ghost use Rattle.sm_table.specs.Kept.{row_names, IsRising, EachArn};
 
-use crate::edits::{has_serial, is_gone};
+use crate::deletion::is_gone;
 use crate::indexed::Indexed;
 use sm_model::{Arn, Moment, Name, SecretRow};
 
@@ -53,8 +51,9 @@ fn name_in(arn: &[u8]) -> &[u8]
 /// The row with the name at the moment.
 pub fn row_named<'a>(secrets: &'a Indexed, moment: Moment, name: &Name) -> Option<&'a SecretRow>
     requires kept { IsIndexed secrets.now }
-    requires names { IsTrue (once (row_names secrets.now.rows.items)) }
-    ensures { option_copied result ≡ row_named (swept secrets.now.rows.items moment) name.now }
+    requires rising { IsRising secrets.now.rows.list }
+    requires names { IsTrue (once (row_names secrets.now.rows.list)) }
+    ensures { option_copied result ≡ row_named (swept secrets.now.rows.list moment) name.now }
 {
     match secrets.named(name.as_text().as_bytes()) {
         Some(row) => {
@@ -85,9 +84,10 @@ fn is_with_short_arn(row: &SecretRow, moment: Moment, arn: &Arn) -> bool
 /// The row with the ARN at the moment.
 pub fn row_with_arn<'a>(secrets: &'a Indexed, moment: Moment, arn: &Arn) -> Option<&'a SecretRow>
     requires kept { IsIndexed secrets.now }
-    requires names { IsTrue (once (row_names secrets.now.rows.items)) }
-    requires arns { EachArn secrets.now.rows.items }
-    ensures { option_copied result ≡ row_with_arn (swept secrets.now.rows.items moment) arn.now }
+    requires rising { IsRising secrets.now.rows.list }
+    requires names { IsTrue (once (row_names secrets.now.rows.list)) }
+    requires arns { EachArn secrets.now.rows.list }
+    ensures { option_copied result ≡ row_with_arn (swept secrets.now.rows.list moment) arn.now }
 {
     match secrets.named(name_in(without_suffix(arn.as_text().as_bytes()))) {
         Some(row) => {
@@ -104,9 +104,10 @@ pub fn row_with_arn<'a>(secrets: &'a Indexed, moment: Moment, arn: &Arn) -> Opti
 /// The row with the ARN without what was drawn, at the moment.
 fn row_with_short_arn<'a>(secrets: &'a Indexed, moment: Moment, arn: &Arn) -> Option<&'a SecretRow>
     requires kept { IsIndexed secrets.now }
-    requires names { IsTrue (once (row_names secrets.now.rows.items)) }
-    requires arns { EachArn secrets.now.rows.items }
-    ensures { option_copied result ≡ row_with_short_arn (swept secrets.now.rows.items moment) arn.now }
+    requires rising { IsRising secrets.now.rows.list }
+    requires names { IsTrue (once (row_names secrets.now.rows.list)) }
+    requires arns { EachArn secrets.now.rows.list }
+    ensures { option_copied result ≡ row_with_short_arn (swept secrets.now.rows.list moment) arn.now }
 {
     match secrets.named(name_in(arn.as_text().as_bytes())) {
         Some(row) => {
@@ -124,36 +125,13 @@ fn row_with_short_arn<'a>(secrets: &'a Indexed, moment: Moment, arn: &Arn) -> Op
 /// drawn.
 pub fn row_by_arn<'a>(secrets: &'a Indexed, moment: Moment, arn: &Arn) -> Option<&'a SecretRow>
     requires kept { IsIndexed secrets.now }
-    requires names { IsTrue (once (row_names secrets.now.rows.items)) }
-    requires arns { EachArn secrets.now.rows.items }
-    ensures { option_copied result ≡ row_by_arn (swept secrets.now.rows.items moment) arn.now }
+    requires rising { IsRising secrets.now.rows.list }
+    requires names { IsTrue (once (row_names secrets.now.rows.list)) }
+    requires arns { EachArn secrets.now.rows.list }
+    ensures { option_copied result ≡ row_by_arn (swept secrets.now.rows.list moment) arn.now }
 {
     match row_with_arn(secrets, moment, arn) {
         Some(row) => Some(row),
         None => row_with_short_arn(secrets, moment, arn),
     }
-}
-
-/// How many rows are there at the moment.
-#[tactic(auto, using(crate::proofs::FoundLemmas::swept_count))]
-pub fn count(rows: &[SecretRow], moment: Moment) -> usize
-    ensures { result ≡ length (swept rows.now moment) }
-{
-    rows.iter().filter(|row| !is_gone(row, moment)).count()
-}
-
-/// The first row with this serial.
-fn first_with<'a>(rows: &'a [SecretRow], serial: u64) -> Option<&'a SecretRow>
-    ensures { option_copied result ≡ find (λ r. nat_eq r.serial serial) rows.now }
-{
-    rows.iter().find(|row| has_serial(row, serial))
-}
-
-/// The row with this serial.
-#[tactic(auto, using(crate::proofs::FoundLemmas::row_with_is_find))]
-pub fn row_with<'a>(rows: &'a [SecretRow], serial: u64) -> Option<&'a SecretRow>
-    ensures row { option_copied result ≡ row_with rows.now serial }
-    ensures serial { IfSome (option_copied result) (λ row. row.serial ≡ serial) }
-{
-    first_with(rows, serial)
 }

@@ -1,18 +1,23 @@
 //! The table of all secrets.
-ghost use Rattle.std.specs.Prelude.{◌≡◌, ℕ, [], IfOk, IfSome, length, option_copied};
+ghost use Rattle.std.specs.Prelude.{◌≡◌, ℕ, Some, [], IfOk, IfSome, length, option_copied, option_map};
 ghost use Rattle.sm_table.specs.Sweep.{sweep, swept};
 ghost use Rattle.sm_table.specs.Found.{found, found_arn, row_named};
 ghost use Rattle.sm_table.specs.Changes.{changed, CanMake, StandsAt, row_with, PreparedChange};
 ghost use Rattle.sm_table.specs.Kept.{RowsKept, ChangeKept, NamesKept, IsRowOf};
+ghost use Rattle.sm_table.specs.Ready.{change_of, HasBrought};
+ghost use Rattle.sm_table.specs.Jobs.{job_serials};
+ghost use Rattle.sm_table.specs.Dates.{first_due};
 ghost use Rattle.sm_table.specs.Sound.{Sound, ChangeSound};
+ghost use Rattle.sm_versions.specs.Find.{looked_up, lookup};
 ghost use Rattle.sm_versions.specs.Sound.{RowSound};
 
-use crate::indexed::{Indexed, Room};
+use crate::indexed::{Indexed, Step};
+use crate::kept::Kept;
 use crate::search;
-use sm_base::list::copies;
 use sm_model::{
-    Arn, Change, Copied, List, Moment, Name, NoMemory, RowList, Rows, SecretId, SecretRow,
+    Arn, Change, Label, List, Moment, Name, NoMemory, RowList, Rows, SecretId, SecretRow, Token,
 };
+use sm_versions::Found;
 use std::alloc::Global;
 use std::marker::Model;
 use std::snapshot::Snapshot;
@@ -42,7 +47,7 @@ impl Model for Table {
 
     ghost use Rattle.sm_table.specs.Ready.{IsTable};
 
-    ghost view = { λ t. record { next = t.next; secrets = t.secrets.rows.items } };
+    ghost view = { λ t. record { next = t.next; secrets = t.secrets.rows.list } };
 
     ghost invariant = { λ t. IsTable t.next t.secrets };
 }
@@ -51,21 +56,19 @@ impl Model for Table {
 /// of any table that has the rows that it was prepared for.
 #[derive(Drop)]
 pub struct Prepared {
-    change: Change,
-    /// Where a row is added and no room is left, room for it and the others.
-    room: Option<Room>,
+    step: Step,
     before: Snapshot<Table>,
 }
 
 impl Model for Prepared {
     ghost use Rattle.sm_table.specs.Changes.{PreparedChange};
-    ghost use Rattle.sm_table.specs.Ready.{IsReady};
+    ghost use Rattle.sm_table.specs.Ready.{change_of, IsReady};
 
     ghost Value = { PreparedChange };
 
-    ghost view = { λ p. record { before = p.before.value; change = p.change } };
+    ghost view = { λ p. record { before = p.before.value; change = change_of p.step } };
 
-    ghost invariant = { λ p. IsReady p.before.value p.change p.room };
+    ghost invariant = { λ p. IsReady p.before.value p.step };
 }
 
 impl Table {
@@ -93,7 +96,7 @@ impl Table {
     {
         Ok(Rows {
             next: self.next,
-            secrets: List::new(copies(self.alloc, self.secrets.rows.as_slice())?),
+            secrets: List::new(self.secrets.rows.copies(self.alloc)?),
         })
     }
 
@@ -101,6 +104,7 @@ impl Table {
     /// ARN before an ARN without the hyphen and the six characters at its end. It takes no memory.
     pub fn find(&self, id: &SecretId, moment: Moment) -> Option<&SecretRow>
         ensures found { option_copied result ≡ found self.now moment id.now }
+        ensures own { IfSome (option_copied result) (λ row. row_with self.now.secrets row.serial ≡ Some row) }
         ensures kept { RowsKept self.now → IfSome (option_copied result) (IsRowOf self.now moment) }
         ensures sound { Sound self.now → IfSome (option_copied result) RowSound }
     {
@@ -110,6 +114,7 @@ impl Table {
     /// The row with exactly this ARN, of those whose deletion date is not reached. It takes no memory.
     pub fn find_arn(&self, arn: &Arn, moment: Moment) -> Option<&SecretRow>
         ensures found { option_copied result ≡ found_arn self.now moment arn.now }
+        ensures own { IfSome (option_copied result) (λ row. row_with self.now.secrets row.serial ≡ Some row) }
         ensures exact { IfSome (option_copied result) (λ row. row.arn ≡ arn.now) }
         ensures kept { RowsKept self.now → IfSome (option_copied result) (IsRowOf self.now moment) }
         ensures sound { Sound self.now → IfSome (option_copied result) RowSound }
@@ -119,14 +124,16 @@ impl Table {
 
     /// The same as `find_arn`.
     fn find_with_arn(&self, arn: &Arn, moment: Moment) -> Option<&SecretRow>
-        ensures { option_copied result ≡ found_arn self.now moment arn.now }
+        ensures found { option_copied result ≡ found_arn self.now moment arn.now }
+        ensures own { IfSome (option_copied result) (λ row. row_with self.now.secrets row.serial ≡ Some row) }
     {
         search::row_with_arn(&self.secrets, moment, arn)
     }
 
     /// The same as `find`.
     fn find_named(&self, id: &SecretId, moment: Moment) -> Option<&SecretRow>
-        ensures { option_copied result ≡ found self.now moment id.now }
+        ensures found { option_copied result ≡ found self.now moment id.now }
+        ensures own { IfSome (option_copied result) (λ row. row_with self.now.secrets row.serial ≡ Some row) }
     {
         match id {
             SecretId::Name(name) => search::row_named(&self.secrets, moment, name),
@@ -153,7 +160,40 @@ impl Table {
         ensures row { option_copied result ≡ row_with self.now.secrets serial }
         ensures serial { IfSome (option_copied result) (λ row. row.serial ≡ serial) }
     {
-        search::row_with(self.secrets.rows.as_slice(), serial)
+        self.secrets.rows.get(serial)
+    }
+
+    /// The serials of the rows that have a job, in order of creation. It takes no memory.
+    pub fn jobs(&self) -> &[u64]
+        ensures jobs { result.now ≡ job_serials self.now.secrets }
+    {
+        self.secrets.signs.jobs.as_slice()
+    }
+
+    /// The serial of the first row that is due at the moment for a token that none of its versions has. It takes no
+    /// memory.
+    pub fn first_due(&self, moment: Moment) -> Option<u64>
+        ensures due { result ≡ first_due self.now.secrets moment }
+    {
+        self.secrets.first_due(moment)
+    }
+
+    /// What `find` of the row with this serial gives: its version that the id, the label or both name, or without them
+    /// the one with AWSCURRENT. It takes no memory.
+    pub fn find_version(
+        &self,
+        serial: u64,
+        id: Option<&Token>,
+        label: Option<&Label>,
+    ) -> Option<Found<'_>>
+        ensures version { option_map looked_up result
+            ≡ option_map (λ row. lookup row (option_copied id.entry) (option_copied label.entry))
+            (row_with self.now.secrets serial) }
+    {
+        match self.secrets.rows.kept(serial) {
+            Some(kept) => Some(kept.find_version(id, label)),
+            None => None,
+        }
     }
 
     /// Takes all the memory that the change needs. The rows stay.
@@ -162,13 +202,23 @@ impl Table {
         ensures prepared { IfOk result (λ p. p ≡ record { before = self.old; change = change }) }
         ensures rows { self.new ≡ self.old }
     {
-        let room = self.secrets.room_for(self.alloc, &change)?;
+        let step = self.step(change)?;
         let before = Snapshot::of(self);
-        Ok(Prepared {
-            change,
-            room,
-            before,
-        })
+        Ok(Prepared { step, before })
+    }
+
+    /// The change with the memory that it needs.
+    fn step(&self, change: Change) -> Result<Step, NoMemory>
+        requires { CanMake self.now change }
+        ensures change { IfOk result (λ step. change_of step ≡ change) }
+        ensures brought { IfOk result (HasBrought self.now) }
+    {
+        match change {
+            Change::Add(row) => Ok(Step::Add(self.secrets.added(self.alloc, row)?)),
+            Change::Replace(row) => Ok(Step::Replace(Kept::of(self.alloc, row)?)),
+            Change::Drop(serial) => Ok(Step::Drop(serial)),
+            Change::Nothing => Ok(Step::Nothing),
+        }
     }
 
     /// Drops the rows whose deletion date is reached, and then makes the change. It takes no memory.
@@ -190,21 +240,16 @@ impl Table {
         ensures rows { self.new ≡ changed (sweep self.old moment) prepared.change }
         ensures can { CanMake self.old prepared.change }
     {
-        let Prepared {
-            change,
-            room,
-            before: _,
-        } = prepared;
-        self.secrets.bring(room);
+        let Prepared { step, before: _ } = prepared;
         self.secrets.sweep(moment);
-        match change {
-            Change::Add(row) => {
-                self.secrets.add(row);
+        match step {
+            Step::Add(added) => {
+                self.secrets.add(added);
                 self.next += 1;
             }
-            Change::Replace(row) => self.secrets.replace(row),
-            Change::Drop(serial) => self.secrets.drop_row(serial),
-            Change::Nothing => {}
+            Step::Replace(kept) => self.secrets.replace(kept),
+            Step::Drop(serial) => self.secrets.drop_row(serial),
+            Step::Nothing => {}
         }
     }
 }
@@ -217,6 +262,6 @@ impl RowList for Table {
     }
 
     fn at(&self, i: usize) -> Option<&SecretRow> {
-        self.secrets.rows.get(i)
+        self.secrets.rows.at(i)
     }
 }

@@ -7,3 +7,5 @@ pub mod KeptLaws
 pub mod ArnLemmas
 pub mod PropLemmas
 pub mod SoundLaws
+pub mod DueLaws
+pub mod PlaceLaws

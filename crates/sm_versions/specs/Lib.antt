@@ -5,6 +5,7 @@ pub mod Put
 pub mod Move
 pub mod Settle
 pub mod Find
+pub mod Places
 pub mod Serials
 pub mod Kept
 pub mod Due

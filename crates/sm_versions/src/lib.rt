@@ -2,6 +2,8 @@
 //! values, moves of labels, look-ups, and the settling of a rotation under way.
 #![tactic(auto)]
 
+pub mod due;
+pub mod label_index;
 pub mod labels;
 pub mod lookup;
 pub mod moving;
@@ -10,6 +12,8 @@ pub mod settling;
 pub mod values;
 pub mod versions;
 
+pub use due::{due_date, is_due_for_some, is_reached};
+pub use label_index::LabelIndex;
 pub use lookup::{Found, find};
 pub use moving::{Moved, move_label};
 pub use settling::{is_live, settle};

@@ -27,7 +27,7 @@ fn version_labelled<'a>(row: &'a SecretRow, label: &Label) -> Option<&'a Version
 }
 
 /// What one name found.
-fn lookup_of(version: Option<&VersionRow>) -> Found<'_>
+pub fn lookup_of(version: Option<&VersionRow>) -> Found<'_>
     ensures { looked_up result ≡ lookup_of (option_copied version.entry) }
 {
     match version {
@@ -37,7 +37,10 @@ fn lookup_of(version: Option<&VersionRow>) -> Found<'_>
 }
 
 /// What two names found.
-fn lookup_of_both<'a>(version: Option<&'a VersionRow>, other: Option<&'a VersionRow>) -> Found<'a>
+pub fn lookup_of_both<'a>(
+    version: Option<&'a VersionRow>,
+    other: Option<&'a VersionRow>,
+) -> Found<'a>
     ensures { looked_up result ≡ lookup_of_both (option_copied version.entry) (option_copied other.entry) }
 {
     match version {

@@ -29,7 +29,7 @@ pub enum PutDone {
 }
 
 /// Whether no version may be added.
-fn is_full(row: &SecretRow) -> bool
+pub fn is_full(row: &SecretRow) -> bool
     ensures { result ≡ is_full row.now }
 {
     row.versions.len() >= VERSIONS_LIMIT as usize || row.next_version == NO_SERIAL

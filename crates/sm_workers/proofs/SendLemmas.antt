@@ -3,11 +3,13 @@ use denote.Param.Send.{IsSend, plain_send, recorded_send, sendable, struct_send}
 use denote.RattleType.{RattleType}
 use denote.Struct.Declared.{shape}
 use Rattle.std.proofs.Crossing.{crosses}
+use Rattle.sm_account.proofs.told.Told.TheSendSync as told
 use Rattle.sm_account.specs.contracts.account.Account as account
 use Rattle.sm_account.specs.contracts.books.Books as books
 use Rattle.sm_base.proofs.moment.Moment.TheSendSync as moment
+use Rattle.sm_claims.proofs.claims.Claim.TheSendSync as claim
 use Rattle.sm_disk.specs.declared.disk.Disk.{Ghosts as DiskGhosts}
-use Rattle.sm_model.proofs.entry.Mark.TheSendSync as mark
+use Rattle.sm_model.proofs.entry.Entry.TheSendSync as entry
 use Rattle.sm_rotator.specs.declared.rotator.Rotator.{Ghosts as RotatorGhosts}
 use Rattle.sm_store.proofs.store.Store.TheSendSync as store
 use Rattle.sm_table.proofs.table.Table.TheSendSync as table
@@ -20,14 +22,20 @@ books_field_send D d sent = struct_send (shape (books.the_type D d)) (
     (
       store.the_field_send D d sent,
       (
-        search (sendable, crosses, mark.the_send) depth 20,
+        search (sendable, crosses, entry.the_send) depth 20,
         (
-          moment.the_field_send,
+          search (sendable, crosses, claim.the_send) depth 20,
           (
-            plain_send _ _ _ _ _,
+            told.the_send,
             (
               plain_send _ _ _ _ _,
-              (plain_send _ _ _ _ _, (search sendable, (search sendable, (search sendable, tt)))),
+              (
+                moment.the_field_send,
+                (
+                  plain_send _ _ _ _ _,
+                  (plain_send _ _ _ _ _, (search sendable, (search sendable, (search sendable, tt)))),
+                ),
+              ),
             ),
           ),
         ),

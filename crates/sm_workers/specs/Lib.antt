@@ -7,3 +7,4 @@ pub mod Views
 pub mod Workers
 pub mod Given
 pub mod Closed
+pub mod RanAt

@@ -1,10 +1,10 @@
 //! Running workers at one account, each in a thread of its own.
-ghost use Rattle.std.specs.Prelude.{◌≡◌, ◌<◌, ◌≤◌, All, IfOk, IfErr, OnOk, OnErr, MatchBool, length, None};
+ghost use Rattle.std.specs.Prelude.{◌≡◌, ◌<◌, ◌≤◌, All, IfOk, IfErr, MatchBool, length, None};
 ghost use Rattle.sm_base.specs.declared.limits.TheConstants.{SEATS_LIMIT};
-ghost use Rattle.sm_account.specs.Accounts.{base, history, began, taken};
+ghost use Rattle.sm_account.specs.Accounts.{base};
 ghost use Rattle.sm_lock.specs.Handles.{built_with, IsIn};
 ghost use Rattle.sm_lock.specs.declared.gate.BuildRefused.TheVariants.{Memory};
-ghost use Rattle.sm_workers.specs.Closed.{Closed};
+ghost use Rattle.sm_workers.specs.RanAt.{RanAt};
 ghost use Rattle.sm_workers.specs.Views.{views_by};
 ghost use Rattle.sm_workers.specs.Workers.{AllWorked, HasNoPass, IsFresh, NoneFailed, SomeFailed};
 
@@ -75,18 +75,11 @@ where
     requires many { (1 ≤ length workers.old) × (length workers.old ≤ SEATS_LIMIT) }
     requires fresh { All IsFresh workers.old }
 
-    // All that stands in the last history behind that of the account before was done by the workers: the k-th, counted
-    // from 1, made the marks of seat k.
-    ensures closed { IfOk result (λ last.
-        Closed (views_by E.Edge E.C.Source E.C.Sink C.Clock W.Words R.Rotator) people.now (base account)
-        (history account) (history last) workers.old workers.new) }
-
-    // The account was opened over the same.
-    ensures origin { IfOk result (λ last. (taken last ≡ taken account) × (began last ≡ began account)
-        × (base last ≡ base account)) }
-    ensures left { OnOk result (All HasNoPass workers.new) }
-    ensures err { IfErr result (λ refused. refused ≡ Memory account) }
-    ensures stays { OnErr result (workers.new ≡ workers.old) }
+    // All that stands in the last history behind that of the account before was done by the workers.
+    ensures ran { IfOk result (λ last.
+        RanAt (views_by E.Edge E.C.Source E.C.Sink C.Clock W.Words R.Rotator) people.now account last
+        workers.old workers.new) }
+    ensures err { IfErr result (λ refused. (refused ≡ Memory account) × (workers.new ≡ workers.old)) }
 {
     match Gate::build(alloc, account, workers.len() as u32) {
         Ok((gate, passes)) => {

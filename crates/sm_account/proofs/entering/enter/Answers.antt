@@ -52,7 +52,7 @@ returns-in-Err g c =
     record {
       kept = room_kept books mid c.grow.ensures.same c.requires.kept;
       enters = tt;
-      leaves = room_taken books mid c.args.seat c.grow.ensures.same.rest c.grow.ensures.same.history;
+      leaves = room_taken books mid c.args.seat c.grow.ensures.same.rest;
     }
 
 pub returns-in-Memory : goal.returns-in-Memory

@@ -7,7 +7,7 @@ use Rattle.sm_table.specs.Sweep.{sweep}
 use Rattle.sm_store.specs.Stores as stores
 use Rattle.sm_account.specs.Books.{history_in, all_entries, disk_in}
 use Rattle.sm_account.specs.Crashes.{Throughout}
-use Rattle.sm_account.proofs.MakeLemmas.{entered_origin, entered_kept, failed_stays, faulted_origin, faulted_state, unmended_kept, torn_kept, behind_enter, behind_fault, behind_tear, behind_history}
+use Rattle.sm_account.proofs.MakeLemmas.{entered_origin, entered_kept, failed_stays, faulted_origin, faulted_state, unmended_kept, torn_kept, behind_enter, behind_entries, behind_fault, behind_tear, behind_history}
 use Rattle.sm_account.proofs.making.make.Goals as goal
 
 pub returns-in-Ok : goal.returns-in-Ok
@@ -28,6 +28,7 @@ returns-in-Ok g c =
           due.prepared.change c.requires.due rest history c.enter.ensures.sure
           (c.enter.ensures.sound (subst Sound (sym table) c.requires.kept.sound)
           (subst (λ t. ChangeSound (sweep t due.entry.moment) due.prepared.change) (sym table) c.requires.due.sound))
+          (behind_entries old mid new c.write_ready.ensures.rest due.entry c.enter.ensures.entries)
           c.in-Ok.ensures.answer c.write_ready.ensures.later;
       history = history;
       origin = entered_origin old new mid.store c.args.seat c.requires.kept c.write_ready.ensures.same due.entry

@@ -1,11 +1,11 @@
-use Rattle.std.proofs.Common.{IsSomeAnd, subst}
+use Rattle.std.proofs.Common.{IsSomeAnd, subst, arith}
 use Rattle.sm_claims.specs.Ready.{first_ready}
 use Rattle.sm_claims.specs.Works.{IsWorkOf}
 use Rattle.sm_account.specs.Books.{history_in}
 use Rattle.sm_account.specs.Deeds.{Leaves}
 use Rattle.sm_account.specs.NextWork.{NextAs, next_by}
 use Rattle.sm_account.specs.declared.next_work.NextWork.TheVariants as works
-use Rattle.sm_account.proofs.ClaimedLemmas.{none_is, work_is}
+use Rattle.sm_account.proofs.ClaimedLemmas.{none_is, ready_same, work_is}
 use Rattle.sm_account.proofs.DeedLemmas.{nothing_done}
 use Rattle.sm_account.proofs.MomentLemmas.{moment_is}
 use Rattle.sm_account.proofs.next_work.next_work.Goals as goal
@@ -16,9 +16,9 @@ ready_work-requires g c = c.requires.kept.sound
 pub take_up-requires : goal.take_up-requires
 take_up-requires g c = record {
   kept = c.requires.kept;
-  ready = subst
-      (λ marks. IsSomeAnd (first_ready marks (record { 0 = c.max.result }) c.args.books.now.table.secrets)
-      (λ row. IsWorkOf row c.in-Some.work)) c.as_slice.ensures.value
+  ready = subst (λ found. IsSomeAnd found (λ row. IsWorkOf row c.in-Some.work))
+      (ready_same c.args.books.now c.requires.kept (record { 0 = c.max.result }) c.as_slice.result.now
+      c.as_slice.ensures.value (omega (arith, c.max.ensures)))
       (work_is _ c.in-Ok.ready c.in-Some.work c.in-Some.is c.in-Ok.ensures);
 }
 
@@ -41,8 +41,10 @@ returns-in-None g c =
     record {
       kept = c.requires.kept;
       next = subst (λ m. NextAs works.None (first_ready (history_in old) m old.table.secrets)) at
-          (subst (λ marks. NextAs works.None (first_ready marks (record { 0 = c.max.result }) old.table.secrets))
-          c.as_slice.ensures.value (none_is _ c.in-Ok.ready c.in-None.is c.in-Ok.ensures));
+          (subst (NextAs works.None)
+          (ready_same old c.requires.kept (record { 0 = c.max.result }) c.as_slice.result.now c.as_slice.ensures.value
+          (omega (arith, c.max.ensures)))
+          (none_is _ c.in-Ok.ready c.in-None.is c.in-Ok.ensures));
       leaves = nothing_done old c.args.seat;
     }
 

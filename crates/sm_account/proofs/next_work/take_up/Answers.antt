@@ -12,7 +12,7 @@ returns-in-Ok g c =
     let work = c.args.work in
     record {
       kept = claimed_kept old new c.args.seat work c.args.moment c.claim.ensures.rest c.in-Ok.ensures.claimed
-          c.requires.kept c.requires.ready;
+          c.in-Ok.ensures.counted c.in-Ok.ensures.added c.requires.kept c.requires.ready;
       next = next_is (first_ready (history_in old) c.args.moment old.table.secrets) work c.requires.ready;
       leaves = claim_added old new c.args.seat c.claim.ensures.rest work.arn work.at c.args.moment
           c.in-Ok.ensures.claimed;
@@ -23,8 +23,7 @@ returns-in-Err g c =
     let old = c.args.books.now in
     let new = c.claim.new.books in
     record {
-      kept = room_kept old new (record { history = c.in-Err.ensures.same; rest = c.claim.ensures.rest })
-          c.requires.kept;
+      kept = room_kept old new c.in-Err.ensures.same c.requires.kept;
       next = tt;
-      leaves = room_taken old new c.args.seat c.claim.ensures.rest c.in-Err.ensures.same;
+      leaves = room_taken old new c.args.seat c.in-Err.ensures.same.rest;
     }

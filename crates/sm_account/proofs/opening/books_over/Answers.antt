@@ -4,25 +4,27 @@ use Rattle.sm_account.proofs.opening.books_over.Goals as goal
 
 pub returns : goal.returns
 returns g c = record {
-  kept = opened_kept c.args.store c.args.entries.now c.args.limit c.requires.opened c.args.standing _
+  kept = opened_kept c.args.store c.args.entries c.args.limit c.requires.opened c.args.standing _
       c.requires.replayed
       c.requires.limits
       (record {
         table = refl;
         store_is = refl;
-        marks = c.new.ensures.items;
+        entries_are = c.into_vec.ensures;
+        claims_are = c.new.ensures.items;
+        history_is = c.nothing.ensures;
+        marks = refl;
         last = refl;
         made = refl;
-        recovered = c.len.ensures;
         limit_is = refl;
-        taken = c.of.ensures;
-        failed = c.of-2.ensures;
+        taken = c.of-taken.ensures;
+        failed = c.of.ensures;
       })
       c.requires.later;
-  history_is = c.new.ensures.items;
-  taken_is = c.of.ensures;
+  history_is = c.nothing.ensures;
+  taken_is = c.of-taken.ensures;
   limit_is = refl;
   began_is = refl;
   store_is = refl;
-  sure = c.of-2.ensures;
+  sure = c.of.ensures;
 }

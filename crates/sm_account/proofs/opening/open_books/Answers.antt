@@ -30,20 +30,20 @@ split_at-requires g c =
 
 pub place_of-requires-clause-spelled : goal.place_of-requires-clause-spelled
 place_of-requires-clause-spelled g c =
-    let front : c.split_at.result.0.now ≡ take c.in-Err-Illegal.count c.args.entries.now =
+    let front : c.split_at.result.0.now ≡ take c.in-Err-Illegal.count c.args.entries =
     c.split_at.ensures.front ∙ ap (take c.in-Err-Illegal.count) c.as_slice-in-Err-Illegal.ensures in
     subst AreSpelled (sym front)
-    (spelled_take c.args.entries.now c.in-Err-Illegal.count c.requires.opened.holds.spelled)
+    (spelled_take c.args.entries c.in-Err-Illegal.count c.requires.opened.holds.spelled)
 
 pub place_of-requires-clause-fits : goal.place_of-requires-clause-fits
 place_of-requires-clause-fits g c =
-    let front : c.split_at.result.0.now ≡ take c.in-Err-Illegal.count c.args.entries.now =
+    let front : c.split_at.result.0.now ≡ take c.in-Err-Illegal.count c.args.entries =
     c.split_at.ensures.front ∙ ap (take c.in-Err-Illegal.count) c.as_slice-in-Err-Illegal.ensures in
     omega (
       arith,
       ap sizes_of front,
-      sizes_take c.args.entries.now c.in-Err-Illegal.count,
-      sizes_fit c.args.store c.args.entries.now c.args.limit c.requires.opened,
+      sizes_take c.args.entries c.in-Err-Illegal.count,
+      sizes_fit c.args.store c.args.entries c.args.limit c.requires.opened,
     )
 
 pub returns-in-Ok-clause-books : goal.returns-in-Ok-clause-books
@@ -51,7 +51,7 @@ returns-in-Ok-clause-books g c = c.books_over.ensures
 
 pub returns-in-Ok-place_of-clause-refused : goal.returns-in-Ok-place_of-clause-refused
 returns-in-Ok-place_of-clause-refused g c =
-    let front : c.split_at.result.0.now ≡ take c.in-Err-Illegal.count c.args.entries.now =
+    let front : c.split_at.result.0.now ≡ take c.in-Err-Illegal.count c.args.entries =
     c.split_at.ensures.front ∙ ap (take c.in-Err-Illegal.count) c.as_slice-in-Err-Illegal.ensures in
     let stops : StopsAfter c.as_slice.result.now c.in-Err-Illegal.count =
     rw c.in-Err-Illegal.field-0-is at c.in-Err-Illegal.ensures.stopped in (

@@ -53,7 +53,7 @@ returns-in-Summarize-clause-ran g c =
       sym c.in-Summarize.is,
       refl,
       refl,
-      subst (λ (b : Base). Runs (course b (history account)) status (before first) after) c.requires.base
+      subst (λ (b : Base). Runs (course b (history account)) status (before first) after) c.requires.base_is
           (runs_since (course (base account) (history account)) (before opened) after first c.requires.later status
           (shows_opened _ _ _ _ _ status s.4) runs),
       subst (Stands g.D.Disk story (began account)) (sym checked.ensures.disk) (checked.ensures.stands people),
@@ -64,7 +64,21 @@ pub returns-in-Summarize-clause-opened : goal.returns-in-Summarize-clause-opened
 returns-in-Summarize-clause-opened g c =
     shows_opened _ _ _ _ _ c.check_opened.result.0 c.check_opened.ensures.shows.4
 
-pub returns-in-Summarize-clause-disk_later : goal.returns-in-Summarize-clause-disk_later
-returns-in-Summarize-clause-disk_later g c =
-    subst (λ d. g.D.Disk.faults (disk c.args.account) ≤ g.D.Disk.faults d) (sym c.check_opened.ensures.disk)
-    (omega arith)
+pub returns-in-Summarize-clause-later : goal.returns-in-Summarize-clause-later
+returns-in-Summarize-clause-later g c = record {
+  source = omega arith;
+  sink = c.check_opened.ensures.sink_later;
+  disk = subst (λ d. g.D.Disk.faults (disk c.args.account) ≤ g.D.Disk.faults d) (sym c.check_opened.ensures.disk)
+      (omega arith);
+  random = omega arith;
+  rotator = omega arith;
+}
+
+pub returns-in-Answer-clause-later : goal.returns-in-Answer-clause-later
+returns-in-Answer-clause-later g c = record {
+  source = c.answer_opened.ensures.source_later;
+  sink = c.answer_opened.ensures.sink_later;
+  disk = c.answer_opened.ensures.disk_later;
+  random = c.answer_opened.ensures.random_later;
+  rotator = c.answer_opened.ensures.rotator_later;
+}

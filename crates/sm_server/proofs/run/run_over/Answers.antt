@@ -1,6 +1,7 @@
-use Rattle.std.proofs.Common.{◌≡◌, ◌≤◌, ℕ, List, inr, sym, refl, subst}
+use Rattle.std.proofs.Common.{◌≡◌, ◌≤◌, ℕ, List, inr, sym, refl, subst, arith}
 use Rattle.sm_model.specs.declared.entry.Entry.{Entry}
 use Rattle.sm_journal.specs.Openings.{ReadsAs}
+use Rattle.sm_account.specs.Accounts.{disk}
 use Rattle.sm_store.specs.Entries.{HasEntries}
 use Rattle.sm_store.specs.declared.files.TheConstants.{JOURNAL}
 use Rattle.sm_server.specs.declared.status.Status.{Status}
@@ -86,3 +87,29 @@ returns-in-Err-clause-disk_later g c =
     subst (λ d. g.D.Disk.faults c.args.disk ≤ g.D.Disk.faults d) (sym c.end_unopened.ensures.disk)
     (later_unopened g.D.Disk g.R.Rotator.replies c.args.task c.args.people.now c.args.disk c.in-Err.refused
     c.in-Err.ensures.refused)
+
+pub run_opened-requires : goal.run_opened-requires
+run_opened-requires g c =
+    let opened = c.in-Ok.ensures.opened in
+    record {
+      fresh = opened.history_is;
+      base_is = opened.base_is;
+      sure = opened.sure;
+      later = subst (λ d. g.D.Disk.faults d ≤ g.D.Disk.faults (disk c.in-Ok.account)) (sym opened.began_is)
+          c.in-Ok.ensures.later;
+    }
+
+pub returns-in-Ok-clause-source_later : goal.returns-in-Ok-clause-source_later
+returns-in-Ok-clause-source_later g c = c.run_opened.ensures.later.source
+
+pub returns-in-Ok-clause-sink_later : goal.returns-in-Ok-clause-sink_later
+returns-in-Ok-clause-sink_later g c = c.run_opened.ensures.later.sink
+
+pub returns-in-Ok-clause-disk_later : goal.returns-in-Ok-clause-disk_later
+returns-in-Ok-clause-disk_later g c = omega (arith, c.in-Ok.ensures.later, c.run_opened.ensures.later.disk)
+
+pub returns-in-Ok-clause-random_later : goal.returns-in-Ok-clause-random_later
+returns-in-Ok-clause-random_later g c = c.run_opened.ensures.later.random
+
+pub returns-in-Ok-clause-rotator_later : goal.returns-in-Ok-clause-rotator_later
+returns-in-Ok-clause-rotator_later g c = c.run_opened.ensures.later.rotator

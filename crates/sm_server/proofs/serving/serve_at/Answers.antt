@@ -3,12 +3,12 @@ use Rattle.sm_server.proofs.serving.serve_at.Goals as goal
 
 pub returns-in-Ok : goal.returns-in-Ok
 returns-in-Ok g c =
-    let origin = c.in-Ok.ensures.origin in
+    let at = c.in-Ok.ensures.ran in
     record {
       ran = record {
-        taken_stays = origin.0;
-        began_stays = origin.1;
-        base_stays = origin.2;
+        taken_stays = at.taken_stays;
+        began_stays = at.began_stays;
+        base_stays = at.base_stays;
         images = c.standing.ensures.images;
         legal = c.standing.ensures.legal;
         in_time = c.standing.ensures.in_time;
@@ -16,7 +16,7 @@ returns-in-Ok g c =
         told = c.standing.ensures.told;
         faults = c.standing.ensures.faults;
         ends = ends_closed _ g.D.Disk c.args.people.now c.args.workers.now c.run_at.new.workers c.args.account
-            c.in-Ok.account c.end_of_workers.result c.end_of_workers.ensures c.requires.empty origin.2
-            c.in-Ok.ensures.closed c.in-Ok.ensures.left;
+            c.in-Ok.account c.end_of_workers.result c.end_of_workers.ensures c.requires.empty at.base_stays
+            at.closed at.left;
       };
     }

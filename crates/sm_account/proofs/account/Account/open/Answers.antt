@@ -54,10 +54,10 @@ returns-in-Ok-open_books-clause-later g c =
     later_over c.in-Ok.store c.in-Ok.entries c.args.disk c.args.limit c.args.doors c.in-Ok-open_books.books
     c.over.result c.over.ensures.books are c.in-Ok.ensures.later
 
-pub returns-in-Ok-clause-refused : goal.returns-in-Ok-clause-refused
-returns-in-Ok-clause-refused g c =
+pub returns-in-Err-open_books-clause-refused : goal.returns-in-Err-open_books-clause-refused
+returns-in-Err-open_books-clause-refused g c =
     refused_over c.args.disk c.in-Ok.store c.in-Ok.entries c.in-Err-open_books.refused c.in-Ok.ensures.any_moment
     c.in-Ok.ensures.list c.in-Ok.ensures.later c.in-Err-open_books.ensures.refused
 
-pub returns-clause-refused : goal.returns-clause-refused
-returns-clause-refused g c = unopened g.D.Disk c.args.disk c.in-Err.refused c.in-Err.ensures.refused
+pub returns-in-Err-clause-refused : goal.returns-in-Err-clause-refused
+returns-in-Err-clause-refused g c = unopened g.D.Disk c.args.disk c.in-Err.refused c.in-Err.ensures.refused

@@ -1,24 +1,38 @@
-use Rattle.std.proofs.Common.{◌≤◌, arith, length}
-use Rattle.sm_table.proofs.IndexLemmas.{names_length}
-use Rattle.sm_table.proofs.IndexedLemmas.{grown_more}
+use Rattle.std.proofs.Common.{◌∙◌, length, option_copied, sym, ap, arith}
+use Rattle.sm_table.specs.Maps.{by_name, without_row}
+use Rattle.sm_table.proofs.ApartLemmas.{dropped_no_more}
+use Rattle.sm_table.proofs.IndexedLemmas.{by_name_without, stay_dropped}
 use Rattle.sm_table.proofs.indexed.Indexed.drop_row.Goals as goal
 
-pub mend-requires-clause-rows_room : goal.mend-requires-clause-rows_room
-mend-requires-clause-rows_room c =
-    let fewer : length c.drop_row.new.rows.items ≤ length c.args.self.now.rows.items =
-    omega (arith, c.drop_row.ensures.shorter) in
-    omega (arith, c.drop_row.ensures.room, c.requires.rows_room, grown_more _ _ fewer)
+pub returns-clause-kept : goal.returns-clause-kept
+returns-clause-kept c = record {
+  names = c.drop_name.ensures.pairs ∙ ap (λ ps. without_row ps (option_copied c.get.result)) c.requires.kept.names
+      ∙ by_name_without c.args.self.now.rows.list c.args.serial (option_copied c.get.result) c.requires.rising
+      c.requires.names c.get.ensures
+      ∙ ap by_name (sym c.remove-2.ensures.list);
+  signs = rw c.remove-2.ensures.list c.remove.ensures.signs;
+  stay = λ moment h. rw c.remove-2.ensures.list
+      (stay_dropped c.args.self.now.rows.list c.args.serial moment (c.requires.kept.stay moment h));
+}
 
-pub mend-requires-clause-links_room : goal.mend-requires-clause-links_room
-mend-requires-clause-links_room c =
-    let fewer : length c.drop_row.new.rows.items ≤ length c.args.self.now.rows.items =
-    omega (arith, c.drop_row.ensures.shorter) in
-    omega (arith, c.requires.links_room, grown_more _ _ fewer)
-
-pub mend-requires-clause-chains : goal.mend-requires-clause-chains
-mend-requires-clause-chains c = λ some.
-    omega (
-      arith,
-      c.requires.index.chains
-          (omega (arith, c.drop_row.ensures.shorter, names_length c.args.self.now.rows.items)),
-    )
+pub returns-clause-room : goal.returns-clause-room
+returns-clause-room c = λ count h.
+    let signs = c.remove.ensures.room _ h.signs in
+    record {
+      rows = omega (arith, h.rows, c.remove-2.ensures.room);
+      names = omega (arith, h.names, c.drop_name.ensures.room);
+      signs = record {
+        jobs = omega (
+          arith,
+          signs.jobs,
+          ap length c.remove-2.ensures.list,
+          dropped_no_more c.args.self.now.rows.list c.args.serial,
+        );
+        dates = omega (
+          arith,
+          signs.dates,
+          ap length c.remove-2.ensures.list,
+          dropped_no_more c.args.self.now.rows.list c.args.serial,
+        );
+      };
+    }

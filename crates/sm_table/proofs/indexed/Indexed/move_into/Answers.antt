@@ -1,32 +1,33 @@
-use Rattle.std.proofs.Common.{suc, ap, arith, length}
-use Rattle.sm_table.proofs.IndexedLemmas.{grown_holds, grown_step}
+use Rattle.std.proofs.Common.{length, ap, arith}
+use Rattle.sm_table.proofs.DateLemmas.{dates_fewer}
+use Rattle.sm_table.proofs.JobLemmas.{jobs_fewer}
+use Rattle.sm_table.proofs.IndexedLemmas.{by_name_count}
 use Rattle.sm_table.proofs.indexed.Indexed.move_into.Goals as goal
 
-pub moved-rows-requires-clause-room : goal.moved-rows-requires-clause-room
-moved-rows-requires-clause-room c =
-    omega (arith, c.requires.enough.rows, grown_holds (suc (length c.args.self.now.rows.items)))
+pub take_all-requires-2-clause-room : goal.take_all-requires-2-clause-room
+take_all-requires-2-clause-room c =
+    omega (arith, c.requires.room.names, ap length c.requires.kept.names, by_name_count c.args.self.now.rows.list)
 
-pub fill-requires-clause-room : goal.fill-requires-clause-room
-fill-requires-clause-room c =
+pub returns-clause-names_room : goal.returns-clause-names_room
+returns-clause-names_room c =
+    omega (arith, c.take_all-2.ensures.room, ap length c.requires.kept.names, by_name_count c.args.self.now.rows.list)
+
+pub moved-signs-requires-clause-jobs_room : goal.moved-signs-requires-clause-jobs_room
+moved-signs-requires-clause-jobs_room c =
     omega (
       arith,
-      ap length c.moved-rows.ensures.rows,
-      c.requires.enough.links,
-      grown_holds (suc (length c.args.self.now.rows.items)),
+      c.requires.room.signs.jobs,
+      ap length c.requires.kept.signs.jobs,
+      jobs_fewer
+          c.args.self.now.rows.list,
     )
 
-pub returns-clause-kept : goal.returns-clause-kept
-returns-clause-kept c = record {
-  index = rw (← c.as_slice.ensures.value) c.fill.ensures.index;
-  stay = λ moment h. rw c.moved-rows.ensures.rows (c.requires.kept.stay moment h);
-  room = rw c.moved-rows.ensures.rows c.requires.kept.room;
-  rows_room = rw c.moved-rows.ensures.rows
-      (omega (
-        arith,
-        c.moved-rows.ensures.room,
-        c.requires.enough.rows,
-        grown_step (length c.args.self.now.rows.items),
-      ));
-  links_room = rw c.moved-rows.ensures.rows
-      (omega (arith, c.fill.ensures.room, c.requires.enough.links, grown_step (length c.args.self.now.rows.items)));
-}
+pub moved-signs-requires-clause-dates_room : goal.moved-signs-requires-clause-dates_room
+moved-signs-requires-clause-dates_room c =
+    omega (
+      arith,
+      c.requires.room.signs.dates,
+      ap length c.requires.kept.signs.dates,
+      dates_fewer
+          c.args.self.now.rows.list,
+    )

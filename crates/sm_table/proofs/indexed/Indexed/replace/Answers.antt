@@ -1,26 +1,46 @@
-use Rattle.std.proofs.Common.{◌≡◌, ◌∙◌, sym, ap, arith, length}
+use Rattle.std.proofs.Common.{◌∙◌, length, sym, ap, subst, arith}
 use Rattle.sm_model.specs.Due.{is_reached}
 use Rattle.sm_table.specs.Changes.{replaced}
-use Rattle.sm_table.proofs.IndexLemmas.{names_length}
-use Rattle.sm_table.proofs.IndexedLemmas.{stay_put}
+use Rattle.sm_table.specs.Indexed.{earlier}
+use Rattle.sm_table.specs.Maps.{by_name}
+use Rattle.sm_table.specs.Signs.{IsSigns}
+use Rattle.sm_table.proofs.ApartLemmas.{replaced_no_more}
+use Rattle.sm_table.proofs.IndexedLemmas.{by_name_replaced, stay_put}
 use Rattle.sm_table.proofs.indexed.Indexed.replace.Goals as goal
 
 pub returns-clause-kept : goal.returns-clause-kept
-returns-clause-kept c =
-    let same : length c.replace.new.rows.items ≡ length c.args.self.now.rows.items =
-    omega (
-      arith,
-      ap length c.replace.ensures.rows,
-      ap length c.requires.names,
-      names_length (replaced c.args.self.now.rows.items c.args.row),
-      names_length c.args.self.now.rows.items,
-    ) in
+returns-clause-kept c = record {
+  names = c.requires.kept.names
+      ∙ sym (by_name_replaced c.args.self.now.rows.list c.args.kept c.requires.names)
+      ∙ ap by_name (sym c.replace-2.ensures.list);
+  signs = rw c.replace-2.ensures.list
+      (subst (λ r. IsSigns c.replace.new.self (replaced c.args.self.now.rows.list r)) c.row-2.ensures
+      c.replace.ensures.signs);
+  stay = λ moment h. rw c.replace-2.ensures.list
+      (stay_put c.args.self.now.rows.list c.args.kept c.args.self.now.soonest c.requires.kept.stay moment
+      (ap (λ d. is_reached d moment)
+      (ap (λ r. earlier c.args.self.now.soonest r.deletion) (sym c.row.ensures) ∙ sym c.earlier-self.ensures)
+      ∙ h));
+}
+
+pub returns-clause-room : goal.returns-clause-room
+returns-clause-room c = λ count h.
+    let signs = c.replace.ensures.room _ h.signs in
     record {
-      index = rw (c.replace.ensures.rows, c.requires.names) c.requires.kept.index;
-      stay = λ moment h. rw c.replace.ensures.rows
-          (stay_put c.args.self.now.rows.items c.args.row c.args.self.now.soonest c.requires.kept.stay moment
-          (ap (λ d. is_reached d moment) (sym c.earlier-self.ensures) ∙ h));
-      room = rw same c.requires.kept.room;
-      rows_room = rw same (omega (arith, c.requires.kept.rows_room, c.replace.ensures.room));
-      links_room = rw same c.requires.kept.links_room;
+      rows = omega (arith, h.rows, c.replace-2.ensures.room);
+      names = h.names;
+      signs = record {
+        jobs = omega (
+          arith,
+          signs.jobs,
+          ap length c.replace-2.ensures.list,
+          replaced_no_more c.args.self.now.rows.list c.args.kept,
+        );
+        dates = omega (
+          arith,
+          signs.dates,
+          ap length c.replace-2.ensures.list,
+          replaced_no_more c.args.self.now.rows.list c.args.kept,
+        );
+      };
     }

@@ -5,8 +5,10 @@ use Rattle.sm_table.proofs.table.Table.find.Goals as goal
 
 pub returns-clause-kept : goal.returns-clause-kept
 returns-clause-kept c =
-    found_are_rows c.args.self.now c.args.moment c.args.id.now (option_copied c.find_named.result) c.find_named.ensures
+    found_are_rows c.args.self.now c.args.moment c.args.id.now (option_copied c.find_named.result)
+    c.find_named.ensures.found
 
 pub returns-clause-sound : goal.returns-clause-sound
 returns-clause-sound c =
-    found_sound c.args.self.now c.args.moment c.args.id.now (option_copied c.find_named.result) c.find_named.ensures
+    found_sound c.args.self.now c.args.moment c.args.id.now (option_copied c.find_named.result)
+    c.find_named.ensures.found

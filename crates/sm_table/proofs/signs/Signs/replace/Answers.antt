@@ -1,0 +1,59 @@
+use Rattle.std.proofs.Common.{◌≡◌, ◌∙◌, List, ℕ, vec_capacity, sym, ap, subst}
+use Rattle.sm_table.specs.declared.dates.DueDate.{DueDate}
+use Rattle.sm_table.specs.Changes.{dropped}
+use Rattle.sm_table.specs.Jobs.{job_serials, with_job}
+use Rattle.sm_table.specs.Jobs as jobs
+use Rattle.sm_table.specs.Dates.{dates_of, with_date}
+use Rattle.sm_table.specs.Dates as dates
+use Rattle.sm_table.proofs.MapLemmas.{replaced_absent}
+use Rattle.sm_table.proofs.SignLemmas.{jobs_but, dates_but, jobs_put, dates_put}
+use Rattle.sm_table.proofs.signs.Signs.replace.Goals as goal
+
+pub turn-requires : goal.turn-requires
+turn-requires c = (
+  job_serials (dropped c.args.rows.now.list c.args.row.now.serial),
+  subst (λ b. jobs.IsBut c.args.self.now.jobs.items (vec_capacity c.args.self.now.jobs) b c.args.row.now.serial
+      (job_serials (dropped c.args.rows.now.list c.args.row.now.serial)))
+      (sym c.is_some.ensures)
+      (jobs_but c.args.rows.now.list c.args.row.now.serial c.in-Some.old.now c.requires.rising (sym c.in-Some.ensures)
+      (vec_capacity c.args.self.now.jobs) c.requires.room.jobs c.args.self.now.jobs.items c.requires.signs.jobs),
+)
+
+pub turn-requires-in-Some : goal.turn-requires-in-Some
+turn-requires-in-Some c = (
+  dates_of (dropped c.args.rows.now.list c.args.row.now.serial),
+  subst (λ d. dates.IsBut c.args.self.now.dates.items (vec_capacity c.args.self.now.dates) d c.args.row.now.serial
+      (dates_of (dropped c.args.rows.now.list c.args.row.now.serial)))
+      (sym c.due_date.ensures)
+      (dates_but c.args.rows.now.list c.args.row.now.serial c.in-Some.old.now c.requires.rising (sym c.in-Some.ensures)
+      (vec_capacity c.args.self.now.dates) c.requires.room.dates c.args.self.now.dates.items c.requires.signs.dates),
+)
+
+pub returns-in-Some-clause-signs : goal.returns-in-Some-clause-signs
+returns-in-Some-clause-signs c =
+    let js : List ℕ = job_serials (dropped c.args.rows.now.list c.args.row.now.serial) in
+    let ds : List DueDate = dates_of (dropped c.args.rows.now.list c.args.row.now.serial) in
+    let jobs_are : c.args.self.now.jobs.items ≡ with_job c.is_some.result js c.args.row.now.serial =
+    (jobs_but c.args.rows.now.list c.args.row.now.serial c.in-Some.old.now c.requires.rising (sym c.in-Some.ensures)
+    (vec_capacity c.args.self.now.jobs) c.requires.room.jobs c.args.self.now.jobs.items c.requires.signs.jobs).is
+    ∙ ap (λ b. with_job b js c.args.row.now.serial) (sym c.is_some.ensures) in
+    let dates_are : c.args.self.now.dates.items ≡ with_date c.due_date.result ds c.args.row.now.serial =
+    (dates_but c.args.rows.now.list c.args.row.now.serial c.in-Some.old.now c.requires.rising (sym c.in-Some.ensures)
+    (vec_capacity c.args.self.now.dates) c.requires.room.dates c.args.self.now.dates.items c.requires.signs.dates).is
+    ∙ ap (λ d. with_date d ds c.args.row.now.serial) (sym c.due_date.ensures) in
+    record {
+      jobs = c.turn.ensures.serials js jobs_are
+          ∙ ap (λ b. with_job b js c.args.row.now.serial) c.is_some-in-Some.ensures
+          ∙ jobs_put c.args.rows.now.list c.args.row.now c.in-Some.old.now c.requires.rising (sym c.in-Some.ensures);
+      dates = c.turn-in-Some.ensures.dates ds dates_are
+          ∙ ap (λ d. with_date d ds c.args.row.now.serial) c.due_date-in-Some.ensures
+          ∙ dates_put c.args.rows.now.list c.args.row.now c.in-Some.old.now c.requires.rising (sym c.in-Some.ensures);
+    }
+
+pub returns-in-None-clause-signs : goal.returns-in-None-clause-signs
+returns-in-None-clause-signs c =
+    let same = replaced_absent c.args.rows.now.list c.args.row.now (sym c.in-None.ensures) in
+    record {
+      jobs = c.requires.signs.jobs ∙ ap job_serials (sym same);
+      dates = c.requires.signs.dates ∙ ap dates_of (sym same);
+    }
