@@ -73,7 +73,7 @@ def fault_of_opening(program):
         with Serving(program, "--data", folder) as server:
             server.kill()
         cut = f"secretsd: 4 bytes behind the last whole record of journal-0 are cut off, from byte {size} on"
-        opened = f", 3 entries in {size} of {JOURNAL_LIMIT} journal bytes"
+        opened = f", 3 secrets and 3 entries in {size} of {JOURNAL_LIMIT} journal bytes"
         if server.said[0] != cut or not server.said[1].endswith(opened):
             return f"over 4 torn bytes behind 3 entries in {size} bytes it said {server.said}"
     return None

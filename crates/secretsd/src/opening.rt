@@ -1,5 +1,8 @@
 //! What an opening of the journal finds, and how far it is.
 use sm_base::limits::JOURNAL_LIMIT;
+use sm_io::{Clock as _, SystemClock};
+use sm_server::Witness;
+use sm_table::Table;
 use std::fs::File;
 use std::io;
 use std::os::unix::fs::FileExt;
@@ -24,10 +27,12 @@ const RECORD_HEAD: usize = 5;
 /// The number that says that no file was read just now.
 const NOTHING: u64 = u64::MAX;
 
-/// What an opening of the journal finds: how many whole records, and how many bytes they have.
+/// What an opening of the journal finds: how many whole records, how many bytes they have, and how many secrets are
+/// there then.
 #[derive(Drop)]
 pub struct Opening<'a> {
     rt: &'a HostRuntime,
+    secrets: AtomicU64,
     entries: AtomicU64,
     bytes: AtomicU64,
     read: AtomicU64,
@@ -38,6 +43,7 @@ impl<'a> Opening<'a> {
     pub fn new(rt: &'a HostRuntime) -> Opening<'a> {
         Opening {
             rt,
+            secrets: AtomicU64::new(0),
             entries: AtomicU64::new(0),
             bytes: AtomicU64::new(0),
             read: AtomicU64::new(NOTHING),
@@ -118,6 +124,11 @@ impl<'a> Opening<'a> {
         self.read.store(NOTHING, Ordering::SeqCst);
     }
 
+    /// How many secrets were there when it was opened.
+    pub fn secrets(&self) -> u64 {
+        self.secrets.load(Ordering::SeqCst)
+    }
+
     /// How many entries were found.
     pub fn entries(&self) -> u64 {
         self.entries.load(Ordering::SeqCst)
@@ -131,6 +142,15 @@ impl<'a> Opening<'a> {
     /// How many bytes a journal may have.
     pub fn limit(&self) -> u64 {
         JOURNAL_LIMIT
+    }
+}
+
+impl<'a> Witness for Opening<'a> {
+    /// Notes how many of the secrets are not past their deletion date.
+    fn opened(&self, table: &Table, _entries: u64) {
+        let now = SystemClock::new(self.rt).now();
+        self.secrets
+            .store(table.count_at(now) as u64, Ordering::SeqCst);
     }
 }
 

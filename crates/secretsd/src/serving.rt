@@ -173,6 +173,7 @@ fn serve_on<'a, D: Disk + Drop + Send, M: MakeRotator, H: Threads + Wait + Sync>
         workers.as_mut_slice(),
         disk,
         orders.people,
+        welcome.opening,
     );
     match ran {
         RanBy::Opened(status, _) => status,

@@ -19,12 +19,13 @@ impl<'a> Welcome<'a> {
         let _ = match (listener.local_addr(), &self.settings.folder) {
             (Ok(address), Some(folder)) => {
                 let folder = folder.as_str();
+                let secrets = self.opening.secrets();
                 let entries = self.opening.entries();
                 let bytes = self.opening.bytes();
                 let limit = self.opening.limit();
                 eprintln!(rt;
                     "secretsd: listening on {address}, data in {folder}, {connections} connections, {workers} rotation \
-                     workers, {entries} entries in {bytes} of {limit} journal bytes"
+                     workers, {secrets} secrets and {entries} entries in {bytes} of {limit} journal bytes"
                 )
             }
             (Ok(address), None) => eprintln!(rt;

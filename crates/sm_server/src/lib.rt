@@ -9,8 +9,10 @@ mod run;
 pub mod serving;
 mod status;
 mod turn;
+mod witness;
 
 pub use asked::{Task, task_of_mode};
 pub use run::run_once;
 pub use serving::{Ran, RanBy, run_server};
 pub use status::Status;
+pub use witness::{Nobody, Witness};

@@ -12,6 +12,7 @@ ghost use Rattle.sm_server.specs.Served.{EndsServer, EndsWorkers, FollowsOrders,
 use crate::asked::people_of;
 use crate::run::end_unopened;
 use crate::status::Status;
+use crate::witness::Witness;
 use sm_account::Account;
 use sm_base::limits::JOURNAL_LIMIT;
 use sm_disk::Disk;
@@ -36,7 +37,8 @@ pub enum RanBy<A, D> {
 pub type Ran<D: Disk, R: Rotator> = RanBy<Account<D, R>, D>;
 
 /// Follows the words of a command line: reads the text of the people who may ask, opens the account of the disk, and
-/// runs all workers in threads of their own, until no door has a connection left and no turner anything to do.
+/// runs all workers in threads of their own, until no door has a connection left and no turner anything to do. The
+/// witness is told what was opened.
 pub fn run_server<
     E: Edge<ConnEnd> + Send,
     C: Clock + Send,
@@ -44,6 +46,7 @@ pub fn run_server<
     D: Disk + Send,
     R: Rotator + Send,
     H: Threads + Wait + Sync,
+    O: Witness,
 >(
     rt: &H,
     alloc: Global,
@@ -51,6 +54,7 @@ pub fn run_server<
     workers: &mut [WorkerBy<E, C, W, R, Account<D, R>>],
     disk: D,
     people: &[u8],
+    witness: &O,
 ) -> RanBy<Account<D, R>, D>
 where
     E::C: Send,
@@ -60,7 +64,7 @@ where
         (settings_of (map string_bytes words.now)) (people_of people.now) disk result workers.old workers.new }
 {
     match may_ask(alloc, words, people) {
-        Ok(people) => serve_over(rt, alloc, workers, disk, &people),
+        Ok(people) => serve_over(rt, alloc, workers, disk, &people, witness),
         Err(status) => RanBy::Unopened(status, disk),
     }
 }
@@ -106,12 +110,14 @@ fn serve_over<
     D: Disk + Send,
     R: Rotator + Send,
     H: Threads + Wait + Sync,
+    O: Witness,
 >(
     rt: &H,
     alloc: Global,
     workers: &mut [WorkerBy<E, C, W, R, Account<D, R>>],
     disk: D,
     people: &People,
+    witness: &O,
 ) -> RanBy<Account<D, R>, D>
 where
     E::C: Send,
@@ -122,6 +128,7 @@ where
 {
     match Account::open(alloc, disk, doors_of(workers), JOURNAL_LIMIT) {
         Ok(account) => {
+            witness.opened(account.table(), account.entries());
             let (status, account) = serve_at(rt, alloc, account, workers, people);
             RanBy::Opened(status, account)
         }

@@ -6,7 +6,7 @@ use sm_disk::MemoryDisk;
 use sm_io::{CountWords, Edge, FixedClock, MemoryConn, MemoryEdge, MemorySink, MemorySource};
 use sm_model::{Bytes, Fails, List, Moment};
 use sm_rotator::Rotator;
-use sm_server::{RanBy, Status, run_server};
+use sm_server::{Nobody, RanBy, Status, run_server};
 use sm_session::Ended;
 use sm_workers::{ConnEnd, Worker};
 use std::alloc::Global;
@@ -153,7 +153,7 @@ where
         Bytes::empty(alloc),
         disk_fails,
     )?;
-    match run_server(rt, alloc, words.as_slice(), workers, disk, b"") {
+    match run_server(rt, alloc, words.as_slice(), workers, disk, b"", &Nobody) {
         RanBy::Opened(status, account) => Ok((status, account.entries())),
         RanBy::Unopened(status, _disk) => Ok((status, 0)),
     }
