@@ -10,6 +10,8 @@ import base64
 import binascii
 import collections
 import datetime
+import hashlib
+import hmac
 import json
 import re
 import string
@@ -84,6 +86,10 @@ ERRORS = {
     "no statement allows": "AccessDeniedException",
     "secret has no current value": "InvalidRequestException",
     "secret not found": "ResourceNotFoundException",
+    "signature: Authorization": "AccessDeniedException",
+    "signature: Date": "AccessDeniedException",
+    "signature: SignedHeaders": "AccessDeniedException",
+    "signature: Signature": "AccessDeniedException",
     "unknown operation": "UnknownOperationException",
     "version and label differ": "InvalidRequestException",
     "version not found": "ResourceNotFoundException",
@@ -121,6 +127,10 @@ KINDS = set(ERRORS) | {
     "statement _ is public",
     "denied by statement _",
     "unknown key _",
+    "signature: Authorization",
+    "signature: SignedHeaders",
+    "signature: Date",
+    "signature: Signature",
     "http: body too long",
     "http: chunked",
     "http: head",
@@ -635,7 +645,7 @@ def admit(person, operation, secret, members):
 
 Person = collections.namedtuple("Person", "key is_full arn")
 ROOT = Person("", True, "arn:aws:iam::000000000000:root")
-LINE = re.compile(rb"([A-Za-z0-9_]{1,128}) (full|guest) (arn:aws:iam::[0-9]{12}:[!-~]{1,128})")
+LINE = re.compile(rb"([A-Za-z0-9_]{1,128}) (full|guest) (arn:aws:iam::[0-9]{12}:[!-~]{1,128})(?: ([!-~]{1,128}))?")
 CREDENTIAL = re.compile(rb"([A-Za-z0-9_]{1,128})/")
 
 
@@ -648,7 +658,7 @@ class People:
 
     def __init__(self, text):
         self.is_open = not text
-        self.persons = {}
+        self.persons, self.secrets = {}, {}
         for number, line in enumerate(text.split(b"\n"), 1):
             if not line or line.startswith(b"#"):
                 continue
@@ -656,17 +666,66 @@ class People:
             if not found or found[1] in self.persons:
                 raise BadLine(number)
             self.persons[found[1]] = Person(found[1].decode(), found[2] == b"full", found[3].decode())
+            self.secrets[found[1]] = found[4]
 
-    def caller(self, header):
+    def caller(self, message):
         if self.is_open:
             return ROOT
-        _, found, rest = (header or b"").partition(b"Credential=")
+        _, found, rest = (message.first(b"authorization") or b"").partition(b"Credential=")
         key = CREDENTIAL.match(rest)
         if not found or not key:
             raise refusal("no credential")
         if key[1] not in self.persons:
             raise Refusal("AccessDeniedException", f"unknown key {key[1].decode()}", "unknown key _")
+        if self.secrets[key[1]] is not None:
+            check_signature(self.secrets[key[1]], message)
         return self.persons[key[1]]
+
+
+# ---- signatures
+
+CREDENTIAL_AND_SCOPE = rb"AWS4-HMAC-SHA256 Credential=[A-Za-z0-9_]{1,128}/([0-9]{8}/[a-z0-9-]{1,64}/[a-z0-9-]{1,64}/aws4_request)"
+AUTHORIZATION = re.compile(CREDENTIAL_AND_SCOPE + rb", *SignedHeaders=([^,]*), *Signature=([0-9a-f]{64})", re.DOTALL)
+SIGNED_NAME = re.compile(rb"[!#-'*+.0-9^-z|~-]+")
+MOMENT = re.compile(rb"[0-9]{8}T[0-9]{6}Z")
+# These fields are signed always, and the one with the signature never.
+ALWAYS_SIGNED = {b"host", b"x-amz-date", b"x-amz-target"}
+
+
+def authenticated(key, text):
+    return hmac.new(key, text, hashlib.sha256).digest()
+
+
+def canonical(message, names):
+    """The text of a message whose digest is signed."""
+    lines = [b"%s:%s\n" % (name, b",".join(re.sub(rb" +", b" ", value.strip(b" \t")) for value in message.values(name))) for name in names]
+    body = hashlib.sha256(message.body).hexdigest().encode()
+    return b"\n".join([message.method, message.path, b"", b"".join(lines), b";".join(names), body])
+
+
+def signature(secret, scope, moment, message, names):
+    """The digits by which a secret signs these fields of a message, and the rest of it."""
+    text = b"\n".join([b"AWS4-HMAC-SHA256", moment, scope, hashlib.sha256(canonical(message, names)).hexdigest().encode()])
+    key = b"AWS4" + secret
+    for part in scope.split(b"/"):
+        key = authenticated(key, part)
+    return authenticated(key, text).hex().encode()
+
+
+def check_signature(secret, message):
+    """Refuses a message that the secret didn't sign, by the first part that is wrong."""
+    found = AUTHORIZATION.fullmatch(message.first(b"authorization") or b"")
+    if not found:
+        raise refusal("signature: Authorization")
+    scope, names, digits = found[1], found[2].split(b";"), found[3]
+    may = all(SIGNED_NAME.fullmatch(name) and message.values(name) for name in names) and names == sorted(set(names))
+    if not may or not ALWAYS_SIGNED <= set(names) or b"authorization" in names:
+        raise refusal("signature: SignedHeaders")
+    moment = message.first(b"x-amz-date")
+    if not MOMENT.fullmatch(moment) or moment[:8] != scope[:8]:
+        raise refusal("signature: Date")
+    if not hmac.compare_digest(digits, signature(secret, scope, moment, message, names)):
+        raise refusal("signature: Signature")
 
 
 # ---- rotation
@@ -1609,7 +1668,7 @@ def reply(account, message):
         operation = message.operation()
         if operation not in MEMBERS:
             raise refusal("unknown operation")
-        person = account.people.caller(message.first(b"authorization"))
+        person = account.people.caller(message)
         shown = account.answer(person, operation, message.body)
         account.reached[operation, "accepted"] += 1
         return framed("200 OK", shown)

@@ -1,6 +1,7 @@
 //! Why a line of a people text is no person. It judges nothing: it only explains.
 use sm_base::limits::KEY_LIMIT;
 use sm_base::person_arn::is_person_arn;
+use sm_principal::SECRET_LIMIT;
 use std::fmt;
 
 /// What stands at the beginning of some texts, and is no letter.
@@ -19,6 +20,7 @@ pub enum Reason {
     Key,
     Kind,
     Arn,
+    Secret,
     /// The key stands in the line of this number already.
     Twice(u64),
 }
@@ -41,6 +43,9 @@ impl fmt::Display for Reason {
                 f.write_str(
                     "its ARN is not arn:aws:iam::, 12 digits, a colon and up to 128 characters",
                 )
+            }
+            Reason::Secret => {
+                f.write_str("its secret is not of 1 to 128 characters from ! to ~")
             }
             Reason::Twice(line) => write!(f, "its key stands in line {line} already"),
         }
@@ -88,13 +93,43 @@ fn reason_of_line(text: &[u8], number: u64, line: &[u8]) -> Reason {
     }
     match reason_of_spaces(line) {
         Some(reason) => reason,
-        None => match split_at_byte(line, b' ') {
-            Some((key, rest)) => match split_at_byte(rest, b' ') {
-                Some((kind, arn)) => reason_of_parts(text, number, key, kind, arn),
-                None => Reason::Parts,
-            },
+        None => match words_of(line) {
+            Some(words) => reason_of_words(text, number, words),
             None => Reason::Parts,
         },
+    }
+}
+
+/// The words of a line: a key, a kind, an ARN, and what stands behind that.
+#[derive(Clone, Copy)]
+struct Words<'a> {
+    key: &'a [u8],
+    kind: &'a [u8],
+    arn: &'a [u8],
+    secret: Option<&'a [u8]>,
+}
+
+/// The words of a line, where there are as many as a person's line has.
+fn words_of(line: &[u8]) -> Option<Words<'_>> {
+    let Some((key, rest)) = split_at_byte(line, b' ') else {
+        return None
+    };
+    let Some((kind, rest)) = split_at_byte(rest, b' ') else {
+        return None
+    };
+    match split_at_byte(rest, b' ') {
+        Some((arn, secret)) => Some(Words {
+            key,
+            kind,
+            arn,
+            secret: Some(secret),
+        }),
+        None => Some(Words {
+            key,
+            kind,
+            arn: rest,
+            secret: None,
+        }),
     }
 }
 
@@ -128,16 +163,30 @@ fn has_two_spaces(line: &[u8]) -> bool {
     false
 }
 
-/// Why these three words are no person.
-fn reason_of_parts(text: &[u8], number: u64, key: &[u8], kind: &[u8], arn: &[u8]) -> Reason {
-    if !is_key(key) {
+/// Why these words are no person.
+fn reason_of_words(text: &[u8], number: u64, words: Words) -> Reason {
+    if !is_key(words.key) {
         Reason::Key
-    } else if kind != b"full".as_slice() && kind != b"guest".as_slice() {
+    } else if words.kind != b"full".as_slice() && words.kind != b"guest".as_slice() {
         Reason::Kind
-    } else if !is_person_arn(arn) {
+    } else if !is_person_arn(words.arn) {
         Reason::Arn
+    } else if !fits(words.secret) {
+        Reason::Secret
     } else {
-        Reason::Twice(line_with_key(text, key, number))
+        Reason::Twice(line_with_key(text, words.key, number))
+    }
+}
+
+/// Whether a secret is in its form, where there is one.
+fn fits(secret: Option<&[u8]>) -> bool {
+    match secret {
+        Some(secret) => {
+            !secret.is_empty()
+                && secret.len() <= SECRET_LIMIT
+                && secret.iter().all(|byte| b'!' <= *byte && *byte <= b'~')
+        }
+        None => true,
     }
 }
 

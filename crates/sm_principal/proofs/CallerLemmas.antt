@@ -3,9 +3,9 @@ use Rattle.std.proofs.Common.{◌≡◌, ℕ, ◌+◌, ◌<◌, ◌≤◌, cond,
 use Rattle.std.proofs.lemmas.List.{at_drop_more, drop_more}
 use Rattle.std.proofs.Math.ListN.{drop_of_length-le}
 use Rattle.sm_base.specs.Texts.{same_text}
-use Rattle.sm_model.specs.declared.person.Person.{Person}
+use Rattle.sm_principal.specs.declared.known.Known.{Known}
 use Rattle.sm_principal.specs.Lines.{is_key, parted}
-use Rattle.sm_principal.specs.Callers.{begins, after_credential, key_if, key_of, key_in, person_named}
+use Rattle.sm_principal.specs.Callers.{begins, after_credential, key_if, key_of, key_in, known_named}
 
 module _ (text : List ℕ) (i : ℕ) (rest : List ℕ) (wanted : Option (List ℕ)) (h : i < length text)
     (is : rest ≡ drop i text) (was : wanted ≡ after_credential (drop i text)) where
@@ -61,24 +61,24 @@ pub key_is_key : (header key : List ℕ) → Some key ≡ key_in header → is_k
 key_is_key header key e = of_rest (after_credential header) key (sym e)
 
 -- persons, one after the other
-module _ (persons : List Person) (key : List ℕ) (i : ℕ) (p : Person) (h : i < length persons)
-    (at : p ≡ get_or persons i p) where
-  person_from : person_named key (drop i persons)
-      ≡ cond (same_text p.key key) (Some p) (person_named key (drop (i + 1) persons))
-  person_from =
-      at_drop_more (person_named key) persons i p h
-      ∙ ap (λ (q : Person). person_named key (q ∷ drop (i + 1) persons)) (sym at)
+module _ (known : List Known) (key : List ℕ) (i : ℕ) (p : Known) (h : i < length known)
+    (at : p ≡ get_or known i p) where
+  known_from : known_named key (drop i known)
+      ≡ cond (same_text p.person.key key) (Some p) (known_named key (drop (i + 1) known))
+  known_from =
+      at_drop_more (known_named key) known i p h
+      ∙ ap (λ (q : Known). known_named key (q ∷ drop (i + 1) known)) (sym at)
 
-  pub person_here : (wanted : Option Person) → same_text p.key key ≡ true
-      → wanted ≡ person_named key (drop i persons) → Some p ≡ wanted
-  person_here wanted is was =
-      sym (was ∙ person_from ∙ ap (λ b. cond b (Some p) (person_named key (drop (i + 1) persons))) is)
+  pub known_here : (wanted : Option Known) → same_text p.person.key key ≡ true
+      → wanted ≡ known_named key (drop i known) → Some p ≡ wanted
+  known_here wanted is was =
+      sym (was ∙ known_from ∙ ap (λ b. cond b (Some p) (known_named key (drop (i + 1) known))) is)
 
-  pub person_later : (wanted : Option Person) → same_text p.key key ≡ false
-      → wanted ≡ person_named key (drop i persons) → wanted ≡ person_named key (drop (i + 1) persons)
-  person_later wanted is was =
-      was ∙ person_from ∙ ap (λ b. cond b (Some p) (person_named key (drop (i + 1) persons))) is
+  pub known_later : (wanted : Option Known) → same_text p.person.key key ≡ false
+      → wanted ≡ known_named key (drop i known) → wanted ≡ known_named key (drop (i + 1) known)
+  known_later wanted is was =
+      was ∙ known_from ∙ ap (λ b. cond b (Some p) (known_named key (drop (i + 1) known))) is
 
-pub person_none : (persons : List Person) (key : List ℕ) (i : ℕ) (wanted : Option Person) → length persons ≤ i
-    → wanted ≡ person_named key (drop i persons) → None ≡ wanted
-person_none persons key i wanted h was = sym (was ∙ ap (person_named key) (drop_of_length-le persons h))
+pub known_none : (known : List Known) (key : List ℕ) (i : ℕ) (wanted : Option Known) → length known ≤ i
+    → wanted ≡ known_named key (drop i known) → None ≡ wanted
+known_none known key i wanted h was = sym (was ∙ ap (known_named key) (drop_of_length-le known h))

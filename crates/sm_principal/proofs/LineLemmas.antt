@@ -88,10 +88,13 @@ token_byte_is_ascii : (b : ℕ) → is_token_byte b ≡ true → b < 128
 unfolding is_token_byte
 token_byte_is_ascii b is = grind (arith, nat_tests)
 
-pub key_is_text : (text : List ℕ) → is_key text ≡ true → is_utf8 text ≡ true
+pub key_bytes_all : (text : List ℕ) → is_key text ≡ true → list_all is_key_byte text ≡ true
 unfolding is_key
-key_is_text text is = ascii_is_text is_key_byte key_byte_is_ascii text
+key_bytes_all text is =
     (both (nat_le 1 (length text) && nat_le (length text) KEY_LIMIT) (list_all is_key_byte text) is).1
+
+pub key_is_text : (text : List ℕ) → is_key text ≡ true → is_utf8 text ≡ true
+key_is_text text is = ascii_is_text is_key_byte key_byte_is_ascii text (key_bytes_all text is)
 
 run_is_all : (text : List ℕ) → is_run is_token_byte 27 154 text ≡ true → list_all is_token_byte text ≡ true
 run_is_all text is = (both (nat_le 27 (length text) && nat_le (length text) 154) (list_all is_token_byte text) is).1
@@ -100,9 +103,12 @@ first_of_four : (a b c d : Bool) → (((a && b) && c) && d) ≡ true → a ≡ t
 first_of_four true b c d h = refl
 first_of_four false b c d h = h
 
-pub arn_is_text : (text : List ℕ) → is_person_arn text ≡ true → is_utf8 text ≡ true
+pub arn_bytes_all : (text : List ℕ) → is_person_arn text ≡ true → list_all is_token_byte text ≡ true
 unfolding is_person_arn
-arn_is_text text is = ascii_is_text is_token_byte token_byte_is_ascii text (run_is_all text (first_of_four _ _ _ _ is))
+arn_bytes_all text is = run_is_all text (first_of_four _ _ _ _ is)
+
+pub arn_is_text : (text : List ℕ) → is_person_arn text ≡ true → is_utf8 text ≡ true
+arn_is_text text is = ascii_is_text is_token_byte token_byte_is_ascii text (arn_bytes_all text is)
 
 -- lines
 none_of : (c : ℕ) (parts : Option (List ℕ × List ℕ)) → pushed c parts ≡ None → parts ≡ None

@@ -1,27 +1,27 @@
 -- The people text, line by line.
 use Rattle.std.proofs.Common.{◌≡◌, ℕ, ◌+◌, ◌<◌, ◌==◌, cond, Bool, true, false, List, [], ◌∷◌, length, Option, Some, None, Result, Ok, Err, refl, ap, sym, ◌∙◌, arith}
-use Rattle.sm_model.specs.declared.person.Person.{Person}
+use Rattle.sm_principal.specs.declared.known.Known.{Known}
 use Rattle.sm_principal.specs.Lines.{pushed, parted, lines_of, with_line, persons_from}
 use Rattle.sm_principal.proofs.LineLemmas.{line_first, line_alone}
 
-module _ (whole : Result (List Person) ℕ) (number : ℕ) (known : List Person) (left line rest : List ℕ)
+module _ (whole : Result (List Known) ℕ) (number : ℕ) (known : List Known) (left line rest : List ℕ)
     (was : whole ≡ persons_from number (Ok known) (lines_of left)) (apart : Some (line, rest) ≡ parted 10 left) where
   from : whole ≡ persons_from (number + 1) (with_line number known line) (lines_of rest)
   from = was ∙ ap (persons_from number (Ok known)) (line_first left (line, rest) (sym apart))
 
-  pub goes_on : (more : List Person) → ((n : ℕ) → with_line n known line ≡ Ok more)
+  pub goes_on : (more : List Known) → ((n : ℕ) → with_line n known line ≡ Ok more)
       → whole ≡ persons_from (number + 1) (Ok more) (lines_of rest)
   goes_on more is = from ∙ ap (λ r. persons_from (number + 1) r (lines_of rest)) (is number)
 
   pub line_is_bad : ((n : ℕ) → with_line n known line ≡ Err n) → whole ≡ Err number
   line_is_bad is = from ∙ ap (λ r. persons_from (number + 1) r (lines_of rest)) (is number)
 
-module _ (whole : Result (List Person) ℕ) (number : ℕ) (known : List Person) (left : List ℕ)
+module _ (whole : Result (List Known) ℕ) (number : ℕ) (known : List Known) (left : List ℕ)
     (was : whole ≡ persons_from number (Ok known) (lines_of left)) (alone : None ≡ parted 10 left) where
   from_last : whole ≡ persons_from (number + 1) (with_line number known left) []
   from_last = was ∙ ap (persons_from number (Ok known)) (line_alone left (sym alone))
 
-  pub last_line : (more : List Person) → ((n : ℕ) → with_line n known left ≡ Ok more) → whole ≡ Ok more
+  pub last_line : (more : List Known) → ((n : ℕ) → with_line n known left ≡ Ok more) → whole ≡ Ok more
   last_line more is = from_last ∙ ap (λ r. persons_from (number + 1) r []) (is number)
 
   pub last_is_bad : ((n : ℕ) → with_line n known left ≡ Err n) → whole ≡ Err number

@@ -1,9 +1,11 @@
 -- Who asks: the person that the Authorization field of a message names.
 -- IAM User Guide, "Create a signed AWS API request": Credential=<access key id>/<date>/<region>/<service>/aws4_request.
-use Rattle.std.specs.Prelude.{◌≡◌, ℕ, Bool, true, nat_eq, if◌then◌else◌, List, [], ◌∷◌, take, drop, codes, Option, Some, None, option_and_then, Result, Ok, Err, ⊤}
+use Rattle.std.specs.Prelude.{◌≡◌, ℕ, Bool, true, false, is_some, nat_eq, if◌then◌else◌, List, [], ◌∷◌, take, drop, codes, Option, Some, None, option_and_then, Result, Ok, Err, ⊤}
+use Rattle.std.specs.List.{list_any}
 use Rattle.std.specs.Cmp.Lexicographic.{pointwise}
 use Rattle.sm_base.specs.Texts.{same_text}
 use Rattle.sm_model.specs.declared.person.Person.{Person}
+use Rattle.sm_principal.specs.declared.known.Known.{Known}
 use Rattle.sm_principal.specs.declared.caller.CallerRefused.{CallerRefused}
 use Rattle.sm_principal.specs.declared.caller.CallerRefused.TheVariants as refused
 use Rattle.sm_principal.specs.declared.people.People.{People}
@@ -13,8 +15,8 @@ use Rattle.sm_principal.specs.declared.people.PeopleRefused.TheVariants.{BadLine
 use Rattle.sm_principal.specs.Lines.{is_key, person_with, parted, persons_of}
 
 -- the people of persons, or the first bad line
-abbrev pub listed : Result (List Person) ℕ → Result People ℕ
-listed (Ok persons) = Ok (Listed persons)
+abbrev pub listed : Result (List Known) ℕ → Result People ℕ
+listed (Ok known) = Ok (Listed known)
 listed (Err number) = Err number
 
 -- the people of a text; the empty one is everybody
@@ -23,8 +25,8 @@ people_of [] = Ok Everybody
 people_of (c ∷ text) = listed (persons_of (c ∷ text))
 
 -- want of memory, or the persons known, or the first bad line
-abbrev pub IsKnown : Result (List Person) PeopleRefused → Result (List Person) ℕ → Type 0
-IsKnown (Ok persons) is = is ≡ Ok persons
+abbrev pub IsKnown : Result (List Known) PeopleRefused → Result (List Known) ℕ → Type 0
+IsKnown (Ok known) is = is ≡ Ok known
 IsKnown (Err (BadLine number)) is = is ≡ Err number
 IsKnown (Err Memory) is = ⊤
 
@@ -66,23 +68,40 @@ pub data Nobody : Type 0 where
   no_credential : Nobody
   unknown : List ℕ → Nobody
 
--- the person with the key
-abbrev pub person_named : List ℕ → List Person → Option Person
-person_named key [] = None
-person_named key (person ∷ persons) = if same_text person.key key then Some person else person_named key persons
+-- the person with the key, and the secret, where there is one
+abbrev pub known_named : List ℕ → List Known → Option Known
+known_named key [] = None
+known_named key (one ∷ known) = if same_text one.person.key key then Some one else known_named key known
 
-abbrev pub known_or : List ℕ → Option Person → Result Person Nobody
+abbrev pub known_or : List ℕ → Option Known → Result Person Nobody
 known_or key None = Err (unknown key)
-known_or key (Some person) = Ok person
+known_or key (Some one) = Ok one.person
 
-abbrev pub caller_named : List Person → Option (List ℕ) → Result Person Nobody
-caller_named persons None = Err no_credential
-caller_named persons (Some key) = known_or key (person_named key persons)
+abbrev pub caller_named : List Known → Option (List ℕ) → Result Person Nobody
+caller_named known None = Err no_credential
+caller_named known (Some key) = known_or key (known_named key known)
 
 -- who asks by an Authorization field, or none
 abbrev pub caller_of : People → Option (List ℕ) → Result Person Nobody
 caller_of Everybody header = Ok root
-caller_of (Listed persons) header = caller_named persons (option_and_then key_in header)
+caller_of (Listed known) header = caller_named known (option_and_then key_in header)
+
+-- the secret of the person with a key, where that line has one
+abbrev pub secret_in : Option Known → Option (List ℕ)
+secret_in None = None
+secret_in (Some one) = one.secret
+
+abbrev pub secret_of : People → List ℕ → Option (List ℕ)
+secret_of Everybody key = None
+secret_of (Listed known) key = secret_in (known_named key known)
+
+-- some line has a secret
+abbrev pub has_secret : Known → Bool
+has_secret one = is_some one.secret
+
+abbrev pub has_secrets : People → Bool
+has_secrets Everybody = false
+has_secrets (Listed known) = list_any has_secret known
 
 -- the answer, or none where memory is wanted
 abbrev pub told_caller : Result Person CallerRefused → Option (Result Person Nobody)

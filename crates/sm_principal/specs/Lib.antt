@@ -2,3 +2,4 @@ pub mod Callers
 pub mod Lines
 pub mod Outcomes
 pub mod Bounds
+pub mod Spellings

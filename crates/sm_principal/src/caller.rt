@@ -1,9 +1,10 @@
 //! The person that a message's Authorization field names (Signature Version 4: `Credential=<key>/<date>/..`).
-ghost use Rattle.std.specs.Prelude.{◌≡◌, IsTrue, None, Some, drop, if◌then◌else◌, option_map};
+ghost use Rattle.std.specs.Prelude.{◌≡◌, IsTrue, None, Some, drop, if◌then◌else◌, option_copied, option_map};
 ghost use Rattle.sm_base.specs.Outcomes.{OrMemory};
-ghost use Rattle.sm_principal.specs.Callers.{begins, after_credential, key_of, key_in, root, person_named, known_or, caller_named, caller_of, told_caller};
+ghost use Rattle.sm_principal.specs.Callers.{begins, after_credential, key_of, key_in, root, known_named, known_or, caller_named, caller_of, told_caller};
 ghost use Rattle.sm_principal.specs.Lines.{is_key};
 
+use crate::known::Known;
 use crate::lines::{is_key, parted};
 use crate::people::People;
 use sm_base::text::same_text;
@@ -65,13 +66,13 @@ fn key_in(header: &[u8]) -> Option<&[u8]>
 }
 
 /// The person with the key.
-#[tactic(auto, using(crate::proofs::CallerLemmas::person_here, crate::proofs::CallerLemmas::person_later, crate::proofs::CallerLemmas::person_none))]
-fn person_named<'a>(key: &[u8], persons: &'a [Person]) -> Option<&'a Person>
-    ensures { option_map (λ p. p.now) result ≡ person_named key.now persons.now }
+#[tactic(auto, using(crate::proofs::CallerLemmas::known_here, crate::proofs::CallerLemmas::known_later, crate::proofs::CallerLemmas::known_none))]
+pub(crate) fn known_named<'a>(key: &[u8], known: &'a [Known]) -> Option<&'a Known>
+    ensures { option_copied result ≡ known_named key.now known.now }
 {
-    for person in persons {
-        if same_text(person.key.as_bytes(), key) {
-            return Some(person);
+    for one in known {
+        if same_text(one.person.key.as_bytes(), key) {
+            return Some(one);
         }
     }
     None
@@ -90,12 +91,12 @@ fn root() -> Person
 
 /// A copy of the person with the key.
 #[tactic(auto, using(crate::proofs::LineLemmas::key_is_text))]
-fn copy_of(alloc: Global, key: &[u8], persons: &[Person]) -> Result<Person, CallerRefused>
+fn copy_of(alloc: Global, key: &[u8], known: &[Known]) -> Result<Person, CallerRefused>
     requires { IsTrue (is_key key.now) }
-    ensures { OrMemory (told_caller result) (known_or key.now (person_named key.now persons.now)) }
+    ensures { OrMemory (told_caller result) (known_or key.now (known_named key.now known.now)) }
 {
-    match person_named(key, persons) {
-        Some(person) => match person.copy(alloc) {
+    match known_named(key, known) {
+        Some(one) => match one.person.copy(alloc) {
             Ok(person) => Ok(person),
             Err(_) => Err(CallerRefused::Memory),
         },
@@ -108,11 +109,11 @@ fn copy_of(alloc: Global, key: &[u8], persons: &[Person]) -> Result<Person, Call
 
 /// Who asks, of these persons, by the key that the field spells.
 #[tactic(auto, using(crate::proofs::CallerLemmas::key_is_key))]
-fn caller_named(alloc: Global, persons: &[Person], header: &[u8]) -> Result<Person, CallerRefused>
-    ensures { OrMemory (told_caller result) (caller_named persons.now (key_in header.now)) }
+fn caller_named(alloc: Global, known: &[Known], header: &[u8]) -> Result<Person, CallerRefused>
+    ensures { OrMemory (told_caller result) (caller_named known.now (key_in header.now)) }
 {
     match key_in(header) {
-        Some(key) => copy_of(alloc, key, persons),
+        Some(key) => copy_of(alloc, key, known),
         None => Err(CallerRefused::NoCredential),
     }
 }
@@ -124,8 +125,8 @@ impl People {
     {
         match self {
             People::Everybody => Ok(root()),
-            People::Listed(persons) => match header {
-                Some(header) => caller_named(alloc, persons.as_slice(), header),
+            People::Listed(known) => match header {
+                Some(header) => caller_named(alloc, known.as_slice(), header),
                 None => Err(CallerRefused::NoCredential),
             },
         }

@@ -14,9 +14,15 @@ const PEOPLE: &str =
 const AUTHORIZATION: &str =
     "/20231114/us-east-1/secretsmanager/aws4_request, SignedHeaders=content-type;host, Signature=00";
 
+/// One person who must sign, and one who needn't.
+const SIGNERS: &str =
+    "ADA full arn:aws:iam::000000000000:user/ada key1\nGIL guest arn:aws:iam::000000000000:user/gil";
+
 const APP_CREATED: &str =
     "{\"ARN\":\"arn:aws:secretsmanager:us-east-1:000000000000:secret:db/app-ABCDEF\",\"Name\":\"db/app\",\
         \"VersionId\":\"11111111-1111-4111-8111-111111111111\"}";
+
+const UNSIGNED: &str = r#"{"Message":"signature: Authorization","__type":"AccessDeniedException"}"#;
 
 const NO_CREDENTIAL: &str = r#"{"Message":"no credential","__type":"AccessDeniedException"}"#;
 
@@ -31,8 +37,8 @@ type Case = (
     &'static str,
 );
 
-/// The operation's name comes before the caller, and the caller before the body.
-const CASES: [Case; 8] = [
+/// The operation's name comes before the caller, and the caller, who signs where there is a secret, before the body.
+const CASES: [Case; 11] = [
     (PEOPLE, Some("ADA"), CREATE, APP, OK, APP_CREATED),
     (PEOPLE, None, CREATE, APP, BAD, NO_CREDENTIAL),
     (PEOPLE, Some("A-A"), CREATE, APP, BAD, NO_CREDENTIAL),
@@ -62,6 +68,16 @@ const CASES: [Case; 8] = [
         r#"{"Message":"body is not a JSON object","__type":"SerializationException"}"#,
     ),
     ("", None, CREATE, APP, OK, APP_CREATED),
+    (SIGNERS, Some("ADA"), CREATE, "[]", BAD, UNSIGNED),
+    (SIGNERS, None, CREATE, APP, BAD, NO_CREDENTIAL),
+    (
+        SIGNERS,
+        Some("GIL"),
+        CREATE,
+        "[]",
+        BAD,
+        r#"{"Message":"body is not a JSON object","__type":"SerializationException"}"#,
+    ),
 ];
 
 /// The bytes of a message with such a field.
@@ -108,7 +124,7 @@ fn callers_are_found_by_their_keys(rt: HostRuntime) -> Result<(), Fail> {
 }
 
 /// Texts of the people, and how a run ends over them.
-const TEXTS: [(&str, Status); 4] = [
+const TEXTS: [(&str, Status); 6] = [
     (
         "X full arn:aws:iam::000000000000:x\nX king y\n",
         Status::People(2),
@@ -116,6 +132,11 @@ const TEXTS: [(&str, Status); 4] = [
     ("\n\nX full y", Status::People(3)),
     ("# nobody", Status::Done),
     (PEOPLE, Status::Done),
+    (SIGNERS, Status::Done),
+    (
+        "X full arn:aws:iam::000000000000:x secret with",
+        Status::People(1),
+    ),
 ];
 
 fn ended(alloc: Global, people: &str) -> Result<Status, Fail> {

@@ -1,4 +1,5 @@
 pub mod HearLemmas
+pub mod SigningLemmas
 pub mod ReplyLemmas
 pub mod TurnLemmas
 pub mod StreamLemmas

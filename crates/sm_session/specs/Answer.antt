@@ -16,45 +16,24 @@ use Rattle.sm_json.specs.declared.requests.ReadRequest.TheVariants as answers
 use Rattle.sm_json.specs.Asks.{asks_of}
 use Rattle.sm_json.specs.Operations.{operation_of}
 use Rattle.sm_principal.specs.declared.people.People.{People}
-use Rattle.sm_principal.specs.Callers.{Nobody, no_credential, unknown, caller_of}
 use Rattle.sm_reply.specs.Shown.{Answered, refused, shown}
 use Rattle.sm_spells.specs.Spells.{History}
-
--- what counts of a message: its method, its path, its X-Amz-Target, its Authorization and its body
-pub record Envelope : Type 0 where
-  pub method : List ℕ
-  pub path : List ℕ
-  pub target : Option (List ℕ)
-  pub authorization : Option (List ℕ)
-  pub body : List ℕ
-
-abbrev pub envelope_of : Message → Envelope
-envelope_of message = record {
-  method = message.method;
-  path = message.path;
-  target = field_of (codes "x-amz-target") message.fields;
-  authorization = field_of (codes "authorization") message.fields;
-  body = message.body;
-}
+use Rattle.sm_session.specs.Askers.{asker_of}
 
 -- a request is POST to /
 abbrev pub is_request : List ℕ → List ℕ → Bool
 is_request method path = bytes_eq method (codes "POST") && bytes_eq path (codes "/")
 
 -- the operation that a message names
-abbrev pub operation_in : Envelope → Option Operation
-operation_in envelope =
-    if is_request envelope.method envelope.path then option_and_then operation_of envelope.target else None
+abbrev pub operation_in : Message → Option Operation
+operation_in message =
+    if is_request message.method message.path
+    then option_and_then operation_of (field_of (codes "x-amz-target") message.fields) else None
 
 -- what is asked, and by whom
 pub record Asked : Type 0 where
   pub person : Person
   pub request : Request
-
--- why nobody asks
-abbrev pub why_nobody : Nobody → Why
-why_nobody no_credential = whys.NoCredential
-why_nobody (unknown key) = whys.UnknownKey key
 
 -- the request of a person by what was read of a body, or the cause of a refusal
 abbrev pub asked_by : Person → ReadRequest → Result Asked Why
@@ -65,24 +44,20 @@ asked_by person (answers.BadMember name) = Err (whys.BadMember name)
 asked_by person (answers.Left name) = Err (whys.Left name)
 asked_by person answers.Memory = Err whys.Memory
 
--- who asks comes before the body
-abbrev pub asked_of : Result Person Nobody → Operation → List ℕ → Result Asked Why
-asked_of (Err nobody) operation body = Err (why_nobody nobody)
+-- who asks, and the signature, come before the body
+abbrev pub asked_of : Result Person Why → Operation → List ℕ → Result Asked Why
+asked_of (Err why) operation body = Err why
 asked_of (Ok person) operation body = asked_by person (asks_of operation body)
 
 -- and the operation's name comes before who asks
-abbrev pub heard_if : People → Option Operation → Envelope → Result Asked Why
-heard_if people None envelope = Err whys.UnknownOperation
-heard_if people (Some operation) envelope =
-    asked_of (caller_of people envelope.authorization) operation envelope.body
+abbrev pub heard_if : People → Option Operation → Message → Result Asked Why
+heard_if people None message = Err whys.UnknownOperation
+heard_if people (Some operation) message = asked_of (asker_of people message) operation message.body
 
--- who asks for what by a message, or the first refusal: of the operation's name, of who asks, of the body's JSON and of
--- its members
-abbrev pub heard_of : People → Envelope → Result Asked Why
-heard_of people envelope = heard_if people (operation_in envelope) envelope
-
+-- who asks for what by a message, or the first refusal: of the operation's name, of who asks, of the signature, of the
+-- body's JSON and of its members
 abbrev pub heard : People → Message → Result Asked Why
-heard people message = heard_of people (envelope_of message)
+heard people message = heard_if people (operation_in message) message
 
 -- an answer: the reply, and the entry that is made, if one is due
 pub record Answer : Type 0 where

@@ -1,6 +1,8 @@
 pub mod Told
 pub mod Replies
+pub mod Askers
 pub mod Answer
+pub mod Signing
 pub mod Hearing
 pub mod Turns
 pub mod Streams

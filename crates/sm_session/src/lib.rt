@@ -1,11 +1,14 @@
 //! Sessions: who asks for what by a message, its answer, and the messages of a stream.
 #![tactic(auto)]
 
+mod asking;
 mod drawing;
 pub mod ended;
+mod fields;
 pub mod heard;
 mod hearing;
 mod holding;
+pub mod laws;
 pub mod said;
 mod saying;
 mod sending;

@@ -11,4 +11,6 @@ mod hostile;
 #[cfg(test)]
 mod notes;
 #[cfg(test)]
+mod signatures;
+#[cfg(test)]
 mod support;

@@ -74,7 +74,7 @@ fn connection(alloc: Global, input: &[u8], outside: &Outside) -> Result<MemoryCo
     Ok(MemoryConn::new(source, sink))
 }
 
-/// A session of one connection, and the pass again.
+/// A session of one connection in which everybody may ask, and the pass again.
 pub fn talk<R: Wait>(
     rt: &R,
     alloc: Global,
@@ -86,28 +86,48 @@ pub fn talk<R: Wait>(
     requires { IsIn gate.now pass }
     ensures { IfOk result (λ r. IsIn gate.now r.0) }
 {
+    talk_of(rt, alloc, gate, pass, &People::Everybody, input, outside)
+}
+
+/// A session of one connection for these people, and the pass again.
+fn talk_of<R: Wait>(
+    rt: &R,
+    alloc: Global,
+    gate: &Gate<Kept>,
+    pass: Pass<Kept>,
+    people: &People,
+    input: &[u8],
+    outside: &Outside,
+) -> Result<(Pass<Kept>, Heard), Fail>
+    requires { IsIn gate.now pass }
+    ensures { IfOk result (λ r. IsIn gate.now r.0) }
+{
     let mut conn = connection(alloc, input, outside)?;
     let mut clock = FixedClock::new(Moment(1_700_000_000));
     let mut words = CountWords::new(alloc, 0, fails(alloc, outside.random_from));
     let served = serve(
-        rt,
-        alloc,
-        gate,
-        pass,
-        &mut conn,
-        &mut clock,
-        &mut words,
-        &People::Everybody,
+        rt, alloc, gate, pass, &mut conn, &mut clock, &mut words, people,
     );
     let written = Vec::from_slice(alloc, conn.sink().taken().as_slice())?;
     let count = served.trace.items.as_slice().len();
     Ok((served.pass, (served.ended, written, count)))
 }
 
-/// A session of one connection at an account of its own.
+/// A session of one connection at an account of its own, in which everybody may ask.
 pub fn session<R: Wait>(
     rt: &R,
     alloc: Global,
+    input: &[u8],
+    outside: &Outside,
+) -> Result<Option<Heard>, Fail> {
+    session_of(rt, alloc, &People::Everybody, input, outside)
+}
+
+/// A session of one connection at an account of its own, for these people.
+pub fn session_of<R: Wait>(
+    rt: &R,
+    alloc: Global,
+    people: &People,
     input: &[u8],
     outside: &Outside,
 ) -> Result<Option<Heard>, Fail> {
@@ -117,7 +137,7 @@ pub fn session<R: Wait>(
     let Ok((gate, pass)) = for_one(alloc, account) else {
         return Ok(None);
     };
-    let (_pass, heard) = talk(rt, alloc, &gate, pass, input, outside)?;
+    let (_pass, heard) = talk_of(rt, alloc, &gate, pass, people, input, outside)?;
     Ok(Some(heard))
 }
 

@@ -6,7 +6,7 @@ use Rattle.sha2.specs.Sha256.{sha256}
 use Rattle.hex.specs.Hex.{encode_lower}
 use Rattle.sm_base.specs.Outcomes.{OrMemory}
 use Rattle.sm_base.specs.Texts.{same_text}
-use Rattle.sm_http.specs.declared.answer.Message.{Message}
+use Rattle.sm_http.specs.Messages.{Message}
 use Rattle.sm_http.specs.Heads.{NameValue, values_of, first_of, field_of}
 use Rattle.sm_sigv4.specs.declared.part.Part.{Part}
 use Rattle.sm_sigv4.specs.declared.part.Part.TheVariants as part
@@ -16,7 +16,7 @@ use Rattle.sm_sigv4.specs.declared.scope.Scope.{Scope}
 use Rattle.std.specs.Cmp.Lexicographic.{bytes_decides}
 use Rattle.sm_sigv4.specs.Hmac.{hmac}
 use Rattle.sm_sigv4.specs.Authorizations.{Authorization, is_scope, authorization_in, spelled}
-use Rattle.sm_sigv4.specs.Names.{fields_of, is_name_byte, is_field_name, is_before, is_next, are_next, is_among, are_signable, names_of, names_text}
+use Rattle.sm_sigv4.specs.Names.{is_name_byte, is_field_name, is_before, is_next, are_next, is_among, are_signable, names_of, names_text}
 use Rattle.sm_sigv4.specs.Canonical.{line_end, values_text, line, lines, canonical}
 use Rattle.sm_sigv4.specs.Signatures.{is_moment, signing_key, text_to_sign, signature, by_moment, by_authorization, signed, field_with, sign_at}
 use Rattle.sm_sigv4.specs.Outcomes.{told}
@@ -59,12 +59,12 @@ canonical_of method path found names body =
 pub by_names_alone : ByNamesAlone
 unfolding canonical canonical_of
 by_names_alone one other names same_method same_path same_body same =
-    let found = lines (fields_of one) (names_of names) in
+    let found = lines one.fields (names_of names) in
     ap (λ (t : List ℕ). canonical_of t one.path found names one.body) same_method
     ∙ ap (λ (t : List ℕ). canonical_of other.method t found names one.body) same_path
     ∙ ap (λ (t : List ℕ). canonical_of other.method other.path t names one.body)
-    (lines_same (fields_of one) (fields_of other) (names_of names) same)
-    ∙ ap (λ (t : List ℕ). canonical_of other.method other.path (lines (fields_of other) (names_of names)) names t)
+    (lines_same one.fields other.fields (names_of names) same)
+    ∙ ap (λ (t : List ℕ). canonical_of other.method other.path (lines other.fields (names_of names)) names t)
     same_body
 
 -- names that may be signed with some fields may be with others that have the same values
@@ -146,7 +146,7 @@ other_by names name left_out none h false is = refl
 
 -- fields that differ in Authorization alone have the same values of names that may be signed
 carried_same : (message : Message) (value : List ℕ) (sent : Message) → Carries message value sent
-    → (names : List (List ℕ)) → IsSignable names → SameValues (fields_of sent) (fields_of message) names
+    → (names : List (List ℕ)) → IsSignable names → SameValues sent.fields message.fields names
 carried_same message value sent carries names is name among =
     carries.others name (passes_among is_field_name names name is.plain among)
     (other_by names name (codes "authorization") is.without among (same_text name (codes "authorization")) refl)
@@ -160,15 +160,15 @@ unfolding same_text
 date_is_other = refl
 
 module _ (secret : List ℕ) (message : Message) (scope : Scope) (names : List (List ℕ)) (moment value : List ℕ)
-    (is : is_scope scope ≡ true) (may : are_signable (fields_of message) names ≡ true)
+    (is : is_scope scope ≡ true) (may : are_signable message.fields names ≡ true)
     (dated : is_moment scope.date moment ≡ true)
-    (date_is : field_of (codes "x-amz-date") (fields_of message) ≡ Some moment)
+    (date_is : field_of (codes "x-amz-date") message.fields ≡ Some moment)
     (value_is : field_with secret message scope (names_text names) moment ≡ value)
     (sent : Message) (carries : Carries message value sent) where
   known : IsSignable names
-  known = signable (fields_of message) names may
+  known = signable message.fields names may
 
-  same : SameValues (fields_of sent) (fields_of message) names
+  same : SameValues sent.fields message.fields names
   same = carried_same message value sent carries names known
 
   back_again : names_of (names_text names) ≡ names
@@ -196,16 +196,16 @@ module _ (secret : List ℕ) (message : Message) (scope : Scope) (names : List (
   value_is_read =
       ap authorization_in (sym value_is ∙ said_is ∙ spelled_is said) ∙ reads_spellings 1 1 said is_formed
 
-  field_is : option_and_then authorization_in (field_of (codes "authorization") (fields_of sent)) ≡ Some said
+  field_is : option_and_then authorization_in (field_of (codes "authorization") sent.fields) ≡ Some said
   field_is =
       ap (λ (vs : List (List ℕ)). option_and_then authorization_in (first_of vs)) carries.alone ∙ value_is_read
 
-  names_fit : are_signable (fields_of sent) (names_of (names_text names)) ≡ true
+  names_fit : are_signable sent.fields (names_of (names_text names)) ≡ true
   names_fit =
-      ap (are_signable (fields_of sent)) back_again ∙ signable_same (fields_of sent) (fields_of message) names same ∙
+      ap (are_signable sent.fields) back_again ∙ signable_same sent.fields message.fields names same ∙
       may
 
-  date_is_sent : field_of (codes "x-amz-date") (fields_of sent) ≡ Some moment
+  date_is_sent : field_of (codes "x-amz-date") sent.fields ≡ Some moment
   date_is_sent = ap first_of (carries.others (codes "x-amz-date") date_is_name date_is_other) ∙ date_is
 
   text_is : canonical sent (names_text names) ≡ canonical message (names_text names)
@@ -232,7 +232,7 @@ module _ (secret : List ℕ) (message : Message) (scope : Scope) (names : List (
   by_names : by_authorization secret sent (Some said) ≡ None
   unfolding said
   by_names =
-      ap (λ b. cond b (by_moment secret sent said (field_of (codes "x-amz-date") (fields_of sent)))
+      ap (λ b. cond b (by_moment secret sent said (field_of (codes "x-amz-date") sent.fields))
       (Some part.SignedHeaders))
       names_fit
       ∙ ap (by_moment secret sent said) date_is_sent ∙ by_digits
@@ -242,8 +242,8 @@ module _ (secret : List ℕ) (message : Message) (scope : Scope) (names : List (
 
 -- whatever the moment is
 signs_at : (secret : List ℕ) (message : Message) (scope : Scope) (names : List (List ℕ)) (value : List ℕ)
-    → is_scope scope ≡ true → are_signable (fields_of message) names ≡ true → (found : Option (List ℕ))
-    → field_of (codes "x-amz-date") (fields_of message) ≡ found → sign_at secret message scope names found ≡ Ok value
+    → is_scope scope ≡ true → are_signable message.fields names ≡ true → (found : Option (List ℕ))
+    → field_of (codes "x-amz-date") message.fields ≡ found → sign_at secret message scope names found ≡ Ok value
     → (sent : Message) → Carries message value sent → signed secret sent ≡ None
 signs_at secret message scope names value is may None date_is h = absurd (cc)
 signs_at secret message scope names value is may (Some moment) date_is h =
@@ -265,8 +265,8 @@ on_told (Err (refused.Part part)) wanted P is holds = tt
 on_told (Err refused.Memory) wanted P is holds = tt
 
 pub signs : (secret : List ℕ) (message : Message) (scope : Scope) (names : List (List ℕ)) → is_scope scope ≡ true
-    → are_signable (fields_of message) names ≡ true → (result : Result (List ℕ) SignRefused)
-    → OrMemory (told result) (sign_at secret message scope names (field_of (codes "x-amz-date") (fields_of message)))
+    → are_signable message.fields names ≡ true → (result : Result (List ℕ) SignRefused)
+    → OrMemory (told result) (sign_at secret message scope names (field_of (codes "x-amz-date") message.fields))
     → IfOk result (λ value. (sent : Message) → Carries message value sent → signed secret sent ≡ None)
 signs secret message scope names is may result told_is =
     on_told result _ (λ value. (sent : Message) → Carries message value sent → signed secret sent ≡ None) told_is

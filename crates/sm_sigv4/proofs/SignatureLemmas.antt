@@ -7,7 +7,7 @@ use Rattle.sha2.specs.Sha256.{sha256, digest_bytes, final_hash, initial_hash_256
 use Rattle.sha2.proofs.Facts256.{length-sha256}
 use Rattle.hex.specs.Hex.{encode_with, lower_digits}
 use Rattle.hex.proofs.HexLemmas.{length-encode_with}
-use Rattle.sm_http.specs.declared.answer.Message.{Message}
+use Rattle.sm_http.specs.Messages.{Message}
 use Rattle.sm_sigv4.specs.declared.scope.Scope.{Scope}
 use Rattle.sm_sigv4.specs.Hmac.{hmac}
 use Rattle.sm_sigv4.specs.Authorizations.{is_lower_digit, is_signature}

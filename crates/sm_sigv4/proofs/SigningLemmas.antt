@@ -11,7 +11,7 @@ use Rattle.std.proofs.lemmas.Str.{IsUtf8-from_ascii, is_utf8-from_IsUtf8}
 use Rattle.httparse.specs.Grammar.{is_token_byte}
 use Rattle.hex.specs.Hex.{lower_digits}
 use Rattle.hex.proofs.HexLemmas.{IsAscii-encode_with}
-use Rattle.sm_http.specs.declared.answer.Message.{Message}
+use Rattle.sm_http.specs.Messages.{Message}
 use Rattle.sm_http.specs.Heads.{NameValue}
 use Rattle.sm_sigv4.specs.declared.scope.Scope.{Scope}
 use Rattle.sm_sigv4.specs.Texts.{lacks}

@@ -5,10 +5,10 @@ use Rattle.sha2.specs.Sha256.{sha256}
 use Rattle.sha2.specs.Hashers.{Holds256}
 use Rattle.sha2.specs.declared.Sha256.{Sha256}
 use Rattle.hex.specs.Hex.{encode_lower}
-use Rattle.sm_http.specs.declared.answer.Message.{Message}
+use Rattle.sm_http.specs.Messages.{Message}
 use Rattle.sm_http.specs.Heads.{NameValue, values_of}
 use Rattle.sm_sigv4.specs.Texts.{trimmed}
-use Rattle.sm_sigv4.specs.Names.{fields_of, names_of}
+use Rattle.sm_sigv4.specs.Names.{names_of}
 
 abbrev pub line_end : List ℕ
 line_end = 10 ∷ []
@@ -35,7 +35,7 @@ lines fields (name ∷ names) = line fields name ++ lines fields names
 -- their names, and the digest of the body.
 unfoldable pub canonical : Message → List ℕ → List ℕ
 canonical message names =
-    message.method ++ line_end ++ message.path ++ (10 ∷ 10 ∷ []) ++ lines (fields_of message) (names_of names) ++
+    message.method ++ line_end ++ message.path ++ (10 ∷ 10 ∷ []) ++ lines message.fields (names_of names) ++
     line_end
     ++ names ++ line_end ++ encode_lower (sha256 message.body)
 

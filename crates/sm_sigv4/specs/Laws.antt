@@ -1,11 +1,11 @@
 -- Laws of signatures.
 use Rattle.std.specs.Prelude.{◌≡◌, ℕ, ◌++◌, List, [], ◌∷◌, replicate, codes, true, false, Some}
 use Rattle.sm_base.specs.Texts.{same_text}
-use Rattle.sm_http.specs.declared.answer.Message.{Message}
+use Rattle.sm_http.specs.Messages.{Message}
 use Rattle.sm_http.specs.Heads.{values_of}
 use Rattle.sm_sigv4.specs.Authorizations.{Authorization, is_scope, is_signature, scope_text, authorization_in}
 use Rattle.sm_sigv4.specs.Texts.{lacks}
-use Rattle.sm_sigv4.specs.Names.{fields_of, is_field_name, is_among, names_of}
+use Rattle.sm_sigv4.specs.Names.{is_field_name, is_among, names_of}
 use Rattle.sm_sigv4.specs.Canonical.{canonical}
 
 -- an Authorization field as a sentence, with so many spaces behind its two commas
@@ -41,7 +41,7 @@ abbrev pub ByNamesAlone : Type 0
 ByNamesAlone = (one other : Message) (names : List ℕ) → one.method ≡ other.method → one.path ≡ other.path
     → one.body ≡ other.body
     → ((name : List ℕ) → is_among (names_of names) name ≡ true
-    → values_of name (fields_of one) ≡ values_of name (fields_of other))
+    → values_of name one.fields ≡ values_of name other.fields)
     → canonical one names ≡ canonical other names
 
 -- the message with the value as its one Authorization field, and otherwise the same: each other field has the same
@@ -50,6 +50,6 @@ pub record Carries (message : Message) (value : List ℕ) (sent : Message) : Typ
   pub method : sent.method ≡ message.method
   pub path : sent.path ≡ message.path
   pub body : sent.body ≡ message.body
-  pub alone : values_of (codes "authorization") (fields_of sent) ≡ value ∷ []
+  pub alone : values_of (codes "authorization") sent.fields ≡ value ∷ []
   pub others : (name : List ℕ) → is_field_name name ≡ true → same_text name (codes "authorization") ≡ false
-      → values_of name (fields_of sent) ≡ values_of name (fields_of message)
+      → values_of name sent.fields ≡ values_of name message.fields

@@ -1,20 +1,14 @@
 -- The fields that are signed.
 -- AWS General Reference, "Create a signed AWS API request": SignedHeaders; RFC 9110, section 5.6.2 (tokens).
-use Rattle.std.specs.Prelude.{ℕ, Bool, true, ◌&&◌, not, nat_le, List, [], ◌∷◌, length, map, codes, is_some}
+use Rattle.std.specs.Prelude.{ℕ, Bool, true, ◌&&◌, not, nat_le, List, [], ◌∷◌, length, codes, is_some}
 use Rattle.std.specs.Char.{is_ascii_uppercase}
 use Rattle.std.specs.List.{list_all, list_any, join_with_byte}
 use Rattle.std.specs.Cmp.Lexicographic.{slice_cmp}
 use Rattle.std.specs.Ordering.{nat_cmp, is_lt}
 use Rattle.httparse.specs.Grammar.{is_token_byte}
 use Rattle.sm_base.specs.Texts.{same_text}
-use Rattle.sm_http.specs.declared.answer.Message.{Message}
 use Rattle.sm_http.specs.Heads.{NameValue, field_of}
-use Rattle.sm_http.specs.Reading.{pair_of}
 use Rattle.sm_sigv4.specs.Texts.{pieces}
-
--- the fields of a message
-abbrev pub fields_of : Message → List NameValue
-fields_of message = map pair_of message.fields
 
 -- a byte of a field's name, and no capital
 unfoldable pub is_name_byte : ℕ → Bool

@@ -6,14 +6,14 @@ use Rattle.std.specs.List.{list_all}
 use Rattle.sha2.specs.Sha256.{sha256}
 use Rattle.hex.specs.Hex.{encode_lower}
 use Rattle.sm_base.specs.Texts.{same_text}
-use Rattle.sm_http.specs.declared.answer.Message.{Message}
+use Rattle.sm_http.specs.Messages.{Message}
 use Rattle.sm_http.specs.Heads.{field_of}
 use Rattle.sm_sigv4.specs.declared.part.Part.{Part}
 use Rattle.sm_sigv4.specs.declared.part.Part.TheVariants as part
 use Rattle.sm_sigv4.specs.declared.scope.Scope.{Scope}
 use Rattle.sm_sigv4.specs.Hmac.{hmac}
 use Rattle.sm_sigv4.specs.Authorizations.{Authorization, authorization_in, is_scope, scope_text, spelled}
-use Rattle.sm_sigv4.specs.Names.{fields_of, are_signable, names_of, names_text}
+use Rattle.sm_sigv4.specs.Names.{are_signable, names_of, names_text}
 use Rattle.sm_sigv4.specs.Canonical.{line_end, canonical}
 
 -- a moment of this day: 8 digits, T, 6 digits, Z
@@ -50,14 +50,14 @@ by_moment secret message a (Some moment) =
 abbrev pub by_authorization : List ℕ → Message → Option Authorization → Option Part
 by_authorization secret message None = Some part.Authorization
 by_authorization secret message (Some a) =
-    if are_signable (fields_of message) (names_of a.names)
-    then by_moment secret message a (field_of (codes "x-amz-date") (fields_of message)) else Some part.SignedHeaders
+    if are_signable message.fields (names_of a.names)
+    then by_moment secret message a (field_of (codes "x-amz-date") message.fields) else Some part.SignedHeaders
 
 -- the first part of a message's signature that fails, or none where the secret signed it
 abbrev pub signed : List ℕ → Message → Option Part
 signed secret message =
     by_authorization secret message (option_and_then authorization_in
-    (field_of (codes "authorization") (fields_of message)))
+    (field_of (codes "authorization") message.fields))
 
 -- the Authorization field of a message that a secret signs
 abbrev pub field_with : List ℕ → Message → Scope → List ℕ → List ℕ → List ℕ
@@ -74,7 +74,7 @@ sign_at secret message scope names (Some moment) =
 abbrev pub sign : List ℕ → Message → Scope → List (List ℕ) → Result (List ℕ) Part
 sign secret message scope names =
     if is_scope scope
-    then (if are_signable (fields_of message) names
-    then sign_at secret message scope names (field_of (codes "x-amz-date") (fields_of message))
+    then (if are_signable message.fields names
+    then sign_at secret message scope names (field_of (codes "x-amz-date") message.fields)
     else Err part.SignedHeaders)
     else Err part.Authorization

@@ -5,7 +5,7 @@ ghost use Rattle.sha2.specs.Hashers.{Holds256};
 ghost use Rattle.httparse.specs.Grammar.{is_ows, skip_ows, trim_ows};
 ghost use Rattle.hex.specs.Hex.{encode_lower};
 ghost use Rattle.sm_http.specs.Heads.{values_of};
-ghost use Rattle.sm_http.specs.Reading.{pair_of};
+ghost use Rattle.sm_http.specs.Reading.{content, pair_of};
 ghost use Rattle.sm_sigv4.specs.Texts.{begins_with_space, single_spaced, trimmed};
 ghost use Rattle.sm_sigv4.specs.Names.{names_of};
 ghost use Rattle.sm_sigv4.specs.Canonical.{more_values, values_text, line, lines, canonical, Feeds};
@@ -171,7 +171,7 @@ fn body_digits(body: &[u8]) -> [u8; 64]
 /// The digest of the canonical text of a message, where the fields of these names are signed.
 #[tactic(auto, unfolding(crate::specs::Canonical::canonical))]
 pub fn canonical_digest(message: &Message, names: &[u8]) -> [u8; 32]
-    ensures { result ≡ sha256 (canonical message.now names.now) }
+    ensures { result ≡ sha256 (canonical (content message.now) names.now) }
 {
     let mut hasher = Sha256::new();
     hasher.update(message.method.as_slice());

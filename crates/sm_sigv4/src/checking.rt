@@ -1,10 +1,9 @@
 //! Whether a message is signed.
 ghost use Rattle.std.specs.Prelude.{◌≡◌, map, codes, option_map, option_and_then};
 ghost use Rattle.sm_http.specs.Heads.{field_of};
-ghost use Rattle.sm_http.specs.Reading.{pair_of};
+ghost use Rattle.sm_http.specs.Reading.{content, pair_of};
 ghost use Rattle.sm_sigv4.specs.Authorizations.{authorization_in};
 ghost use Rattle.sm_sigv4.specs.Signatures.{by_moment, by_authorization, signed};
-ghost use Rattle.sm_sigv4.specs.Names.{fields_of};
 ghost use Rattle.sm_sigv4.specs.Outcomes.{said, checked};
 
 use crate::authorization::{AuthorizationView, authorization_in};
@@ -29,8 +28,8 @@ fn said_in(fields: &[Field]) -> Option<AuthorizationView<'_>>
 
 /// Whether the moment and the digits are right.
 fn by_moment(secret: &[u8], message: &Message, view: AuthorizationView) -> Checked
-    ensures { result ≡ checked (by_moment secret.now message.now (said view.entry)
-        (field_of (codes "x-amz-date") (fields_of message.now))) }
+    ensures { result ≡ checked (by_moment secret.now (content message.now) (said view.entry)
+        (field_of (codes "x-amz-date") (content message.now).fields)) }
 {
     let Some(moment) = first_value(message.fields.as_slice(), b"x-amz-date") else {
         return Checked::Bad(Part::Date);
@@ -49,7 +48,7 @@ fn by_moment(secret: &[u8], message: &Message, view: AuthorizationView) -> Check
 /// Whether this secret signed the message: else the first part that fails. It takes no memory, and copies nothing of
 /// the message.
 pub fn check(secret: &[u8], message: &Message) -> Checked
-    ensures { result ≡ checked (signed secret.now message.now) }
+    ensures { result ≡ checked (signed secret.now (content message.now)) }
 {
     let Some(view) = said_in(message.fields.as_slice()) else {
         return Checked::Bad(Part::Authorization);

@@ -1,5 +1,6 @@
 //! The digits of a signature.
 ghost use Rattle.std.specs.Prelude.{◌≡◌, ℕ, List, ◌++◌};
+ghost use Rattle.sm_http.specs.Reading.{content};
 ghost use Rattle.sm_sigv4.specs.Hmac.{IsMac};
 ghost use Rattle.sm_sigv4.specs.Authorizations.{scope_text};
 ghost use Rattle.sm_sigv4.specs.Signatures.{signing_key, signature};
@@ -45,7 +46,7 @@ pub fn signature(
     message: &Message,
     names: &[u8],
 ) -> [u8; 64]
-    ensures { result ≡ signature secret.now (seen scope.entry) moment.now message.now names.now }
+    ensures { result ≡ signature secret.now (seen scope.entry) moment.now (content message.now) names.now }
 {
     let mut mac = Mac::of_parts(b"", &signing_key(secret, scope));
     mac.update(b"AWS4-HMAC-SHA256");

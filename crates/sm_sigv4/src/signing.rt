@@ -3,10 +3,11 @@ ghost use Rattle.std.specs.Prelude.{◌≡◌, ◌&&◌, ◌++◌, None, IsTrue,
 ghost use Rattle.std.specs.List.{list_all};
 ghost use Rattle.std.specs.Str.{is_utf8};
 ghost use Rattle.sm_base.specs.Outcomes.{OrMemory};
-ghost use Rattle.sm_http.specs.declared.answer.Message.{Message};
 ghost use Rattle.sm_http.specs.Heads.{field_of};
+ghost use Rattle.sm_http.specs.Messages.{Message as Content};
+ghost use Rattle.sm_http.specs.Reading.{content};
 ghost use Rattle.sm_sigv4.specs.Authorizations.{spelled, scope_text};
-ghost use Rattle.sm_sigv4.specs.Names.{fields_of, is_field_name, are_signable, names_text};
+ghost use Rattle.sm_sigv4.specs.Names.{is_field_name, are_signable, names_text};
 ghost use Rattle.sm_sigv4.specs.Signatures.{field_with, sign_at, sign, signed};
 ghost use Rattle.sm_sigv4.specs.Outcomes.{told, more_names};
 ghost use Rattle.sm_sigv4.specs.Laws.{Carries};
@@ -108,7 +109,7 @@ fn field_with(
     names: &str,
     moment: &[u8],
 ) -> Result<Text, NoMemory>
-    ensures { IfOk result (λ text. text ≡ field_with secret.now message.now scope.now names.now moment.now) }
+    ensures { IfOk result (λ text. text ≡ field_with secret.now (content message.now) scope.now names.now moment.now) }
 {
     let digits = signature(secret, scope.view(), moment, message, names.as_bytes());
     spelled(alloc, scope, names, as_text(&digits))
@@ -122,8 +123,8 @@ fn sign_at(
     scope: &Scope,
     names: &[Text],
 ) -> Result<Text, SignRefused>
-    ensures { OrMemory (told result) (sign_at secret.now message.now scope.now names.now
-        (field_of (codes "x-amz-date") (fields_of message.now))) }
+    ensures { OrMemory (told result) (sign_at secret.now (content message.now) scope.now names.now
+        (field_of (codes "x-amz-date") (content message.now).fields)) }
 {
     let Some(moment) = first_value(message.fields.as_slice(), b"x-amz-date") else {
         return Err(SignRefused::Part(Part::Date));
@@ -138,7 +139,7 @@ fn sign_at(
 /// Whether the fields of these names may be signed, or want of memory.
 #[tactic(auto, using(crate::proofs::SigningLemmas::names_come_back, crate::proofs::SigningLemmas::no_names_fit, crate::proofs::SigningLemmas::none_fits))]
 fn may_sign(alloc: Global, message: &Message, names: &[Text]) -> Result<bool, NoMemory>
-    ensures { IfOk result (λ may. may ≡ are_signable (fields_of message.now) names.now) }
+    ensures { IfOk result (λ may. may ≡ are_signable (content message.now).fields names.now) }
 {
     if names.is_empty() || !are_field_names(names) {
         return Ok(false);
@@ -156,8 +157,8 @@ pub fn sign(
     scope: &Scope,
     names: &[Text],
 ) -> Result<Text, SignRefused>
-    ensures answer { OrMemory (told result) (sign secret.now message.now scope.now names.now) }
-    ensures signs { IfOk result (λ value. (sent : Message) → Carries message.now value sent
+    ensures answer { OrMemory (told result) (sign secret.now (content message.now) scope.now names.now) }
+    ensures signs { IfOk result (λ value. (sent : Content) → Carries (content message.now) value sent
         → signed secret.now sent ≡ None) }
 {
     if !is_scope(scope.view()) {

@@ -1,7 +1,7 @@
 use Rattle.std.proofs.Common.{◌≡◌, drop, map}
 use Rattle.sm_http.specs.Heads.{values_of}
 use Rattle.sm_http.specs.Reading.{pair_of}
-use Rattle.sm_session.proofs.hearing.value_of.Given as goal
+use Rattle.sm_session.proofs.fields.value_of.Given as goal
 
 -- no field of the name was passed
 abbrev pub invariant-loop-field : goal.invariant-loop-field
