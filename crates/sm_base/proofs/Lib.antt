@@ -1,6 +1,8 @@
 pub mod ArnLemmas
 pub mod ArnShapeLemmas
+pub mod BlockLemmas
 pub mod CharacterLemmas
+pub mod ChosenLemmas
 pub mod DrawnLemmas
 pub mod FaultCounts
 pub mod FaultLemmas

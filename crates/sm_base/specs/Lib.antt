@@ -1,3 +1,4 @@
+pub mod Blocks
 pub mod Characters
 pub mod Drawn
 pub mod Fails
@@ -8,7 +9,6 @@ pub mod Outcomes
 pub mod Parts
 pub mod PersonArn
 pub mod Reading
-pub mod Runs
 pub mod SecretId
 pub mod Spelling
 pub mod Sums

@@ -1,5 +1,6 @@
 //! What lists share: items with the numbers of their keys.
-ghost use Rattle.std.specs.Prelude.{◌≡◌, IfOk};
+ghost use Rattle.std.specs.Prelude.{◌≡◌, ◌++◌, IfOk, OnOk, nat_eq};
+ghost use Rattle.std.specs.Cmp.Lexicographic.{pointwise};
 ghost use Rattle.sm_base.specs.Sums.{mixed, sum_of};
 
 use crate::memory::NoMemory;
@@ -56,6 +57,14 @@ impl<T: Keyed> Entry<T> {
         })
     }
 
+    /// Whether the item has the key, whose number this is. An item with another number is not looked at.
+    pub(crate) fn has_key(&self, sum: u32, key: &[u8]) -> bool
+        requires { sum ≡ sum_of key.now }
+        ensures { result ≡ pointwise nat_eq (T.key self.now) key.now }
+    {
+        self.sum == sum && self.item.key() == key
+    }
+
     /// The number of the item's key.
     pub(crate) fn sum(&self) -> u32
         ensures { result ≡ sum_of (T.key self.now) }
@@ -87,4 +96,17 @@ fn mixed(sum: u32, byte: u8) -> u32
     ensures { result ≡ mixed sum byte }
 {
     sum.wrapping_mul(31).wrapping_add(byte as u32)
+}
+
+/// Adds the entries to a vector, shared.
+pub(crate) fn add_shared<T: Keyed + Drop>(
+    entries: &mut Vec<Entry<T>>,
+    shared: &[Entry<T>],
+) -> Result<(), NoMemory>
+    ensures { OnOk result (entries.new.items ≡ entries.old.items ++ shared.now) }
+{
+    for entry in shared {
+        entries.push(entry.shared()?)?;
+    }
+    Ok(())
 }

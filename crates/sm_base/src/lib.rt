@@ -6,17 +6,19 @@
 #![tactic(auto)]
 
 pub mod bad_kind;
+mod blocks;
 pub mod bytes;
 mod characters;
 mod entry;
 pub mod fails;
+mod front;
 pub mod limits;
 pub mod list;
 pub mod memory;
 pub mod moment;
 mod parts;
 pub mod person_arn;
-mod runs;
+pub mod picks;
 pub mod secret_id;
 pub mod shared_list;
 pub mod spelled;
@@ -30,7 +32,8 @@ pub use fails::Fails;
 pub use list::List;
 pub use memory::{Copied, NoMemory, copy_three, copy_two};
 pub use moment::Moment;
+pub use picks::Picks;
 pub use secret_id::SecretId;
-pub use shared_list::{Picks, SharedList};
+pub use shared_list::SharedList;
 pub use spelling::{Arn, Label, Name, ReadRefused, Token};
 pub use text::Text;
