@@ -16,7 +16,7 @@ use sm_disk::Disk;
 use sm_model::{Entry, Label, Moment, Person, Request, SecretId, Value};
 use sm_rotator::{Rotator, Verdict};
 use sm_table::Table;
-use sm_versions::{Found, find};
+use sm_versions::Found;
 use std::marker::PhantomData;
 
 /// All secrets of an account, its entries on a disk, and the history since it was opened. Between any two calls its
@@ -209,9 +209,11 @@ impl<D: Disk, R: Rotator> Account<D, R> {
     {
         let moment = Moment(self.books.last.0.max(now.0));
         let row = self.books.table.find(id, moment)?;
-        match find(row, None, Some(label)) {
-            Found::Version(version) => version.value.as_ref(),
-            Found::None | Found::Differ => None,
+        match self.books.table.find_version(row.serial, None, Some(label)) {
+            Some(Found::Version(version)) => version.value.as_ref(),
+            Some(Found::None) => None,
+            Some(Found::Differ) => None,
+            None => None,
         }
     }
 

@@ -5,8 +5,8 @@ use crate::list_table::ListTable;
 use crate::rows::{add as add_to_table, fresh};
 use crate::versions::token;
 use sm_model::{
-    Change, Copied, Job, Label, List, Moment, Name, Pair, RowList, SecretId, SecretRow, SharedList,
-    Stage, VersionRow,
+    Arn, Change, Copied, Job, Label, List, Moment, Name, Pair, RowList, SecretId, SecretRow,
+    SharedList, Stage, VersionRow,
 };
 use sm_table::Table;
 use sm_table::deletion::is_gone;
@@ -247,6 +247,12 @@ fn serial_of(row: Option<&SecretRow>) -> u64 {
     }
 }
 
+/// The ARN without the hyphen and the six characters at its end.
+fn short_arn(alloc: Global, arn: &Arn) -> Result<Arn, Fail> {
+    let text = arn.as_text().as_bytes();
+    Ok(Arn::read(alloc, &text[..text.len().saturating_sub(7)])?)
+}
+
 /// Whether a name and an ARN, whole and without its end, lead to the same row.
 fn finds_same(alloc: Global, twins: &Twins, number: u64, moment: Moment) -> Result<bool, Fail> {
     let name = name_of(alloc, below(number, NAMES))?;
@@ -264,7 +270,10 @@ fn finds_same(alloc: Global, twins: &Twins, number: u64, moment: Moment) -> Resu
     let id = SecretId::Arn(row.arn.copy(alloc)?);
     let by_arn = serial_of(twins.table.find(&id, moment))
         == serial_of(twins.list.find(&id, moment));
-    Ok(same && by_name && whole && by_arn)
+    let id = SecretId::Arn(short_arn(alloc, &row.arn)?);
+    let by_short = serial_of(twins.table.find(&id, moment))
+        == serial_of(twins.list.find(&id, moment));
+    Ok(same && by_name && whole && by_arn && by_short)
 }
 
 /// Whether the rows with a serial are the same in what was changed.

@@ -1,4 +1,4 @@
--- The dates at which rotations come due.
+-- Dates of rows, and those at which rotations come due.
 use Rattle.std.proofs.Common.{◌≡◌, inl, inr, ℕ, zero, suc, ◌+◌, ◌<◌, ◌≤◌, leb, ltb, eqb, Bool, true, false, not, ◌&&◌, ◌||◌, cond, List, [], ◌∷◌, length, drop, get_or, Option, Some, None, is_some, is_none, refl, sym, ap, subst, ◌∙◌, arith, add-one, drop-cons}
 use Rattle.std.specs.Cmp.{IsStrictWeakOrder}
 use Rattle.std.proofs.lemmas.Bool.{and_parts, eqb-true, false≢true}
@@ -16,7 +16,7 @@ use Rattle.sm_table.specs.Sweep.{is_gone, swept}
 use Rattle.sm_table.specs.Changes.{row_with, dropped}
 use Rattle.sm_table.specs.Kept.{row_serials, IsRising}
 use Rattle.sm_table.specs.Ordered.{placed, may_follow, ordered}
-use Rattle.sm_table.specs.Dates.{is_before, with_date, dates_of, first_due, has_room, lower, lower_if, comes, lowest_due, IsBut}
+use Rattle.sm_table.specs.Dates.{is_before, with_date, dates_by, dates_of, first_due, has_room, lower, lower_if, comes, lowest_due, IsBut}
 use Rattle.sm_table.proofs.FoundLaws.{IsIn, row_with_own}
 use Rattle.sm_table.proofs.MapLemmas.{dropped_above}
 use Rattle.sm_table.proofs.OrderedLemmas.{placed_ordered, placed_swap}
@@ -63,38 +63,38 @@ with_date_swap (Some one) (Some other) dates m n less = by (is_before a b) refl
     by true e = sym (placed_swap is_before date_laws dates a b (sym e))
     by false e = placed_swap is_before date_laws dates b a (apart a b less (sym e))
 
-apart_from : (rows : List SecretRow) (serial low next : ℕ) (row : SecretRow)
+apart_from : (date : SecretRow → Option Moment) (rows : List SecretRow) (serial low next : ℕ) (row : SecretRow)
     → rises low (row_serials rows) next ≡ true → row_with rows serial ≡ Some row
-    → dates_of rows ≡ with_date (due_date row) (dates_of (dropped rows serial)) serial
-apart_from [] serial low next row h e = absurd (cc)
-apart_from (r ∷ rs) serial low next row h e =
+    → dates_by date rows ≡ with_date (date row) (dates_by date (dropped rows serial)) serial
+apart_from date [] serial low next row h e = absurd (cc)
+apart_from date (r ∷ rs) serial low next row h e =
     let parts = and_parts (leb low r.serial) (rises (r.serial + 1) (row_serials rs) next) h in
     by (eqb r.serial serial) refl e
     (λ less. dropped_above rs serial (r.serial + 1) next parts.1 less)
     (λ f. row_from rs serial (r.serial + 1) next row parts.1 f)
-    (apart_from rs serial (r.serial + 1) next row parts.1)
+    (apart_from date rs serial (r.serial + 1) next row parts.1)
   where
     by : (b : Bool) → b ≡ eqb r.serial serial → cond b (Some r) (row_with rs serial) ≡ Some row
         → (serial < r.serial + 1 → dropped rs serial ≡ rs)
         → (row_with rs serial ≡ Some row → r.serial + 1 ≤ serial)
         → (row_with rs serial ≡ Some row
-        → dates_of rs ≡ with_date (due_date row) (dates_of (dropped rs serial)) serial)
-        → with_date (due_date r) (dates_of rs) r.serial
-        ≡ with_date (due_date row) (dates_of (cond b (dropped rs serial) (r ∷ dropped rs serial))) serial
+        → dates_by date rs ≡ with_date (date row) (dates_by date (dropped rs serial)) serial)
+        → with_date (date r) (dates_by date rs) r.serial
+        ≡ with_date (date row) (dates_by date (cond b (dropped rs serial) (r ∷ dropped rs serial))) serial
     by true t e gone from rest =
         let here : r ≡ row = cc in
         let same : r.serial ≡ serial = eqb-true r.serial serial (sym t) in
         rw (← here, gone (omega (arith, same)), ← same) refl
     by false t e gone from rest =
-        ap (λ ds. with_date (due_date r) ds r.serial) (rest e)
-        ∙ with_date_swap (due_date r) (due_date row) (dates_of (dropped rs serial)) r.serial serial
+        ap (λ ds. with_date (date r) ds r.serial) (rest e)
+        ∙ with_date_swap (date r) (date row) (dates_by date (dropped rs serial)) r.serial serial
         (let above = from e in omega (arith, above))
 
 -- the dates are those of the others, with the row's own where it has one
-pub dates_apart : (rows : List SecretRow) (serial : ℕ) (row : SecretRow) → IsRising rows
-    → row_with rows serial ≡ Some row
-    → dates_of rows ≡ with_date (due_date row) (dates_of (dropped rows serial)) serial
-dates_apart rows serial row rising e = apart_from rows serial 0 rising.0 row rising.1 e
+pub dates_apart : (date : SecretRow → Option Moment) (rows : List SecretRow) (serial : ℕ) (row : SecretRow)
+    → IsRising rows → row_with rows serial ≡ Some row
+    → dates_by date rows ≡ with_date (date row) (dates_by date (dropped rows serial)) serial
+dates_apart date rows serial row rising e = apart_from date rows serial 0 rising.0 row rising.1 e
 
 with_date_ordered : (date : Option Moment) (dates : List DueDate) (serial : ℕ) → ordered is_before dates ≡ true
     → ordered is_before (with_date date dates serial) ≡ true
@@ -106,9 +106,10 @@ pub but_ordered : (dates : List DueDate) (capacity : ℕ) (was : Option Moment) 
     → IsBut dates capacity was serial others → ordered is_before dates ≡ true
 but_ordered dates capacity was serial others but = rw but.is (with_date_ordered was others serial but.order)
 
-pub dates_ordered : (rows : List SecretRow) → ordered is_before (dates_of rows) ≡ true
-dates_ordered [] = refl
-dates_ordered (r ∷ rs) = with_date_ordered (due_date r) (dates_of rs) r.serial (dates_ordered rs)
+pub dates_ordered : (date : SecretRow → Option Moment) (rows : List SecretRow)
+    → ordered is_before (dates_by date rows) ≡ true
+dates_ordered date [] = refl
+dates_ordered date (r ∷ rs) = with_date_ordered (date r) (dates_by date rs) r.serial (dates_ordered date rs)
 
 placed_count : (dates : List DueDate) (due : DueDate) → length (placed is_before dates due) ≡ suc (length dates)
 placed_count [] due = refl
@@ -125,9 +126,11 @@ with_date_count None dates serial = omega arith
 with_date_count (Some date) dates serial =
     omega (arith, placed_count dates (record { date = date; serial = serial }))
 
-pub dates_fewer : (rows : List SecretRow) → length (dates_of rows) ≤ length rows
-dates_fewer [] = omega arith
-dates_fewer (r ∷ rs) = omega (arith, with_date_count (due_date r) (dates_of rs) r.serial, dates_fewer rs)
+pub dates_fewer : (date : SecretRow → Option Moment) (rows : List SecretRow)
+    → length (dates_by date rows) ≤ length rows
+dates_fewer date [] = omega arith
+dates_fewer date (r ∷ rs) =
+    omega (arith, with_date_count (date r) (dates_by date rs) r.serial, dates_fewer date rs)
 
 -- ---- a sweep
 

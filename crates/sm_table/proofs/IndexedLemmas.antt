@@ -1,8 +1,7 @@
 -- Rows with an index.
-use Rattle.std.proofs.Common.{◌≡◌, ◌≢◌, ◌⊎◌, inl, inr, ℕ, suc, ◌+◌, ◌<◌, leb, Bool, true, false, not, ◌&&◌, ◌||◌, cond, eqb, List, [], ◌∷◌, ◌++◌, filter, length, take, slice_get, Option, Some, None, refl, sym, ap, subst, ◌∙◌, arith}
+use Rattle.std.proofs.Common.{◌≡◌, ◌≢◌, ◌⊎◌, inl, inr, ℕ, suc, ◌+◌, ◌<◌, leb, Bool, true, false, not, ◌||◌, cond, eqb, List, [], ◌∷◌, ◌++◌, filter, length, Option, Some, None, refl, sym, ap, subst, ◌∙◌, arith}
 use Rattle.std.proofs.lemmas.Grind.{common_steps}
 use Rattle.std.proofs.lemmas.Bool.{and_parts, eqb-true, false≢true}
-use Rattle.std.proofs.lemmas.Bool.Decides.{nat_tests}
 use Rattle.std.specs.List.{find}
 use Rattle.std.specs.Option.{option_map}
 use Rattle.sm_base.specs.declared.moment.Moment.{Moment}
@@ -10,91 +9,14 @@ use Rattle.sm_model.specs.declared.rows.SecretRow.{SecretRow}
 use Rattle.sm_versions.specs.Serials.{rises}
 use Rattle.sm_versions.specs.Texts.{is_among, once}
 use Rattle.sm_base.specs.Texts.{same_text}
-use Rattle.sm_model.specs.Due.{is_reached}
 use Rattle.sm_versions.proofs.TextLemmas.{same_text_tells, same_text_itself}
 use Rattle.sm_table.specs.Sweep.{is_gone, swept}
 use Rattle.sm_table.specs.Found.{row_named}
 use Rattle.sm_table.specs.Changes.{row_with, replaced, dropped}
 use Rattle.sm_table.specs.Kept.{row_names, row_serials, IsRising}
 use Rattle.sm_table.specs.Maps.{by_name, serial_of, without_name, without_row, stays}
-use Rattle.sm_table.specs.Indexed.{all_stay, earlier}
 use Rattle.sm_table.proofs.FoundLaws.{IsIn, named_in, row_with_own}
-use Rattle.sm_table.proofs.MapLemmas.{dropped_above, more}
-
--- ---- dates
-
-reached_earlier : (date other : Option Moment) (moment : Moment)
-    → is_reached (earlier date other) moment ≡ (is_reached date moment || is_reached other moment)
-reached_earlier None other moment = refl
-reached_earlier (Some date) None moment = grind (arith, common_steps)
-reached_earlier (Some date) (Some other) moment = grind (arith, nat_tests)
-
--- where no row is gone all stay
-pub stay_swept : (rows : List SecretRow) (moment : Moment) → all_stay rows moment ≡ true → swept rows moment ≡ rows
-stay_swept [] moment h = refl
-stay_swept (r ∷ rs) moment h = by (is_gone r moment) h (stay_swept rs moment)
-  where
-    by : (b : Bool) → (not b && all_stay rs moment) ≡ true → (all_stay rs moment ≡ true → swept rs moment ≡ rs)
-        → cond b (swept rs moment) (r ∷ swept rs moment) ≡ r ∷ rs
-    by true h rest = absurd (false≢true h)
-    by false h rest = ap (λ qs. r ∷ qs) (rest h)
-
-stay_push : (rows : List SecretRow) (row : SecretRow) (moment : Moment) → all_stay rows moment ≡ true
-    → is_gone row moment ≡ false → all_stay (rows ++ row ∷ []) moment ≡ true
-stay_push [] row moment h g = rw g
-stay_push (r ∷ rs) row moment h g = grind (arith, common_steps, stay_push rs row moment)
-
-stay_replaced : (rows : List SecretRow) (row : SecretRow) (moment : Moment) → all_stay rows moment ≡ true
-    → is_gone row moment ≡ false → all_stay (replaced rows row) moment ≡ true
-stay_replaced [] row moment h g = h
-stay_replaced (r ∷ rs) row moment h g =
-    by (eqb r.serial row.serial) (and_parts (not (is_gone r moment)) (all_stay rs moment) h)
-    (stay_replaced rs row moment)
-  where
-    by : (b : Bool) → (not (is_gone r moment) ≡ true) × (all_stay rs moment ≡ true)
-        → (all_stay rs moment ≡ true → is_gone row moment ≡ false → all_stay (replaced rs row) moment ≡ true)
-        → all_stay (cond b (row ∷ rs) (r ∷ replaced rs row)) moment ≡ true
-    by true h rest = rw g h.1
-    by false h rest = grind (arith, common_steps, h.0, rest h.1 g)
-
-both_later : (date other : Option Moment) (moment : Moment) → is_reached (earlier date other) moment ≡ false
-    → (is_reached date moment ≡ false) × (is_reached other moment ≡ false)
-both_later date other moment h =
-    by (is_reached date moment) (is_reached other moment) (sym (reached_earlier date other moment) ∙ h)
-  where
-    by : (a b : Bool) → (a || b) ≡ false → (a ≡ false) × (b ≡ false)
-    by true b e = absurd (false≢true (sym e))
-    by false b e = (refl, e)
-
--- the earlier date serves for a row that is added, and for one that replaces another
-pub stay_added : (rows : List SecretRow) (row : SecretRow) (date : Option Moment)
-    → ((moment : Moment) → is_reached date moment ≡ false → all_stay rows moment ≡ true)
-    → (moment : Moment) → is_reached (earlier date row.deletion) moment ≡ false
-    → all_stay (rows ++ row ∷ []) moment ≡ true
-stay_added rows row date stay moment h =
-    let parts = both_later date row.deletion moment h in stay_push rows row moment (stay moment parts.0) parts.1
-
-pub stay_put : (rows : List SecretRow) (row : SecretRow) (date : Option Moment)
-    → ((moment : Moment) → is_reached date moment ≡ false → all_stay rows moment ≡ true)
-    → (moment : Moment) → is_reached (earlier date row.deletion) moment ≡ false
-    → all_stay (replaced rows row) moment ≡ true
-stay_put rows row date stay moment h =
-    let parts = both_later date row.deletion moment h in stay_replaced rows row moment (stay moment parts.0) parts.1
-
--- and for the rows that are left where one is dropped
-pub stay_dropped : (rows : List SecretRow) (serial : ℕ) (moment : Moment) → all_stay rows moment ≡ true
-    → all_stay (dropped rows serial) moment ≡ true
-stay_dropped [] serial moment h = h
-stay_dropped (r ∷ rs) serial moment h = grind (arith, common_steps, stay_dropped rs serial moment)
-
--- one row more, as at a step of a loop
-pub stay_more : (rows : List SecretRow) (i : ℕ) (row : SecretRow) (date : Option Moment)
-    → slice_get rows i ≡ Some row
-    → ((moment : Moment) → is_reached date moment ≡ false → all_stay (take i rows) moment ≡ true)
-    → (moment : Moment) → is_reached (earlier date row.deletion) moment ≡ false
-    → all_stay (take (i + 1) rows) moment ≡ true
-stay_more rows i row date here stay moment h =
-    rw (more rows i row here) (stay_added (take i rows) row date stay moment h)
+use Rattle.sm_table.proofs.MapLemmas.{dropped_above}
 
 -- ---- names
 

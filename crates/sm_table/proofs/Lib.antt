@@ -10,6 +10,7 @@ pub mod IndexedLemmas
 pub mod ApartLemmas
 pub mod JobLemmas
 pub mod DateLemmas
+pub mod DeletionLemmas
 pub mod SignLemmas
 pub mod RoomLemmas
 pub mod TableLaws

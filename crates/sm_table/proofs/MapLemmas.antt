@@ -1,5 +1,5 @@
 -- The maps of a table.
-use Rattle.std.proofs.Common.{◌≡◌, ℕ, zero, suc, ◌+◌, ◌<◌, Bool, true, false, not, cond, eqb, leb, nat_eq, List, [], ◌∷◌, ◌++◌, filter, length, take, slice_get, Some, None, refl, sym, ap, subst, ◌∙◌, arith, append_assoc, length-append, add-one}
+use Rattle.std.proofs.Common.{◌≡◌, ℕ, zero, suc, ◌+◌, ◌<◌, Bool, true, false, not, cond, eqb, leb, nat_eq, List, [], ◌∷◌, ◌++◌, filter, length, take, slice_get, Some, None, refl, sym, ap, subst, ◌∙◌, arith, append_assoc, add-one}
 use Rattle.std.specs.Cmp.{IsEquivalence, partial_equiv_from_equiv, nat_eq_equiv, on_equiv}
 use Rattle.std.specs.Cmp.Lexicographic.{pointwise, lists_per, lists_equiv}
 use Rattle.std.specs.List.{IsDistinct}
@@ -10,7 +10,6 @@ use Rattle.std.proofs.lemmas.List.{append-nil}
 use Rattle.std.proofs.lemmas.Option.{slice_get-map}
 use Rattle.std.proofs.lemmas.Bool.{and_parts, eqb-true}
 use Rattle.std.proofs.lemmas.Bool.Decides.{nat_tests}
-use Rattle.std.proofs.lemmas.Grind.{common_steps}
 use Rattle.indexmap.specs.IndexMap.{insert_entry, insert_all}
 use Rattle.indexmap.proofs.MapLemmas.{absent_before, absent_from_lookup, insert_entry-absent}
 use Rattle.sm_base.specs.Texts.{same_text}
@@ -154,11 +153,6 @@ pub more : (rows : List SecretRow) (i : ℕ) (row : SecretRow) → slice_get row
     → take (i + 1) rows ≡ take i rows ++ row ∷ []
 more rows i row e = rw add-one (more_suc rows i row e)
 
-pub swept-append : (rows others : List SecretRow) (moment : Moment)
-    → swept (rows ++ others) moment ≡ swept rows moment ++ swept others moment
-swept-append [] others moment = refl
-swept-append (r ∷ rs) others moment = grind (arith, common_steps, swept-append rs others moment)
-
 none_suc : (rows : List SecretRow) (i : ℕ) → slice_get rows i ≡ None → take (suc i) rows ≡ take i rows
 none_suc [] zero e = refl
 none_suc [] (suc i) e = refl
@@ -167,20 +161,6 @@ none_suc (r ∷ rs) (suc i) e = ap (λ qs. r ∷ qs) (none_suc rs i e)
 
 pub more_none : (rows : List SecretRow) (i : ℕ) → slice_get rows i ≡ None → take (i + 1) rows ≡ take i rows
 more_none rows i e = rw add-one (none_suc rows i e)
-
-pub count_stays : (rows : List SecretRow) (moment : Moment) (i : ℕ) (row : SecretRow) → slice_get rows i ≡ Some row
-    → is_gone row moment ≡ false
-    → length (swept (take (i + 1) rows) moment) ≡ length (swept (take i rows) moment) + 1
-count_stays rows moment i row e stays =
-    rw (more rows i row e, swept-append (take i rows) (row ∷ []) moment, stays)
-    (omega (arith, length-append (swept (take i rows) moment) (row ∷ [])))
-
-pub count_gone : (rows : List SecretRow) (moment : Moment) (i : ℕ) (row : SecretRow) → slice_get rows i ≡ Some row
-    → is_gone row moment ≡ true
-    → length (swept (take (i + 1) rows) moment) ≡ length (swept (take i rows) moment)
-count_gone rows moment i row e gone =
-    rw (more rows i row e, swept-append (take i rows) (row ∷ []) moment, gone)
-    (omega (arith, length-append {A = SecretRow} (swept (take i rows) moment) []))
 
 -- ---- what a map of rows has after each change
 

@@ -89,7 +89,12 @@ enough_for (Some room) more less h enough = record {
   names = omega (arith, h, enough.names);
   no_jobs = enough.no_jobs;
   no_dates = enough.no_dates;
-  signs = record { jobs = omega (arith, h, enough.signs.jobs); dates = omega (arith, h, enough.signs.dates) };
+  no_deletions = enough.no_deletions;
+  signs = record {
+    jobs = omega (arith, h, enough.signs.jobs);
+    dates = omega (arith, h, enough.signs.dates);
+    deletions = omega (arith, h, enough.signs.deletions);
+  };
 }
 
 -- the state of a table whose rows were swept

@@ -1,11 +1,11 @@
--- The dates at which rotations come due.
-use Rattle.std.specs.Prelude.{◌≡◌, ℕ, ◌<◌, Bool, true, false, not, ◌&&◌, ◌||◌, nat_eq, nat_le, nat_lt, List, [], ◌∷◌, length, Option, Some, None, IsTrue, if◌then◌else◌}
+-- Dates of rows: those at which rotations come due, and those of deletions.
+use Rattle.std.specs.Prelude.{◌≡◌, ℕ, suc, ◌<◌, Bool, true, false, not, ◌&&◌, ◌||◌, nat_eq, nat_le, nat_lt, List, [], ◌∷◌, length, Option, Some, None, IsTrue, if◌then◌else◌}
 use Rattle.sm_base.specs.declared.moment.Moment.{Moment}
 use Rattle.sm_model.specs.declared.rows.SecretRow.{SecretRow}
 use Rattle.sm_versions.specs.Due.{is_due, due_date}
 use Rattle.sm_versions.specs.Put.{is_full}
 use Rattle.sm_table.specs.declared.dates.DueDate.{DueDate}
-use Rattle.sm_table.specs.Changes.{row_with}
+use Rattle.sm_table.specs.Changes.{row_with, dropped}
 use Rattle.sm_table.specs.Ordered.{placed, ordered}
 
 -- an earlier date is before a later one, and of the same dates the one with the lower serial
@@ -18,10 +18,40 @@ abbrev pub with_date : Option Moment → List DueDate → ℕ → List DueDate
 with_date None dates serial = dates
 with_date (Some date) dates serial = placed is_before dates (record { date = date; serial = serial })
 
--- the dates at which rotations of the rows come due, in their order
+-- the dates of the rows, where a row has one, in their order
+abbrev pub dates_by : (SecretRow → Option Moment) → List SecretRow → List DueDate
+dates_by date [] = []
+dates_by date (r ∷ rs) = with_date (date r) (dates_by date rs) r.serial
+
+-- those at which their rotations come due
 abbrev pub dates_of : List SecretRow → List DueDate
-dates_of [] = []
-dates_of (r ∷ rs) = with_date (due_date r) (dates_of rs) r.serial
+dates_of rows = dates_by due_date rows
+
+abbrev pub deletion_date : SecretRow → Option Moment
+deletion_date row = row.deletion
+
+-- those of their deletions
+abbrev pub deletions_of : List SecretRow → List DueDate
+deletions_of rows = dates_by deletion_date rows
+
+-- the serial of the first date
+abbrev pub first_serial : List DueDate → Option ℕ
+first_serial [] = None
+first_serial (d ∷ ds) = Some d.serial
+
+-- the rows without the one with the first of the dates
+abbrev pub without_first : List SecretRow → List DueDate → List SecretRow
+without_first rows [] = rows
+without_first rows (d ∷ ds) = dropped rows d.serial
+
+-- how many of the dates the moment has reached
+abbrev pub reached : List DueDate → Moment → ℕ
+reached [] moment = 0
+reached (d ∷ ds) moment = if nat_le d.date.0 moment.0 then suc (reached ds moment) else reached ds moment
+
+-- the moment has not reached the date
+abbrev pub is_later : Moment → DueDate → Bool
+is_later moment due = nat_lt moment.0 due.date.0
 
 -- the first row that is due at the moment for a token that none of its versions has
 abbrev pub first_due : List SecretRow → Moment → Option ℕ

@@ -1,13 +1,13 @@
-//! The dates at which rotations come due, in a vector with room.
-ghost use Rattle.std.specs.Prelude.{◌≡◌, ◌<◌, ◌≤◌, IsTrue, List, ℕ, Option, None, length, option_copied, vec_len, vec_capacity};
+//! Dates of rows, in a vector with room: those at which rotations come due, and those of deletions.
+ghost use Rattle.std.specs.Prelude.{◌≡◌, ◌<◌, ◌≤◌, IsTrue, List, ℕ, Option, None, length, filter, option_copied, vec_len, vec_capacity};
 ghost use Rattle.sm_table.specs.declared.dates.DueDate.{DueDate};
 ghost use Rattle.sm_table.specs.Ordered.{before, placed, taken, ordered};
-ghost use Rattle.sm_table.specs.Dates.{is_before, with_date, lower, lower_if, comes, lowest_due, IsBut};
+ghost use Rattle.sm_table.specs.Dates.{is_before, with_date, lower, lower_if, comes, lowest_due, is_later, reached, IsBut};
 
 use crate::row_map::RowMap;
 use sm_model::Moment;
 
-/// A date at which a rotation of the row with the serial comes due.
+/// A date of the row with the serial, at which something of it is due.
 #[derive(Clone, Copy)]
 pub struct DueDate {
     pub date: Moment,
@@ -110,6 +110,23 @@ fn enter(dates: &mut Vec<DueDate>, serial: u64, is: Option<Moment>)
         Some(date) => put_in(dates, DueDate { date, serial }),
         None => {}
     }
+}
+
+/// How many of the dates the moment has reached.
+pub fn reached(dates: &[DueDate], moment: Moment) -> usize
+    requires { IsTrue (ordered is_before dates.now) }
+    ensures reached { result ≡ reached dates.now moment }
+    ensures within { result ≤ length dates.now }
+{
+    dates.partition_point(|due| due.date.0 <= moment.0)
+}
+
+/// Drops the dates that the moment has reached.
+pub fn drop_reached(dates: &mut Vec<DueDate>, moment: Moment)
+    ensures later { dates.new.items ≡ filter (is_later moment) dates.old.items }
+    ensures room { vec_capacity dates.new ≡ vec_capacity dates.old }
+{
+    dates.retain(|due| moment.0 < due.date.0);
 }
 
 /// The lower of two serials.

@@ -1,4 +1,4 @@
-//! Rows, found by their serials and their names, and the earliest date at which one of them is gone.
+//! Rows, found by their serials and their names.
 ghost use Rattle.std.specs.Prelude.{◌≡◌, ◌+◌, ◌<◌, ◌≤◌, ◌^◌, ℕ, suc, None, [], ◌∷◌, ◌++◌, length, IsTrue, IsSome, IfOk, IfSome, option_copied, nat_eq, if◌then◌else◌, ◌-◌};
 ghost use Rattle.sm_versions.specs.Texts.{once};
 ghost use Rattle.sm_table.specs.Sweep.{swept};
@@ -9,16 +9,14 @@ ghost use Rattle.sm_table.specs.Indexed.{behind, room_left, HasRoom, IsIndexed, 
 ghost use Rattle.sm_table.specs.Maps.{without_row};
 ghost use Rattle.sm_table.specs.Ready.{CanAdd, IsAdded};
 ghost use Rattle.sm_table.specs.Signs.{SignsRoom};
-ghost use Rattle.sm_table.specs.Dates.{first_due};
+ghost use Rattle.sm_table.specs.Dates.{deletions_of, first_due, reached, without_first};
 
 use crate::dates;
-use crate::deletion::earlier;
 use crate::kept::Kept;
 use crate::name_map::NameMap;
 use crate::row_map::RowMap;
 use crate::signs::Signs;
 use sm_model::{Moment, NoMemory, SecretRow};
-use sm_versions::is_reached;
 use std::alloc::Global;
 
 /// The most rows for which there is room behind one that came with new room.
@@ -30,8 +28,6 @@ pub struct Indexed {
     pub rows: RowMap,
     pub names: NameMap,
     pub signs: Signs,
-    /// No row is gone before this date.
-    pub soonest: Option<Moment>,
     /// For how many more rows there is room.
     pub left: u64,
 }
@@ -73,7 +69,6 @@ impl Indexed {
             rows: RowMap::new(alloc),
             names: NameMap::new(alloc),
             signs: Signs::new(alloc),
-            soonest: None,
             left: 0,
         }
     }
@@ -92,16 +87,20 @@ impl Indexed {
     }
 
     /// How many rows are there at the moment.
-    #[tactic(auto, using(crate::proofs::IndexedLemmas::stay_swept))]
     pub fn count_at(&self, moment: Moment) -> usize
         requires { IsIndexed self.now }
         ensures { result ≡ length (swept self.now.rows.list moment) }
     {
-        if is_reached(self.soonest, moment) {
-            self.rows.count_at(moment)
-        } else {
-            self.rows.len()
-        }
+        self.rows.len() - self.count_gone(moment)
+    }
+
+    /// How many rows are gone at the moment.
+    fn count_gone(&self, moment: Moment) -> usize
+        requires { IsIndexed self.now }
+        ensures gone { result ≡ reached (deletions_of self.now.rows.list) moment }
+        ensures within { result ≤ length self.now.rows.list }
+    {
+        dates::reached(self.signs.deletions.as_slice(), moment)
     }
 
     /// The serial of the first row that is due at the moment for a token that none of its versions has.
@@ -151,7 +150,6 @@ impl Indexed {
         let Added { kept, name, room } = added;
         let serial = kept.row().serial;
         self.make_room(room, serial);
-        self.soonest = earlier(self.soonest, kept.row().deletion);
         self.left = left_behind(self.left, serial);
         self.signs.add(&self.rows, kept.row());
         self.names.add(name, serial);
@@ -201,8 +199,46 @@ impl Indexed {
         self.signs = signs;
     }
 
-    /// Drops the rows whose deletion date is reached.
+    /// Drops the rows whose deletion date is reached. Where one row is gone, the others are not looked at.
+    #[tactic(auto, using(crate::proofs::DeletionLemmas::one_gone, crate::proofs::DeletionLemmas::all_stay))]
     pub fn sweep(&mut self, moment: Moment)
+        requires kept { IsIndexed self.old }
+        requires rising { IsRising self.old.rows.list }
+        requires names { IsTrue (once (row_names self.old.rows.list)) }
+        requires room { HasRoom self.old 0 }
+        ensures kept { IsIndexed self.new }
+        ensures rows { self.new.rows.list ≡ swept self.old.rows.list moment }
+        ensures left { self.new.left ≡ self.old.left }
+        ensures room { (count : ℕ) → HasRoom self.old count → HasRoom self.new count }
+    {
+        let count = self.count_gone(moment);
+        if count == 1 {
+            self.drop_first();
+        } else if count > 1 {
+            self.sweep_all(moment);
+        }
+    }
+
+    /// Drops the row with the first deletion date.
+    #[tactic(auto, using(crate::proofs::DeletionLemmas::first_some, crate::proofs::DeletionLemmas::first_none))]
+    fn drop_first(&mut self)
+        requires kept { IsIndexed self.old }
+        requires rising { IsRising self.old.rows.list }
+        requires names { IsTrue (once (row_names self.old.rows.list)) }
+        requires room { HasRoom self.old 0 }
+        ensures kept { IsIndexed self.new }
+        ensures rows { self.new.rows.list ≡ without_first self.old.rows.list (deletions_of self.old.rows.list) }
+        ensures left { self.new.left ≡ self.old.left }
+        ensures room { (count : ℕ) → HasRoom self.old count → HasRoom self.new count }
+    {
+        match self.signs.first_deleted() {
+            Some(serial) => self.drop_row(serial),
+            None => {}
+        }
+    }
+
+    /// Drops the rows whose deletion date is reached, by a walk over all.
+    fn sweep_all(&mut self, moment: Moment)
         requires kept { IsIndexed self.old }
         requires rising { IsRising self.old.rows.list }
         ensures kept { IsIndexed self.new }
@@ -210,12 +246,9 @@ impl Indexed {
         ensures left { self.new.left ≡ self.old.left }
         ensures room { (count : ℕ) → HasRoom self.old count → HasRoom self.new count }
     {
-        if is_reached(self.soonest, moment) {
-            self.names.sweep(&self.rows, moment);
-            self.signs.drop_gone(&self.rows, moment);
-            self.rows.sweep(moment);
-            self.soonest = self.rows.soonest();
-        }
+        self.names.sweep(&self.rows, moment);
+        self.signs.drop_gone(&self.rows, moment);
+        self.rows.sweep(moment);
     }
 
     /// Puts the row in the place of the one with its serial.
@@ -229,7 +262,6 @@ impl Indexed {
         ensures left { self.new.left ≡ self.old.left }
         ensures room { (count : ℕ) → HasRoom self.old count → HasRoom self.new count }
     {
-        self.soonest = earlier(self.soonest, kept.row().deletion);
         self.signs.replace(&self.rows, kept.row());
         self.rows.replace(kept);
     }

@@ -1,15 +1,12 @@
 //! The rows by their serials.
-ghost use Rattle.std.specs.Prelude.{◌≡◌, ◌+◌, ◌<◌, ◌≤◌, ◌^◌, false, true, None, [], ◌∷◌, ◌++◌, length, slice_get, IfOk, option_copied};
-ghost use Rattle.sm_model.specs.Due.{is_reached};
-ghost use Rattle.sm_base.specs.declared.moment.Moment.{Moment};
+ghost use Rattle.std.specs.Prelude.{◌≡◌, ◌+◌, ◌<◌, ◌≤◌, ◌^◌, None, [], ◌∷◌, ◌++◌, length, slice_get, IfOk, option_copied};
 ghost use Rattle.sm_table.specs.Sweep.{is_gone, swept};
 ghost use Rattle.sm_table.specs.Changes.{row_with, replaced, dropped};
 ghost use Rattle.sm_table.specs.Kept.{IsRising};
 ghost use Rattle.sm_table.specs.Maps.{stays};
 ghost use Rattle.sm_table.specs.Dates.{has_room};
-ghost use Rattle.sm_table.specs.Indexed.{all_stay};
 
-use crate::deletion::{earlier, is_gone};
+use crate::deletion::is_gone;
 use crate::kept::Kept;
 use indexmap::IndexMap;
 use sm_model::{Copied, Moment, NoMemory, SecretRow};
@@ -171,40 +168,6 @@ impl RowMap {
             Ok(()) => {}
             Err(_) => unreachable!(),
         }
-    }
-
-    /// How many rows are there at the moment.
-    #[tactic(auto, using(crate::proofs::MapLemmas::more_none, crate::proofs::MapLemmas::count_stays, crate::proofs::MapLemmas::count_gone))]
-    pub fn count_at(&self, moment: Moment) -> usize
-        ensures { result ≡ length (swept self.now.list moment) }
-    {
-        let mut count = 0;
-        for i in 0..self.len() {
-            match self.at(i) {
-                Some(row) => {
-                    if !is_gone(row, moment) {
-                        count += 1;
-                    }
-                }
-                None => {}
-            }
-        }
-        count
-    }
-
-    /// The earliest date at which one of the rows is gone.
-    #[tactic(auto, using(crate::proofs::MapLemmas::more_none, crate::proofs::IndexedLemmas::stay_more))]
-    pub fn soonest(&self) -> Option<Moment>
-        ensures { (moment : Moment) → is_reached result moment ≡ false → all_stay self.now.list moment ≡ true }
-    {
-        let mut date = None;
-        for i in 0..self.len() {
-            match self.at(i) {
-                Some(row) => date = earlier(date, row.deletion),
-                None => {}
-            }
-        }
-        date
     }
 
     /// Copies of the rows.

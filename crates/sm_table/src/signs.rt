@@ -1,8 +1,10 @@
-//! What is kept of all rows beside them: the serials of those with a job, and the dates at which rotations come due.
+//! What is kept of all rows beside them: the serials of those with a job, the dates at which rotations come due, and
+//! those of deletions.
 ghost use Rattle.std.specs.Prelude.{◌≡◌, ◌+◌, ◌≤◌, ℕ, None, [], ◌∷◌, ◌++◌, length, IfOk, vec_len, vec_capacity};
 ghost use Rattle.sm_table.specs.Sweep.{swept};
 ghost use Rattle.sm_table.specs.Changes.{row_with, replaced, dropped};
 ghost use Rattle.sm_table.specs.Kept.{IsRising};
+ghost use Rattle.sm_table.specs.Dates.{first_serial};
 ghost use Rattle.sm_table.specs.Signs.{IsSigns, SignsRoom};
 
 use crate::dates::{self, DueDate};
@@ -12,11 +14,13 @@ use sm_model::{Moment, NoMemory, SecretRow};
 use sm_versions::due_date;
 use std::alloc::Global;
 
-/// The serials of the rows that have a job, and the dates at which rotations come due, each in order.
+/// The serials of the rows that have a job, the dates at which rotations come due, and those of deletions, each in
+/// order.
 #[derive(Drop)]
 pub struct Signs {
     pub jobs: Vec<u64>,
     pub dates: Vec<DueDate>,
+    pub deletions: Vec<DueDate>,
 }
 
 impl Signs {
@@ -27,6 +31,7 @@ impl Signs {
         Signs {
             jobs: Vec::new(alloc),
             dates: Vec::new(alloc),
+            deletions: Vec::new(alloc),
         }
     }
 
@@ -37,7 +42,12 @@ impl Signs {
     {
         let jobs = Vec::with_capacity(alloc, count)?;
         let dates = Vec::with_capacity(alloc, count)?;
-        Ok(Signs { jobs, dates })
+        let deletions = Vec::with_capacity(alloc, count)?;
+        Ok(Signs {
+            jobs,
+            dates,
+            deletions,
+        })
     }
 
     /// A row is added behind the others.
@@ -51,6 +61,7 @@ impl Signs {
     {
         jobs::turn(&mut self.jobs, row.serial, false, row.job.is_some());
         dates::turn(&mut self.dates, row.serial, None, due_date(row));
+        dates::turn(&mut self.deletions, row.serial, None, row.deletion);
     }
 
     /// A row comes in the place of the one with its serial.
@@ -70,6 +81,7 @@ impl Signs {
                     row.job.is_some(),
                 );
                 dates::turn(&mut self.dates, row.serial, due_date(old), due_date(row));
+                dates::turn(&mut self.deletions, row.serial, old.deletion, row.deletion);
             }
             None => {}
         }
@@ -87,13 +99,13 @@ impl Signs {
             Some(old) => {
                 jobs::turn(&mut self.jobs, serial, old.job.is_some(), false);
                 dates::turn(&mut self.dates, serial, due_date(old), None);
+                dates::turn(&mut self.deletions, serial, old.deletion, None);
             }
             None => {}
         }
     }
 
-    /// The rows whose deletion date is reached go. They have no dates: a secret that is scheduled for deletion doesn't
-    /// come due.
+    /// The rows whose deletion date is reached go. No rotation of them comes due: they are scheduled for deletion.
     pub fn drop_gone(&mut self, rows: &RowMap, moment: Moment)
         requires signs { IsSigns self.old rows.now.list }
         requires rising { IsRising rows.now.list }
@@ -101,24 +113,44 @@ impl Signs {
         ensures room { (count : ℕ) → SignsRoom self.old count → SignsRoom self.new count }
     {
         jobs::sweep(&mut self.jobs, rows, moment);
+        dates::drop_reached(&mut self.deletions, moment);
+    }
+
+    /// The serial of the row with the first deletion date, if there is one.
+    pub fn first_deleted(&self) -> Option<u64>
+        ensures { result ≡ first_serial self.now.deletions.items }
+    {
+        match self.deletions.first() {
+            Some(due) => Some(due.serial),
+            None => None,
+        }
     }
 
     /// Moves into empty room.
     pub fn moved(&mut self, room: Signs) -> Signs
         requires no_jobs { room.jobs.items ≡ [] }
         requires no_dates { room.dates.items ≡ [] }
+        requires no_deletions { room.deletions.items ≡ [] }
         requires jobs_room { vec_len self.old.jobs ≤ vec_capacity room.jobs }
         requires dates_room { vec_len self.old.dates ≤ vec_capacity room.dates }
+        requires deletions_room { vec_len self.old.deletions ≤ vec_capacity room.deletions }
         ensures jobs { result.jobs.items ≡ self.old.jobs.items }
         ensures dates { result.dates.items ≡ self.old.dates.items }
+        ensures deletions { result.deletions.items ≡ self.old.deletions.items }
         ensures room { (count : ℕ) → SignsRoom room count → SignsRoom result count }
     {
         let Signs {
             mut jobs,
             mut dates,
+            mut deletions,
         } = room;
         let _ = jobs.append(&mut self.jobs);
         let _ = dates.append(&mut self.dates);
-        Signs { jobs, dates }
+        let _ = deletions.append(&mut self.deletions);
+        Signs {
+            jobs,
+            dates,
+            deletions,
+        }
     }
 }

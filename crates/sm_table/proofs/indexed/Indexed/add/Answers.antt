@@ -1,17 +1,16 @@
 use Rattle.std.proofs.Common.{◌≡◌, ◌∙◌, ◌-◌, ◌++◌, ◌∷◌, [], suc, length, cond, eqb, sym, ap, subst, arith, length-append}
-use Rattle.sm_model.specs.Due.{is_reached}
 use Rattle.sm_table.specs.Changes.{row_with}
-use Rattle.sm_table.specs.Indexed.{behind, room_left, earlier, HasRoom}
+use Rattle.sm_table.specs.Indexed.{behind, room_left, HasRoom}
 use Rattle.sm_table.specs.Signs.{IsSigns}
 use Rattle.sm_table.specs.Maps.{by_name, serial_of}
-use Rattle.sm_table.proofs.IndexedLemmas.{named_absent, by_name_push, stay_added}
+use Rattle.sm_table.proofs.IndexedLemmas.{named_absent, by_name_push}
 use Rattle.sm_table.proofs.RoomLemmas.{left_next}
 use Rattle.sm_table.proofs.indexed.Indexed.add.Goals as goal
 
 pub add-requires-clause-new : goal.add-requires-clause-new
 add-requires-clause-new c =
-    ap (λ rs. row_with rs c.row-3.result.now.serial) c.make_room.ensures.rows
-    ∙ ap (λ r. row_with c.args.self.now.rows.list r.serial) c.row-3.ensures
+    ap (λ rs. row_with rs c.row-2.result.now.serial) c.make_room.ensures.rows
+    ∙ ap (λ r. row_with c.args.self.now.rows.list r.serial) c.row-2.ensures
     ∙ c.requires.new_serial
 
 pub add-requires-2-clause-new : goal.add-requires-2-clause-new
@@ -36,14 +35,8 @@ returns-clause-kept c =
           ∙ sym (by_name_push c.make_room.new.self.rows.list c.args.added.kept)
           ∙ ap by_name (sym c.add-3.ensures.list);
       signs = rw c.add-3.ensures.list
-          (subst (λ r. IsSigns c.add.new.self (c.make_room.new.self.rows.list ++ r ∷ [])) c.row-3.ensures
+          (subst (λ r. IsSigns c.add.new.self (c.make_room.new.self.rows.list ++ r ∷ [])) c.row-2.ensures
           c.add.ensures.signs);
-      stay = λ moment h. rw c.add-3.ensures.list
-          (stay_added c.make_room.new.self.rows.list c.args.added.kept c.make_room.new.self.soonest
-          c.make_room.ensures.kept.stay moment
-          (ap (λ d. is_reached d moment)
-          (ap (λ r. earlier c.make_room.new.self.soonest r.deletion) (sym c.row-2.ensures) ∙ sym c.earlier-self.ensures)
-          ∙ h));
     }
 
 pub returns-clause-left : goal.returns-clause-left
@@ -76,6 +69,12 @@ returns-clause-room c =
         dates = omega (
           arith,
           signs.dates,
+          ap length c.add-3.ensures.list,
+          length-append c.make_room.new.self.rows.list (c.args.added.kept ∷ []),
+        );
+        deletions = omega (
+          arith,
+          signs.deletions,
           ap length c.add-3.ensures.list,
           length-append c.make_room.new.self.rows.list (c.args.added.kept ∷ []),
         );

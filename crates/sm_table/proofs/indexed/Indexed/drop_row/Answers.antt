@@ -1,7 +1,7 @@
 use Rattle.std.proofs.Common.{◌∙◌, length, option_copied, sym, ap, arith}
 use Rattle.sm_table.specs.Maps.{by_name, without_row}
 use Rattle.sm_table.proofs.ApartLemmas.{dropped_no_more}
-use Rattle.sm_table.proofs.IndexedLemmas.{by_name_without, stay_dropped}
+use Rattle.sm_table.proofs.IndexedLemmas.{by_name_without}
 use Rattle.sm_table.proofs.indexed.Indexed.drop_row.Goals as goal
 
 pub returns-clause-kept : goal.returns-clause-kept
@@ -11,8 +11,6 @@ returns-clause-kept c = record {
       c.requires.names c.get.ensures
       ∙ ap by_name (sym c.remove-2.ensures.list);
   signs = rw c.remove-2.ensures.list c.remove.ensures.signs;
-  stay = λ moment h. rw c.remove-2.ensures.list
-      (stay_dropped c.args.self.now.rows.list c.args.serial moment (c.requires.kept.stay moment h));
 }
 
 pub returns-clause-room : goal.returns-clause-room
@@ -31,6 +29,12 @@ returns-clause-room c = λ count h.
         dates = omega (
           arith,
           signs.dates,
+          ap length c.remove-2.ensures.list,
+          dropped_no_more c.args.self.now.rows.list c.args.serial,
+        );
+        deletions = omega (
+          arith,
+          signs.deletions,
           ap length c.remove-2.ensures.list,
           dropped_no_more c.args.self.now.rows.list c.args.serial,
         );

@@ -1,11 +1,12 @@
 use Rattle.std.proofs.Common.{◌∙◌, None, ap}
+use Rattle.sm_versions.specs.Due.{due_date}
 use Rattle.sm_table.specs.Dates.{lowest_due}
 use Rattle.sm_table.proofs.DateLemmas.{dates_ordered, lowest_is_first}
 use Rattle.sm_table.proofs.indexed.Indexed.first_due.Goals as goal
 
 pub lowest_due-requires : goal.lowest_due-requires
 lowest_due-requires c =
-    rw (c.as_slice.ensures.value, c.requires.kept.signs.dates) (dates_ordered c.args.self.now.rows.list)
+    rw (c.as_slice.ensures.value, c.requires.kept.signs.dates) (dates_ordered due_date c.args.self.now.rows.list)
 
 pub returns : goal.returns
 returns c =

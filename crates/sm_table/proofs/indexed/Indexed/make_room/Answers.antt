@@ -14,6 +14,7 @@ returns-in-Some-clause-room c =
       signs = record {
         jobs = omega (arith, signs.jobs, left_within c.args.serial, ap length c.move_into.ensures.rows);
         dates = omega (arith, signs.dates, left_within c.args.serial, ap length c.move_into.ensures.rows);
+        deletions = omega (arith, signs.deletions, left_within c.args.serial, ap length c.move_into.ensures.rows);
       };
     }
 
@@ -29,5 +30,6 @@ returns-in-None-clause-room c =
       signs = record {
         jobs = omega (arith, less, c.requires.left.signs.jobs);
         dates = omega (arith, less, c.requires.left.signs.dates);
+        deletions = omega (arith, less, c.requires.left.signs.deletions);
       };
     }

@@ -1,4 +1,6 @@
 use Rattle.std.proofs.Common.{length, ap, arith}
+use Rattle.sm_versions.specs.Due.{due_date}
+use Rattle.sm_table.specs.Dates.{deletion_date}
 use Rattle.sm_table.proofs.DateLemmas.{dates_fewer}
 use Rattle.sm_table.proofs.JobLemmas.{jobs_fewer}
 use Rattle.sm_table.proofs.IndexedLemmas.{by_name_count}
@@ -29,5 +31,17 @@ moved-signs-requires-clause-dates_room c =
       c.requires.room.signs.dates,
       ap length c.requires.kept.signs.dates,
       dates_fewer
+          due_date
+          c.args.self.now.rows.list,
+    )
+
+pub moved-signs-requires-clause-deletions_room : goal.moved-signs-requires-clause-deletions_room
+moved-signs-requires-clause-deletions_room c =
+    omega (
+      arith,
+      c.requires.room.signs.deletions,
+      ap length c.requires.kept.signs.deletions,
+      dates_fewer
+          deletion_date
           c.args.self.now.rows.list,
     )

@@ -1,11 +1,9 @@
 use Rattle.std.proofs.Common.{◌∙◌, length, sym, ap, subst, arith}
-use Rattle.sm_model.specs.Due.{is_reached}
 use Rattle.sm_table.specs.Changes.{replaced}
-use Rattle.sm_table.specs.Indexed.{earlier}
 use Rattle.sm_table.specs.Maps.{by_name}
 use Rattle.sm_table.specs.Signs.{IsSigns}
 use Rattle.sm_table.proofs.ApartLemmas.{replaced_no_more}
-use Rattle.sm_table.proofs.IndexedLemmas.{by_name_replaced, stay_put}
+use Rattle.sm_table.proofs.IndexedLemmas.{by_name_replaced}
 use Rattle.sm_table.proofs.indexed.Indexed.replace.Goals as goal
 
 pub returns-clause-kept : goal.returns-clause-kept
@@ -14,13 +12,8 @@ returns-clause-kept c = record {
       ∙ sym (by_name_replaced c.args.self.now.rows.list c.args.kept c.requires.names)
       ∙ ap by_name (sym c.replace-2.ensures.list);
   signs = rw c.replace-2.ensures.list
-      (subst (λ r. IsSigns c.replace.new.self (replaced c.args.self.now.rows.list r)) c.row-2.ensures
+      (subst (λ r. IsSigns c.replace.new.self (replaced c.args.self.now.rows.list r)) c.row.ensures
       c.replace.ensures.signs);
-  stay = λ moment h. rw c.replace-2.ensures.list
-      (stay_put c.args.self.now.rows.list c.args.kept c.args.self.now.soonest c.requires.kept.stay moment
-      (ap (λ d. is_reached d moment)
-      (ap (λ r. earlier c.args.self.now.soonest r.deletion) (sym c.row.ensures) ∙ sym c.earlier-self.ensures)
-      ∙ h));
 }
 
 pub returns-clause-room : goal.returns-clause-room
@@ -39,6 +32,12 @@ returns-clause-room c = λ count h.
         dates = omega (
           arith,
           signs.dates,
+          ap length c.replace-2.ensures.list,
+          replaced_no_more c.args.self.now.rows.list c.args.kept,
+        );
+        deletions = omega (
+          arith,
+          signs.deletions,
           ap length c.replace-2.ensures.list,
           replaced_no_more c.args.self.now.rows.list c.args.kept,
         );

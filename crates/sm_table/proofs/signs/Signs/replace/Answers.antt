@@ -1,9 +1,10 @@
 use Rattle.std.proofs.Common.{◌≡◌, ◌∙◌, List, ℕ, vec_capacity, sym, ap, subst}
+use Rattle.sm_versions.specs.Due.{due_date}
 use Rattle.sm_table.specs.declared.dates.DueDate.{DueDate}
 use Rattle.sm_table.specs.Changes.{dropped}
 use Rattle.sm_table.specs.Jobs.{job_serials, with_job}
 use Rattle.sm_table.specs.Jobs as jobs
-use Rattle.sm_table.specs.Dates.{dates_of, with_date}
+use Rattle.sm_table.specs.Dates.{dates_of, deletion_date, deletions_of, with_date}
 use Rattle.sm_table.specs.Dates as dates
 use Rattle.sm_table.proofs.MapLemmas.{replaced_absent}
 use Rattle.sm_table.proofs.SignLemmas.{jobs_but, dates_but, jobs_put, dates_put}
@@ -26,7 +27,16 @@ turn-requires-in-Some c = (
       (dates_of (dropped c.args.rows.now.list c.args.row.now.serial)))
       (sym c.due_date.ensures)
       (dates_but c.args.rows.now.list c.args.row.now.serial c.in-Some.old.now c.requires.rising (sym c.in-Some.ensures)
-      (vec_capacity c.args.self.now.dates) c.requires.room.dates c.args.self.now.dates.items c.requires.signs.dates),
+      (vec_capacity c.args.self.now.dates) c.requires.room.dates due_date c.args.self.now.dates.items
+      c.requires.signs.dates),
+)
+
+pub turn-requires-in-Some-2 : goal.turn-requires-in-Some-2
+turn-requires-in-Some-2 c = (
+  deletions_of (dropped c.args.rows.now.list c.args.row.now.serial),
+  dates_but c.args.rows.now.list c.args.row.now.serial c.in-Some.old.now c.requires.rising (sym c.in-Some.ensures)
+      (vec_capacity c.args.self.now.deletions) c.requires.room.deletions deletion_date c.args.self.now.deletions.items
+      c.requires.signs.deletions,
 )
 
 pub returns-in-Some-clause-signs : goal.returns-in-Some-clause-signs
@@ -39,15 +49,26 @@ returns-in-Some-clause-signs c =
     ∙ ap (λ b. with_job b js c.args.row.now.serial) (sym c.is_some.ensures) in
     let dates_are : c.args.self.now.dates.items ≡ with_date c.due_date.result ds c.args.row.now.serial =
     (dates_but c.args.rows.now.list c.args.row.now.serial c.in-Some.old.now c.requires.rising (sym c.in-Some.ensures)
-    (vec_capacity c.args.self.now.dates) c.requires.room.dates c.args.self.now.dates.items c.requires.signs.dates).is
+    (vec_capacity c.args.self.now.dates) c.requires.room.dates due_date c.args.self.now.dates.items
+    c.requires.signs.dates).is
     ∙ ap (λ d. with_date d ds c.args.row.now.serial) (sym c.due_date.ensures) in
+    let gs : List DueDate = deletions_of (dropped c.args.rows.now.list c.args.row.now.serial) in
+    let deletions_are : c.args.self.now.deletions.items
+    ≡ with_date c.in-Some.old.now.deletion gs c.args.row.now.serial =
+    (dates_but c.args.rows.now.list c.args.row.now.serial c.in-Some.old.now c.requires.rising (sym c.in-Some.ensures)
+    (vec_capacity c.args.self.now.deletions) c.requires.room.deletions deletion_date c.args.self.now.deletions.items
+    c.requires.signs.deletions).is in
     record {
       jobs = c.turn.ensures.serials js jobs_are
           ∙ ap (λ b. with_job b js c.args.row.now.serial) c.is_some-in-Some.ensures
           ∙ jobs_put c.args.rows.now.list c.args.row.now c.in-Some.old.now c.requires.rising (sym c.in-Some.ensures);
       dates = c.turn-in-Some.ensures.dates ds dates_are
           ∙ ap (λ d. with_date d ds c.args.row.now.serial) c.due_date-in-Some.ensures
-          ∙ dates_put c.args.rows.now.list c.args.row.now c.in-Some.old.now c.requires.rising (sym c.in-Some.ensures);
+          ∙ dates_put due_date c.args.rows.now.list c.args.row.now c.in-Some.old.now c.requires.rising
+          (sym c.in-Some.ensures);
+      deletions = c.turn-in-Some-2.ensures.dates gs deletions_are
+          ∙ dates_put deletion_date c.args.rows.now.list c.args.row.now c.in-Some.old.now c.requires.rising
+          (sym c.in-Some.ensures);
     }
 
 pub returns-in-None-clause-signs : goal.returns-in-None-clause-signs
@@ -56,4 +77,5 @@ returns-in-None-clause-signs c =
     record {
       jobs = c.requires.signs.jobs ∙ ap job_serials (sym same);
       dates = c.requires.signs.dates ∙ ap dates_of (sym same);
+      deletions = c.requires.signs.deletions ∙ ap deletions_of (sym same);
     }

@@ -14,6 +14,7 @@ invariant_of-result c = record {
     signs = record {
       jobs = omega (arith, left_none, ap length c.new.ensures.rows);
       dates = omega (arith, left_none, ap length c.new.ensures.rows);
+      deletions = omega (arith, left_none, ap length c.new.ensures.rows);
     };
   };
 }
