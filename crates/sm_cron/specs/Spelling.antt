@@ -1,6 +1,6 @@
 -- How schedules are spelled, in UTC.
 -- AWS Secrets Manager User Guide: "Schedule expressions in Secrets Manager rotation".
-use Rattle.std.specs.Prelude.{ℕ, ◌+◌, ◌*◌, Bool, true, false, nat_le, List, [], ◌∷◌, codes, Option}
+use Rattle.std.specs.Prelude.{ℕ, ◌+◌, ◌*◌, Bool, true, false, ◌&&◌, nat_le, List, [], ◌∷◌, length, codes, Option}
 use Rattle.std.specs.Option.{is_some}
 use Rattle.sm_cron.specs.declared.days.Days.{Days as DaySet}
 use Rattle.sm_cron.specs.declared.field.Field.{Field}
@@ -9,6 +9,7 @@ use Rattle.sm_cron.specs.declared.schedule.Cron.{Cron}
 use Rattle.sm_cron.specs.declared.schedule.Schedule.{Schedule}
 use Rattle.sm_cron.specs.declared.schedule.Schedule.TheVariants.{Rate, Cron as ByCron}
 use Rattle.sm_base.specs.FirstFault.{IsFirstFault}
+use Rattle.sm_base.specs.declared.limits.TheConstants.{SCHEDULE_LIMIT}
 use Rattle.sm_cron.specs.declared.schedule.ScheduleRefused.{ScheduleRefused}
 use Rattle.sm_cron.specs.declared.schedule.ScheduleRefused.TheVariants.{Spelling}
 use Rattle.sm_cron.specs.declared.spelling.Kind.{Kind}
@@ -152,6 +153,10 @@ schedule_of text = schedule.value text
 -- the text is a spelling
 abbrev pub is_schedule : List ℕ → Bool
 is_schedule text = is_some (schedule_of text)
+
+-- the spelling of a schedule, of at most 256 bytes
+abbrev pub is_schedule_expression : List ℕ → Bool
+is_schedule_expression text = nat_le (length text) SCHEDULE_LIMIT && is_schedule text
 
 -- why a text is refused: it is no spelling, with the first place that no spelling continues
 abbrev pub IsRefused : List ℕ → ScheduleRefused → Type 0

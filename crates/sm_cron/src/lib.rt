@@ -15,4 +15,4 @@ mod schedule;
 mod spelling;
 mod steps;
 
-pub use schedule::{Cron, Schedule, ScheduleRefused};
+pub use schedule::{Cron, Schedule, ScheduleRefused, is_schedule_expression};

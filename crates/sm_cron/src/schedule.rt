@@ -2,10 +2,12 @@
 ghost use Rattle.std.specs.Prelude.{◌≡◌, ◌≤◌};
 ghost use Rattle.sm_base.specs.declared.moment.TheConstants.{LAST_READING};
 ghost use Rattle.sm_base.specs.declared.limits.TheConstants.{LAST_ROTATION_DATE};
+ghost use Rattle.sm_cron.specs.Spelling.{is_schedule_expression};
 
 use crate::next::next_of;
 use crate::reading::Reading;
 use crate::spelling::{first_fault, schedule};
+use sm_base::limits::SCHEDULE_LIMIT;
 use std::error::Error;
 use std::fmt;
 
@@ -67,6 +69,13 @@ impl Schedule {
             Schedule::Cron(cron) => next_of(cron, moment),
         }
     }
+}
+
+/// Whether a text is a schedule expression: the spelling of a schedule, of at most 256 bytes. No longer text is read.
+pub fn is_schedule_expression(text: &[u8]) -> bool
+    ensures { result ≡ is_schedule_expression text.now }
+{
+    text.len() <= SCHEDULE_LIMIT && Schedule::read(text).is_ok()
 }
 
 /// Why a text was not read.

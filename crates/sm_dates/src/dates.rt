@@ -1,14 +1,16 @@
 //! Moments so many days on, and the dates of moments.
-ghost use Rattle.std.specs.Prelude.{◌≡◌, ◌≤◌, ◌/◌, pos, IfOk, List, ℕ};
+ghost use Rattle.std.specs.Prelude.{◌≡◌, ◌≤◌, ◌/◌, pos, IfOk, IfSome, List, ℕ};
 ghost use Rattle.sm_base.specs.declared.moment.TheConstants.{LAST_READING};
 ghost use Rattle.sm_base.specs.declared.limits.TheConstants.{DAYS_LIMIT, LAST_DATE};
 ghost use Rattle.jiff.specs.Words.{epoch_day};
-ghost use Rattle.sm_dates.specs.Days.{days_after, rotation_after, IsDateOf};
+ghost use Rattle.sm_cron.specs.Next.{IsInReach};
+ghost use Rattle.sm_dates.specs.Days.{days_after, kept_schedule, rotation_after, IsDateOf};
 
 use jiff::Timestamp;
 use jiff::civil::Date;
 use jiff::tz::Offset;
 use sm_base::{Moment, NoMemory, Text};
+use sm_cron::Schedule;
 use sm_model::Rotation;
 use std::alloc::Global;
 
@@ -32,14 +34,35 @@ pub fn window_end(moment: Moment, days: u32) -> Moment
     days_after(moment, days)
 }
 
-/// When a secret is rotated next after a rotation at a moment, where it keeps days for that.
+/// The schedule that a rotation keeps, where the text that it keeps is a spelling.
+fn kept_schedule(rotation: &Rotation) -> Option<Schedule>
+    ensures kept { result ≡ kept_schedule rotation.now }
+    ensures reach { IfSome result IsInReach }
+{
+    match &rotation.schedule {
+        Some(text) => match Schedule::read(text.as_bytes()) {
+            Ok(schedule) => Some(schedule),
+            Err(_) => None,
+        },
+        None => None,
+    }
+}
+
+/// When a secret is rotated next after a rotation at a moment: by the schedule that it keeps, else by the days. It is
+/// not rotated again where it keeps neither, or where its schedule never comes.
 pub fn next_rotation(rotation: &Rotation, moment: Moment) -> Option<Moment>
     requires { moment.0 ≤ LAST_READING }
     ensures { result ≡ rotation_after rotation.now moment }
 {
-    match rotation.days {
-        Some(days) => Some(days_after(moment, days)),
-        None => None,
+    match kept_schedule(rotation) {
+        Some(schedule) => match schedule.next(moment.0) {
+            Some(second) => Some(Moment(second)),
+            None => None,
+        },
+        None => match rotation.days {
+            Some(days) => Some(days_after(moment, days)),
+            None => None,
+        },
     }
 }
 

@@ -1,4 +1,5 @@
-//! Dates: when a window of days ends, when a secret is rotated next, and the day of a moment as text.
+//! Dates: when a window of days ends, when a secret is rotated next, by days or by a schedule, and the day of a moment
+//! as text.
 #![tactic(auto)]
 
 pub mod dates;

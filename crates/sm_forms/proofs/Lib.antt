@@ -1,5 +1,6 @@
 pub mod MemberLemmas
 pub mod TagLemmas
+pub mod KeyOrderLemmas
 pub mod CreateSecretLemmas
 pub mod DeleteSecretLemmas
 pub mod GetSecretValueLemmas

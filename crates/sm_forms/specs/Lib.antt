@@ -1,4 +1,5 @@
 pub mod Members
+pub mod KeyOrder
 pub mod CreateSecret
 pub mod DeleteSecret
 pub mod GetSecretValue

@@ -15,14 +15,15 @@ use sm_base::text::has_at_most;
 use sm_model::{GetRandomPassword, Text, Why};
 use sm_password::{Asked, class_count};
 
-/// The first form or joint test that fails.
+/// The first form or joint test that fails. The joint tests go through the excluded characters for each
+/// character that a password may have, so they are made only where those are few enough.
 pub fn password_forms(get: &GetRandomPassword) -> Option<Why>
     ensures { result ≡ password_forms get.now }
 {
-    first(
-        excluded_form(&get.exclude_characters),
-        first(length_form(get.password_length), joint_form(get)),
-    )
+    match excluded_form(&get.exclude_characters) {
+        Some(why) => Some(why),
+        None => first(length_form(get.password_length), joint_form(get)),
+    }
 }
 
 /// The form of ExcludeCharacters.

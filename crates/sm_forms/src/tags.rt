@@ -1,12 +1,10 @@
 //! The form of tags (AWS Secrets Manager API Reference, Tag).
 ghost use Rattle.std.specs.Prelude.{◌≡◌};
-ghost use Rattle.std.specs.List.{list_all, list_any};
+ghost use Rattle.std.specs.List.{list_all};
 ghost use Rattle.sm_model.specs.Bounds.{is_tag_key, is_tag};
-ghost use Rattle.sm_versions.specs.Sound.{tag_keys};
-ghost use Rattle.sm_versions.specs.Texts.{once};
-ghost use Rattle.sm_base.specs.Texts.{same_text};
 ghost use Rattle.sm_forms.specs.Members.{are_tags, tags_form};
 
+use crate::key_order::each_key_once;
 use crate::members::form_unless;
 use sm_base::limits::{TAG_KEY_LIMIT, TAG_VALUE_LIMIT};
 use sm_base::text::{characters, has_at_most};
@@ -31,32 +29,6 @@ fn each_is_tag(tags: &[Tag]) -> bool
     ensures { result ≡ list_all is_tag tags.now }
 {
     tags.iter().all(|tag| is_tag(tag))
-}
-
-fn is_same(text: &Text, other: &Text) -> bool
-    ensures { result ≡ same_text text.now other.now }
-{
-    text.equals(other)
-}
-
-/// Whether one of the tags has the key.
-fn has_key(tags: &[Tag], key: &Text) -> bool
-    ensures { result ≡ list_any (λ tag. same_text tag.key key.now) tags.now }
-{
-    tags.iter().any(|tag| is_same(&tag.key, key))
-}
-
-/// Whether no key stands twice.
-
-fn each_key_once(tags: &[Tag]) -> bool
-    ensures { result ≡ once (tag_keys tags.now) }
-{
-    for (index, tag) in tags.iter().enumerate() {
-        if has_key(&tags[index + 1..], &tag.key) {
-            return false;
-        }
-    }
-    true
 }
 
 /// Whether the tags are in their form, all of them together.

@@ -1,6 +1,7 @@
 -- DescribeSecret: its reply. It works on a secret that is scheduled for deletion too, and changes nothing.
--- AWS Secrets Manager API Reference, DescribeSecret.
-use Rattle.std.specs.Prelude.{ℕ, List, [], ◌∷◌, ◌++◌, Option, Some, None}
+-- AWS Secrets Manager API Reference, DescribeSecret, RotationRulesType.
+use Rattle.std.specs.Prelude.{ℕ, Bool, ◌||◌, if◌then◌else◌, List, [], ◌∷◌, ◌++◌, Option, Some, None}
+use Rattle.std.specs.Option.{is_some}
 use Rattle.sm_base.specs.declared.moment.Moment.{Moment}
 use Rattle.sm_base.specs.SecretId.{secret_id}
 use Rattle.sm_model.specs.declared.reply.Described.{Described}
@@ -8,6 +9,7 @@ use Rattle.sm_model.specs.declared.reply.Reply.TheVariants as replies
 use Rattle.sm_model.specs.declared.reply.RulesShown.{RulesShown}
 use Rattle.sm_model.specs.declared.reply.Staged.{Staged}
 use Rattle.sm_model.specs.declared.request.OfSecret.{OfSecret}
+use Rattle.sm_model.specs.declared.rows.Rotation.{Rotation}
 use Rattle.sm_model.specs.declared.rows.Rows.{Rows}
 use Rattle.sm_model.specs.declared.rows.SecretRow.{SecretRow}
 use Rattle.sm_model.specs.declared.rows.VersionRow.{VersionRow}
@@ -30,10 +32,14 @@ abbrev pub staged : SecretRow → List VersionRow → List Staged
 staged row [] = []
 staged row (version ∷ versions) = with_labels version.id (labels_shown row version.id) ++ staged row versions
 
--- rotation rules are shown exactly where days are kept
-abbrev pub rules_shown : Option ℕ → Option RulesShown
-rules_shown None = None
-rules_shown (Some days) = Some (record { days = Some days; schedule = None })
+-- days or a schedule are kept
+abbrev pub keeps_rules : Rotation → Bool
+keeps_rules rotation = is_some rotation.days || is_some rotation.schedule
+
+-- rotation rules are shown exactly where some are kept, also while rotation is off
+abbrev pub rules_shown : Rotation → Option RulesShown
+rules_shown rotation =
+    if keeps_rules rotation then Some (record { days = rotation.days; schedule = rotation.schedule }) else None
 
 abbrev pub described : SecretRow → Described
 described row = record {
@@ -49,7 +55,7 @@ described row = record {
   replication_status = None;
   rotation_enabled = row.rotation.enabled;
   rotation_lambda_arn = row.rotation.lambda;
-  rotation_rules = rules_shown row.rotation.days;
+  rotation_rules = rules_shown row.rotation;
   tags = row.tags;
   version_ids_to_stages = staged row row.versions;
 }

@@ -2,15 +2,15 @@
 ghost use Rattle.std.specs.Prelude.{◌≡◌, ◌++◌, IfOk, OnOk, None};
 ghost use Rattle.sm_forms.specs.OfSecret.{of_secret_forms};
 ghost use Rattle.sm_judging.specs.LabelsShown.{labels_shown};
-ghost use Rattle.sm_reads.specs.DescribeSecret.{with_labels, staged, rules_shown, described, describe_found, describe_judgement};
+ghost use Rattle.sm_reads.specs.DescribeSecret.{with_labels, staged, keeps_rules, rules_shown, described, describe_found, describe_judgement};
 
 use sm_base::{copy_three, copy_two};
 use sm_judging::Judged;
 use sm_judging::labels_shown::labels_shown;
 use sm_judging::members::secret_id;
 use sm_model::{
-    Copied, Described, List, Moment, NoMemory, OfSecret, Reply, RulesShown, SecretRow, Staged,
-    Token, Why,
+    Copied, Described, List, Moment, NoMemory, OfSecret, Reply, Rotation, RulesShown, SecretRow,
+    Staged, Token, Why,
 };
 use sm_table::Table;
 use std::alloc::Global;
@@ -52,6 +52,7 @@ pub fn described(alloc: Global, row: &SecretRow) -> Result<Described, NoMemory>
         &row.kms,
         &row.rotation.lambda,
     )?;
+    let rotation_rules = rules_shown(alloc, &row.rotation)?;
     let tags = row.tags.copy(alloc)?;
     let version_ids_to_stages = staged(alloc, row)?;
     Ok(Described {
@@ -67,22 +68,30 @@ pub fn described(alloc: Global, row: &SecretRow) -> Result<Described, NoMemory>
         replication_status: None,
         rotation_enabled: row.rotation.enabled,
         rotation_lambda_arn,
-        rotation_rules: rules_shown(row.rotation.days),
+        rotation_rules,
         tags,
         version_ids_to_stages,
     })
 }
 
-/// The rotation rules, where days are kept.
-fn rules_shown(days: Option<u32>) -> Option<RulesShown>
-    ensures { result ≡ rules_shown days }
+/// Whether a rotation keeps days or a schedule.
+fn keeps_rules(rotation: &Rotation) -> bool
+    ensures { result ≡ keeps_rules rotation.now }
 {
-    match days {
-        Some(days) => Some(RulesShown {
-            days: Some(days),
-            schedule: None,
-        }),
-        None => None,
+    rotation.days.is_some() || rotation.schedule.is_some()
+}
+
+/// The rotation rules, where some are kept.
+fn rules_shown(alloc: Global, rotation: &Rotation) -> Result<Option<RulesShown>, NoMemory>
+    ensures { IfOk result (λ shown. shown ≡ rules_shown rotation.now) }
+{
+    if keeps_rules(rotation) {
+        Ok(Some(RulesShown {
+            days: rotation.days,
+            schedule: rotation.schedule.copy(alloc)?,
+        }))
+    } else {
+        Ok(None)
     }
 }
 

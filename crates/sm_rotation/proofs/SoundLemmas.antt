@@ -1,5 +1,4 @@
 -- What a start and a step of a rotation keep of a sound secret.
-use Rattle.std.specs.Prelude.{option_map}
 use Rattle.std.proofs.Common.{◌≡◌, ℕ, suc, ◌+◌, ◌*◌, ◌≤◌, Bool, true, false, ◌&&◌, nat_lt, cond, List, [], ◌∷◌, ◌++◌, length, Option, Some, None, IfSome, refl, sym, ap, arith, length-append}
 use Rattle.std.proofs.lemmas.Grind.{common_steps}
 use Rattle.std.proofs.lemmas.Bool.{and_parts, and_from}
@@ -18,7 +17,9 @@ use Rattle.sm_model.specs.declared.rows.Rotation.{Rotation}
 use Rattle.sm_model.specs.declared.rows.VersionRow.{VersionRow}
 use Rattle.sm_model.specs.declared.rows.SecretRow.{SecretRow}
 use Rattle.sm_model.specs.Bounds.{fits, is_small, is_attempt, are_days, is_date, is_rotation_date, is_description}
-use Rattle.sm_dates.specs.Days.{rotation_after, days_after}
+use Rattle.sm_cron.specs.Spelling.{is_schedule_expression}
+use Rattle.sm_dates.specs.Days.{rotation_after}
+use Rattle.sm_dates.proofs.RotationLemmas.{rotation_after_fits}
 use Rattle.sm_versions.specs.Texts.{is_aws}
 use Rattle.sm_base.specs.Texts.{same_text}
 use Rattle.sm_model.specs.Labels.{aws_current, aws_previous, aws_pending, holder}
@@ -192,19 +193,15 @@ reading_is_date moment h = grind (arith, nat_tests)
 soon_is_date : (n more : ℕ) → n ≤ LAST_READING → more ≤ 86_400 → is_date (record { 0 = n + more }) ≡ true
 soon_is_date n more h k = grind (arith, nat_tests)
 
-pub next_is_date : (days : Option ℕ) (moment : Moment) → moment.0 ≤ LAST_READING → fits are_days days ≡ true
-    → fits is_rotation_date (option_map (days_after moment) days) ≡ true
-next_is_date None moment h k = refl
-next_is_date (Some days) moment h k = grind (arith, nat_tests)
-
 rotation_finished : (rotation : Rotation) (moment : Moment) → moment.0 ≤ LAST_READING → is_rotation rotation ≡ true
     → is_rotation (record rotation { next = rotation_after rotation moment; last = Some moment }) ≡ true
 rotation_finished rotation moment h fit =
     let last = and_parts _ (fits is_date rotation.last) fit in
     let next = and_parts _ (fits is_rotation_date rotation.next) last.0 in
-    let parts = and_parts (fits is_description rotation.lambda) (fits are_days rotation.days) next.0 in
+    let schedule = and_parts _ (fits is_schedule_expression rotation.schedule) next.0 in
+    let parts = and_parts (fits is_description rotation.lambda) (fits are_days rotation.days) schedule.0 in
     and_from _ _
-    (and_from _ _ (and_from _ _ parts.0 parts.1) (next_is_date rotation.days moment h parts.1))
+    (and_from _ _ next.0 (rotation_after_fits rotation moment h parts.1))
     (reading_is_date moment h)
 
 -- ---- a start

@@ -102,7 +102,8 @@ abbrev pub finished_labels : List Pair → List ℕ → List Pair
 finished_labels pairs id = without (place pairs aws_current id) aws_pending
 
 -- the end of a rotation: AWSCURRENT is on the job's version and AWSPENDING on none, the version remembers at which
--- attempt it was tested, the last date is the moment, the next date so many kept days after it, and there is no job
+-- attempt it was tested, the last date is the moment, the next date is by the kept schedule or days, and there is no
+-- job
 abbrev pub finished : SecretRow → Job → Moment → SecretRow
 finished row job moment =
     record row {

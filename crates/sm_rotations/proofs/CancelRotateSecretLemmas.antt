@@ -38,7 +38,13 @@ cancel_changes rows moment cancel =
 -- ---- the change
 
 turned_off_fits : (kept : Rotation) → RotationFits kept → RotationFits (turned_off kept)
-turned_off_fits kept parts = record { lambda = parts.lambda; days = parts.days; next = refl; last = parts.last }
+turned_off_fits kept parts = record {
+  lambda = parts.lambda;
+  days = parts.days;
+  schedule = parts.schedule;
+  next = refl;
+  last = parts.last;
+}
 
 cancelled_sound : (row : SecretRow) → UnsettledSound row → UnsettledSound (cancelled row)
 cancelled_sound row sound =

@@ -20,18 +20,20 @@ use Rattle.sm_model.specs.declared.why.Why.TheVariants.{NoCurrent, Pending, Vers
 use Rattle.sm_model.specs.Bounds.{fits, is_description, are_days, is_date}
 use Rattle.sm_model.specs.Needed.{token_bytes_if}
 use Rattle.sm_forms.specs.RotateSecret.{is_period, rotate_forms}
-use Rattle.sm_forms.proofs.RotateSecretLemmas.{rotate_lambda, rotate_rules}
+use Rattle.sm_forms.proofs.RotateSecretLemmas.{rotate_lambda, rotate_rules, rotate_expression}
 use Rattle.sm_base.specs.Texts.{same_text}
 use Rattle.sm_model.specs.Labels.{aws_current, aws_pending, holder}
 use Rattle.sm_versions.specs.Versions.{version_of}
 use Rattle.sm_model.specs.Versions.{has_version}
 use Rattle.sm_versions.specs.Put.{is_full}
+use Rattle.sm_cron.specs.Spelling.{is_schedule_expression}
 use Rattle.sm_versions.specs.Sound.{UnsettledSound}
 use Rattle.sm_rotation.specs.declared.starting.Began.{Began}
 use Rattle.sm_rotation.specs.declared.starting.Began.TheVariants as starts
 use Rattle.sm_rotation.specs.Begin.{is_of_rotation, begin_held, begin_answer, begin_row}
 use Rattle.sm_rotation.proofs.KeptLemmas.{begins_from}
-use Rattle.sm_rotation.proofs.SoundLemmas.{begin_sound, next_is_date}
+use Rattle.sm_rotation.proofs.SoundLemmas.{begin_sound}
+use Rattle.sm_dates.proofs.RotationLemmas.{rotation_after_fits}
 use Rattle.sm_table.specs.Sweep.{sweep}
 use Rattle.sm_table.specs.Found.{found}
 use Rattle.sm_table.specs.Sound.{Sound}
@@ -44,7 +46,7 @@ use Rattle.sm_judging.proofs.JudgedLemmas.{on_secret_refusal, on_secret_repeat}
 use Rattle.sm_judging.proofs.ChangeLemmas.{OnRow, on_secret_change, found_row_sound, found_change}
 use Rattle.sm_rotations.specs.declared.rotate_secret.KeptRules.{KeptRules}
 use Rattle.sm_rotations.specs.declared.rotate_secret.Plan.{Plan}
-use Rattle.sm_rotations.specs.RotateSecret.{days_of, rules_given, plan_of, token_to_start, days_or, turned_on, turned_on_in, dated, waits, rotates, started_by, start_judged, rotate_on, rotate_judgement, starts_again, pending_refusal, start_refusal, rotate_refusal_on, rotate_refusal, rotate_repeat, rotate_effect}
+use Rattle.sm_rotations.specs.RotateSecret.{days_of, rules_given, plan_of, token_to_start, days_or, schedule_or, turned_on, turned_on_in, dated, waits, rotates, started_by, start_judged, rotate_on, rotate_judgement, starts_again, pending_refusal, start_refusal, rotate_refusal_on, rotate_refusal, rotate_repeat, rotate_effect}
 use Rattle.sm_rotations.proofs.RotationLemmas.{RotationFits, parts_of, of_parts, rerotated_sound}
 
 -- ---- the members
@@ -179,22 +181,29 @@ rotate_repeats rows moment drawn rotate =
 -- what is given fits
 record PlanFits (plan : Plan) : Type 0 where
   lambda : IfSome plan.lambda (λ t. IsTrue (is_description t))
-  rules : IfSome plan.rules (λ rules. IsTrue (fits are_days rules.days))
+  days : IfSome plan.rules (λ rules. IsTrue (fits are_days rules.days))
+  schedule : IfSome plan.rules (λ rules. IsTrue (fits is_schedule_expression rules.schedule))
 
 days_fit : (days : Option ℤ) → IsTrue (fits is_period days) → IsTrue (fits are_days (days_of days))
 days_fit None h = refl
 days_fit (Some (pos days)) h = h
 days_fit (Some (negsuc n)) h = absurd (false≢true h)
 
-rules_fit : (rules : Option Rules) → IfSome rules (λ r. IsTrue (fits is_period r.days))
+period_fits : (rules : Option Rules) → IfSome rules (λ r. IsTrue (fits is_period r.days))
     → IfSome (rules_given rules) (λ kept. IsTrue (fits are_days kept.days))
-rules_fit None h = tt
-rules_fit (Some rules) h = days_fit rules.days h
+period_fits None h = tt
+period_fits (Some rules) h = days_fit rules.days h
+
+expression_fits : (rules : Option Rules) → IfSome rules (λ r. IsTrue (fits is_schedule_expression r.schedule))
+    → IfSome (rules_given rules) (λ kept. IsTrue (fits is_schedule_expression kept.schedule))
+expression_fits None h = tt
+expression_fits (Some rules) h = h
 
 plan_fits : (rotate : RotateSecret) → rotate_forms rotate ≡ None → PlanFits (plan_of rotate)
 plan_fits rotate forms = record {
   lambda = rotate_lambda rotate forms;
-  rules = rules_fit rotate.rotation_rules (rotate_rules rotate forms);
+  days = period_fits rotate.rotation_rules (rotate_rules rotate forms);
+  schedule = expression_fits rotate.rotation_rules (rotate_expression rotate forms);
 }
 
 lambda_fits : (given kept : Option (List ℕ)) → IfSome given (λ t. IsTrue (is_description t))
@@ -207,11 +216,18 @@ days_or_fit : (given : Option KeptRules) (kept : Option ℕ) → IfSome given (�
 days_or_fit None kept new old = old
 days_or_fit (Some rules) kept new old = new
 
+schedule_or_fits : (given : Option KeptRules) (kept : Option (List ℕ))
+    → IfSome given (λ rules. IsTrue (fits is_schedule_expression rules.schedule))
+    → IsTrue (fits is_schedule_expression kept) → IsTrue (fits is_schedule_expression (schedule_or given kept))
+schedule_or_fits None kept new old = old
+schedule_or_fits (Some rules) kept new old = new
+
 turned_on_fits : (plan : Plan) (kept : Rotation) → PlanFits plan → RotationFits kept
     → RotationFits (turned_on plan kept)
 turned_on_fits plan kept fit parts = record {
   lambda = lambda_fits plan.lambda kept.lambda fit.lambda parts.lambda;
-  days = days_or_fit plan.rules kept.days fit.rules parts.days;
+  days = days_or_fit plan.rules kept.days fit.days parts.days;
+  schedule = schedule_or_fits plan.rules kept.schedule fit.schedule parts.schedule;
   next = parts.next;
   last = parts.last;
 }
@@ -229,7 +245,8 @@ dated_fits : (rotation : Rotation) (moment : Moment) → moment.0 ≤ LAST_READI
 dated_fits rotation moment early parts = record {
   lambda = parts.lambda;
   days = parts.days;
-  next = next_is_date rotation.days moment early parts.days;
+  schedule = parts.schedule;
+  next = rotation_after_fits rotation moment early parts.days;
   last = parts.last;
 }
 

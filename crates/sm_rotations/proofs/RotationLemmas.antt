@@ -7,12 +7,14 @@ use Rattle.sm_model.specs.declared.rows.Rotation.{Rotation}
 use Rattle.sm_model.specs.declared.rows.SecretRow.{SecretRow}
 use Rattle.sm_model.specs.Bounds.{fits, is_description, are_days, is_date, is_rotation_date}
 use Rattle.sm_versions.specs.Kept.{JobFits}
+use Rattle.sm_cron.specs.Spelling.{is_schedule_expression}
 use Rattle.sm_versions.specs.Sound.{is_rotation, is_job, UnsettledSound}
 
 -- each part of a rotation fits
 pub record RotationFits (rotation : Rotation) : Type 0 where
   pub lambda : IsTrue (fits is_description rotation.lambda)
   pub days : IsTrue (fits are_days rotation.days)
+  pub schedule : IsTrue (fits is_schedule_expression rotation.schedule)
   pub next : IsTrue (fits is_rotation_date rotation.next)
   pub last : IsTrue (fits is_date rotation.last)
 
@@ -20,11 +22,15 @@ pub parts_of : (rotation : Rotation) → IsTrue (is_rotation rotation) → Rotat
 parts_of rotation fit =
     let last = and_parts _ (fits is_date rotation.last) fit in
     let next = and_parts _ (fits is_rotation_date rotation.next) last.0 in
-    let parts = and_parts (fits is_description rotation.lambda) (fits are_days rotation.days) next.0 in
-    record { lambda = parts.0; days = parts.1; next = next.1; last = last.1 }
+    let schedule = and_parts _ (fits is_schedule_expression rotation.schedule) next.0 in
+    let parts = and_parts (fits is_description rotation.lambda) (fits are_days rotation.days) schedule.0 in
+    record { lambda = parts.0; days = parts.1; schedule = schedule.1; next = next.1; last = last.1 }
 
 pub of_parts : (rotation : Rotation) → RotationFits rotation → IsTrue (is_rotation rotation)
-of_parts rotation parts = and_from _ _ (and_from _ _ (and_from _ _ parts.lambda parts.days) parts.next) parts.last
+of_parts rotation parts =
+    and_from _ _
+    (and_from _ _ (and_from _ _ (and_from _ _ parts.lambda parts.days) parts.schedule) parts.next)
+    parts.last
 
 -- the row with this rotation and this job
 abbrev pub rerotated : Rotation → Option Job → SecretRow → SecretRow

@@ -1,6 +1,6 @@
 -- RotateSecret: its tests on the rows, its reply, what it changes.
--- AWS Secrets Manager API Reference, RotateSecret, RotationRulesType (AutomaticallyAfterDays); User Guide, "Rotation
--- schedules".
+-- AWS Secrets Manager API Reference, RotateSecret, RotationRulesType (AutomaticallyAfterDays, ScheduleExpression); User
+-- Guide, "Rotation schedules".
 use Rattle.std.specs.Prelude.{ℕ, ℤ, pos, negsuc, Bool, true, false, is_none, not, if◌then◌else◌, List, [], ◌∷◌, Option, Some, None}
 use Rattle.std.specs.Option.{option_or}
 use Rattle.sm_base.specs.declared.moment.Moment.{Moment}
@@ -49,7 +49,7 @@ days_of (Some (negsuc n)) = Some 0
 
 abbrev pub rules_given : Option Rules → Option KeptRules
 rules_given None = None
-rules_given (Some rules) = Some (record { days = days_of rules.days })
+rules_given (Some rules) = Some (record { days = days_of rules.days; schedule = rules.schedule })
 
 abbrev pub plan_of : RotateSecret → Plan
 plan_of rotate = record { lambda = rotate.rotation_lambda_arn; rules = rules_given rotate.rotation_rules }
@@ -73,10 +73,20 @@ abbrev pub days_or : Option KeptRules → Option ℕ → Option ℕ
 days_or None kept = kept
 days_or (Some rules) kept = rules.days
 
+-- their schedule likewise, so that given rules replace what was kept of both
+abbrev pub schedule_or : Option KeptRules → Option (List ℕ) → Option (List ℕ)
+schedule_or None kept = kept
+schedule_or (Some rules) kept = rules.schedule
+
 -- rotation is on, with what is given, or else with what is kept
 abbrev pub turned_on : Plan → Rotation → Rotation
 turned_on plan kept =
-    record kept { enabled = true; lambda = option_or plan.lambda kept.lambda; days = days_or plan.rules kept.days }
+    record kept {
+      enabled = true;
+      lambda = option_or plan.lambda kept.lambda;
+      days = days_or plan.rules kept.days;
+      schedule = schedule_or plan.rules kept.schedule;
+    }
 
 abbrev pub with_rotation : Rotation → SecretRow → SecretRow
 with_rotation rotation row = record row { rotation = rotation }
@@ -85,7 +95,7 @@ with_rotation rotation row = record row { rotation = rotation }
 abbrev pub turned_on_in : Plan → SecretRow → SecretRow
 turned_on_in plan row = with_rotation (turned_on plan row.rotation) row
 
--- the next date is so many kept days after the moment, or there is none
+-- the next date is by the kept schedule or days, or there is none
 abbrev pub dated : Moment → Rotation → Rotation
 dated moment rotation = record rotation { next = rotation_after rotation moment }
 

@@ -6,7 +6,7 @@ ghost use Rattle.sm_forms.specs.RotateSecret.{is_period, rotate_forms};
 ghost use Rattle.sm_judging.specs.Secrets.{finished_row, unless_scheduled};
 ghost use Rattle.sm_model.specs.Bounds.{fits};
 ghost use Rattle.sm_model.specs.Needed.{token_bytes_if};
-ghost use Rattle.sm_rotations.specs.RotateSecret.{days_of, rules_given, plan_of, token_to_start, rotate_call, days_or, turned_on, dated, with_rotation, turned_on_in, rotated, rotate_accepted, rotate_repeated, started, start_on, wait_on, rotate_on, rotate_judged, rotate_judgement};
+ghost use Rattle.sm_rotations.specs.RotateSecret.{days_of, rules_given, plan_of, token_to_start, rotate_call, days_or, schedule_or, turned_on, dated, with_rotation, turned_on_in, rotated, rotate_accepted, rotate_repeated, started, start_on, wait_on, rotate_on, rotate_judged, rotate_judgement};
 
 use sm_base::copy_two;
 use sm_dates::next_rotation;
@@ -26,6 +26,8 @@ use std::alloc::Global;
 pub struct KeptRules {
     /// The days between two rotations, where the rules name some.
     pub days: Option<u32>,
+    /// The schedule expression, where the rules name one.
+    pub schedule: Option<Text>,
 }
 
 /// What is given for the rotation of a secret.
@@ -86,15 +88,16 @@ fn days_of(days: Option<i64>) -> Option<u32>
 }
 
 /// The rules that are given.
-fn rules_given(rules: &Option<Rules>) -> Option<KeptRules>
+fn rules_given(alloc: Global, rules: &Option<Rules>) -> Result<Option<KeptRules>, NoMemory>
     requires { IfSome rules.now (λ r. IsTrue (fits is_period r.days)) }
-    ensures { result ≡ rules_given rules.now }
+    ensures { IfOk result (λ given. given ≡ rules_given rules.now) }
 {
     match rules {
-        Some(rules) => Some(KeptRules {
+        Some(rules) => Ok(Some(KeptRules {
             days: days_of(rules.days),
-        }),
-        None => None,
+            schedule: rules.schedule.copy(alloc)?,
+        })),
+        None => Ok(None),
     }
 }
 
@@ -106,7 +109,7 @@ fn plan_of(alloc: Global, rotate: &RotateSecret) -> Result<Plan, NoMemory>
 {
     Ok(Plan {
         lambda: rotate.rotation_lambda_arn.copy(alloc)?,
-        rules: rules_given(&rotate.rotation_rules),
+        rules: rules_given(alloc, &rotate.rotation_rules)?,
     })
 }
 
@@ -283,6 +286,20 @@ fn days_or(given: &Option<KeptRules>, kept: Option<u32>) -> Option<u32>
     }
 }
 
+/// The schedule of the rules that are given, also where they name none, or else the one that is kept.
+fn schedule_or(
+    alloc: Global,
+    given: &Option<KeptRules>,
+    kept: &Option<Text>,
+) -> Result<Option<Text>, NoMemory>
+    ensures { IfOk result (λ schedule. schedule ≡ schedule_or given.now kept.now) }
+{
+    match given {
+        Some(rules) => Ok(rules.schedule.copy(alloc)?),
+        None => Ok(kept.copy(alloc)?),
+    }
+}
+
 /// The rotation turned on, with what is given, or else with what is kept.
 fn turned_on(alloc: Global, plan: &Plan, kept: &Rotation) -> Result<Rotation, NoMemory>
     ensures { IfOk result (λ rotation. rotation ≡ turned_on plan.now kept.now) }
@@ -291,13 +308,13 @@ fn turned_on(alloc: Global, plan: &Plan, kept: &Rotation) -> Result<Rotation, No
         enabled: true,
         lambda: lambda_or(alloc, &plan.lambda, &kept.lambda)?,
         days: days_or(&plan.rules, kept.days),
-        schedule: kept.schedule.copy(alloc)?,
+        schedule: schedule_or(alloc, &plan.rules, &kept.schedule)?,
         next: kept.next,
         last: kept.last,
     })
 }
 
-/// The rotation with its next date so many kept days after the moment, or with none.
+/// The rotation with its next date by the schedule or the days that it keeps, or with none.
 fn dated(moment: Moment, rotation: Rotation) -> Rotation
     requires { moment.0 ≤ LAST_READING }
     ensures { result ≡ dated moment rotation }

@@ -1,6 +1,7 @@
 -- What holds of one secret between any two changes, all of it: the labels and versions, and that each text, value,
--- number, date and policy fits.
--- AWS Secrets Manager User Guide: "AWS Secrets Manager quotas"; API Reference: SecretListEntry (ARN).
+-- number, date, schedule and policy fits.
+-- AWS Secrets Manager User Guide: "AWS Secrets Manager quotas"; API Reference: SecretListEntry (ARN), RotationRulesType
+-- (ScheduleExpression).
 use Rattle.std.specs.Prelude.{ℕ, ◌≤◌, Bool, true, ◌&&◌, nat_eq, List, [], ◌∷◌, ◌++◌, length, drop, codes, IsTrue}
 use Rattle.std.specs.List.{starts_with}
 use Rattle.std.specs.Char.{is_ascii_alphanumeric}
@@ -12,6 +13,7 @@ use Rattle.sm_model.specs.declared.rows.Job.{Job}
 use Rattle.sm_model.specs.declared.rows.Rotation.{Rotation}
 use Rattle.sm_model.specs.declared.rows.SecretRow.{SecretRow}
 use Rattle.sm_policy_text.specs.Documents.{is_resource_policy}
+use Rattle.sm_cron.specs.Spelling.{is_schedule_expression}
 use Rattle.sm_model.specs.Bounds.{fits, is_description, is_small, is_tag, is_attempt, are_days, is_date, is_rotation_date}
 use Rattle.sm_versions.specs.Texts.{once}
 use Rattle.sm_versions.specs.Labels.{own_count}
@@ -48,7 +50,8 @@ each_version (version ∷ versions) = is_version version && each_version version
 
 abbrev pub is_rotation : Rotation → Bool
 is_rotation rotation =
-    fits is_description rotation.lambda && fits are_days rotation.days && fits is_rotation_date rotation.next
+    fits is_description rotation.lambda && fits are_days rotation.days
+    && fits is_schedule_expression rotation.schedule && fits is_rotation_date rotation.next
     && fits is_date rotation.last
 
 abbrev pub is_job : Job → Bool

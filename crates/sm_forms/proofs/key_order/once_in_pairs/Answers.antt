@@ -2,7 +2,7 @@ use Rattle.std.proofs.Common.{◌+◌, not, ◌&&◌, drop, sym, ap, ◌∙◌}
 use Rattle.sm_versions.specs.Texts.{once}
 use Rattle.sm_versions.specs.Sound.{tag_keys}
 use Rattle.sm_forms.proofs.TagLemmas.{once_from}
-use Rattle.sm_forms.proofs.tags.each_key_once.Goals as goal
+use Rattle.sm_forms.proofs.key_order.once_in_pairs.Goals as goal
 
 pub returns-then-has_key : goal.returns-then-has_key
 returns-then-has_key c =
