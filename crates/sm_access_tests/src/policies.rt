@@ -2,6 +2,7 @@
 use sm_base::{Arn, List, Moment, Name, ReadRefused, Text};
 use sm_model::{Person, Rotation, SecretRow, SharedList};
 use sm_policy::question::Question;
+use sm_policy::spread::{is_match_in, spread_of};
 use sm_policy::{Case, Decision, decide, is_match, is_public};
 use sm_policy_text::{Policy, PolicyRefused};
 use std::alloc::Global;
@@ -184,5 +185,36 @@ fn patterns(rt: HostRuntime) -> Result<(), Fail> {
         );
     }
     assert!(rt; is_match(Case::Folded, b"A*", b"ab"));
+    Ok(())
+}
+
+/// Whether the pattern matches the text where it is spread.
+fn matches_spread(pattern: &str, text: &str) -> Option<bool> {
+    match spread_of(Case::Folded, text.as_bytes()) {
+        Some(spread) => Some(is_match_in(Case::Folded, pattern.as_bytes(), &spread)),
+        None => None,
+    }
+}
+
+#[test]
+fn patterns_in_spread_texts(rt: HostRuntime) -> Result<(), Fail> {
+    let long = "aaaaaaaaaaaaaaaaaaaaaaaaaaaaaaaaaaaaaaaaaaaaaaaaaaaaaaaaaaaaaaaaaaaaaaaab";
+    for (pattern, text, wanted) in [
+        ("a*b?", "aXXbc", true),
+        ("a*b?", "ab", false),
+        ("*", "", true),
+        ("", "", true),
+        ("?", "", false),
+        ("*?*\u{e9}", "a\u{e9}", true),
+        ("*\u{e9}", "a\u{169}", false),
+        ("*\u{10ffff}?", "\u{10ffff}\u{10ffff}\u{e9}", true),
+        ("A*B*C", "axbxbxc", true),
+        ("*aab", long, true),
+        ("*a?aab*c", long, false),
+    ] {
+        assert_eq!(rt; matches_spread(pattern, text), Some(wanted), "{pattern}");
+    }
+    assert!(rt; spread_of(Case::Exact, &[97; 639]).is_some());
+    assert!(rt; spread_of(Case::Exact, &[97; 640]).is_none());
     Ok(())
 }

@@ -7,6 +7,7 @@ use Rattle.sm_policy.specs.Patterns.{Wild, some_end, is_empty, wild}
 use Rattle.sm_policy.specs.Decisions.{denies, allows, first_number, decided}
 use Rattle.sm_policy.specs.Laws.{MatchesAsWild, StarMatchesAll, DenyWins, AllowIsUndenied, DecisionAdmits, is_denial, is_allowance, may_go}
 use Rattle.sm_policy.proofs.MatchLemmas.{one_is, star_is}
+use Rattle.sm_policy.proofs.StepLemmas.{nothing_left}
 
 or_left : (a b : Bool) → a ≡ true → (a || b) ≡ true
 or_left true b h = refl
@@ -115,10 +116,6 @@ test_of (p ∷ rest) text (inr (inr same)) =
 
 pub matches_as_wild : MatchesAsWild
 matches_as_wild pattern text = (relation_of pattern text, test_of pattern text)
-
-nothing_left : (text : List ℕ) → some_end (wild []) text ≡ true
-nothing_left [] = empty_is []
-nothing_left (c ∷ text) = or_right (wild [] (c ∷ text)) (some_end (wild []) text) (nothing_left text)
 
 pub star_matches_all : StarMatchesAll
 star_matches_all text = star_is [] text ∙ nothing_left text

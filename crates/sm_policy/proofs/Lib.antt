@@ -1,7 +1,11 @@
 pub mod CharacterLemmas
 pub mod DecisionLemmas
 pub mod LawLemmas
+pub mod MarkLemmas
+pub mod MatchInLemmas
 pub mod MatchLemmas
+pub mod PlaceSetLemmas
+pub mod SpreadLemmas
 pub mod StepLemmas
 pub mod TextLemmas
 pub mod WorkLemmas

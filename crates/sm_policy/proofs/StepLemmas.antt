@@ -1,12 +1,13 @@
 -- One step of the matcher.
-use Rattle.std.proofs.Common.{◌≡◌, ◌≢◌, ℕ, ◌==◌, ◌||◌, ◌&&◌, Bool, true, false, List, [], ◌∷◌, map, refl, ap, ◌∙◌}
+use Rattle.std.proofs.Common.{◌≡◌, ◌≢◌, ℕ, ◌==◌, ◌||◌, ◌&&◌, Bool, true, false, List, [], ◌∷◌, length, map, refl, ap, ◌∙◌, arith}
 use Rattle.std.specs.Str.{chars}
+use Rattle.std.proofs.lemmas.Str.{chars-nil}
 use Rattle.sm_policy.specs.declared.pattern.Case.{Case}
 use Rattle.sm_policy.specs.declared.pattern.Places.{Places}
 use Rattle.sm_policy.specs.Characters.{Begins, BeginsAs}
-use Rattle.sm_policy.specs.Patterns.{letter, letters, wild}
+use Rattle.sm_policy.specs.Patterns.{letter, letters, some_end, wild}
 use Rattle.sm_policy.specs.Steps.{PastStar, PastBoth}
-use Rattle.sm_policy.proofs.MatchLemmas.{one_is}
+use Rattle.sm_policy.proofs.MatchLemmas.{star_is, one_is}
 
 pub no_letter : (case : Case) (text : List ℕ) → chars text ≡ [] → letters case text ≡ []
 no_letter case text e = ap (map (letter case)) e
@@ -29,6 +30,27 @@ empty_nothing = refl
 
 pub at_end : (pattern text : List ℕ) → pattern ≡ [] → text ≡ [] → wild pattern text ≡ true
 at_end pattern text e f = ap (λ p. wild p text) e ∙ ap (wild []) f ∙ empty_nothing
+
+or_right : (a b : Bool) → b ≡ true → (a || b) ≡ true
+or_right true b h = refl
+or_right false b h = h
+
+-- nothing is left of a pattern behind a `*`, and some end of the text is empty
+pub nothing_left : (text : List ℕ) → some_end (wild []) text ≡ true
+nothing_left [] = empty_nothing
+nothing_left (c ∷ text) = or_right (wild [] (c ∷ text)) (some_end (wild []) text) (nothing_left text)
+
+none : (text : List ℕ) → length text ≡ 0 → text ≡ []
+none [] e = refl
+none (c ∷ text) e = absurd (omega arith)
+
+pub at_last_star : (case : Case) (pattern text : List ℕ) (p : ℕ) (rest : List ℕ) → BeginsAs case pattern p rest → p ≡ 42
+    → length rest ≡ 0 → wild (letters case pattern) (letters case text) ≡ true
+at_last_star case pattern text p rest first star e =
+    ap (λ q. wild q (letters case text)) (first.front ∙ ap (λ c. c ∷ letters case rest) star
+    ∙ ap (λ (t : List ℕ). 42 ∷ letters case t) (none rest e)
+    ∙ ap (λ t. 42 ∷ t) (no_letter case [] chars-nil))
+    ∙ star_is [] (letters case text) ∙ nothing_left (letters case text)
 
 empty_something : (c : ℕ) (text : List ℕ) → wild [] (c ∷ text) ≡ false
 unfolding wild

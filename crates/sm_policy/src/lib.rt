@@ -4,7 +4,9 @@
 
 pub mod laws;
 pub mod pattern;
+mod place_set;
 pub mod question;
+pub mod spread;
 
 pub use pattern::{Case, is_match};
 pub use question::{Decision, Question, decide, is_public};

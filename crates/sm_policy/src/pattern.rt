@@ -5,10 +5,10 @@ ghost use Rattle.sm_policy.specs.Characters.{Continues, Begins, BeginsAs};
 ghost use Rattle.sm_policy.specs.Steps.{IsStep};
 
 /// The character `*`.
-const STAR: u32 = 42;
+pub(crate) const STAR: u32 = 42;
 
 /// The character `?`.
-const ANY: u32 = 63;
+pub(crate) const ANY: u32 = 63;
 
 /// How characters are compared.
 #[derive(Clone, Copy, Debug, PartialEq, Eq)]
@@ -53,7 +53,7 @@ pub(crate) enum Step<'a> {
     Star(Places<'a>),
     /// Behind one character of both.
     Both(Places<'a>),
-    /// Both are at their ends.
+    /// Both are at their ends, or a `*` is all that is left of the pattern.
     End,
     /// What follows doesn't match.
     Apart,
@@ -111,7 +111,7 @@ fn first_character(text: &[u8]) -> Option<(u32, &[u8])>
 
 /// The first character of a text as it is compared, and what follows it.
 #[tactic(auto, using(crate::proofs::StepLemmas::no_letter, crate::proofs::StepLemmas::first_letter))]
-fn first_letter(case: Case, text: &[u8]) -> Option<(u32, &[u8])>
+pub(crate) fn first_letter(case: Case, text: &[u8]) -> Option<(u32, &[u8])>
     ensures { MatchOption result (letters case text.now ≡ []) (λ first. BeginsAs case text.now first.0 first.1.now) }
 {
     match first_character(text) {
@@ -128,7 +128,7 @@ fn admits(wanted: u32, found: u32) -> bool
 }
 
 /// How the match goes on from two places.
-#[tactic(auto, using(crate::proofs::StepLemmas::at_star, crate::proofs::StepLemmas::at_both, crate::proofs::StepLemmas::at_end, crate::proofs::StepLemmas::text_is_longer, crate::proofs::StepLemmas::text_is_shorter, crate::proofs::StepLemmas::apart))]
+#[tactic(auto, using(crate::proofs::StepLemmas::at_star, crate::proofs::StepLemmas::at_last_star, crate::proofs::StepLemmas::at_both, crate::proofs::StepLemmas::at_end, crate::proofs::StepLemmas::text_is_longer, crate::proofs::StepLemmas::text_is_shorter, crate::proofs::StepLemmas::apart))]
 fn next_step<'a>(case: Case, here: Places<'a>) -> Step<'a>
     ensures { IsStep case here.entry result }
 {
@@ -139,6 +139,9 @@ fn next_step<'a>(case: Case, here: Places<'a>) -> Step<'a>
         };
     };
     if wanted == STAR {
+        if pattern.is_empty() {
+            return Step::End;
+        }
         return Step::Star(Places {
             pattern,
             text: here.text,

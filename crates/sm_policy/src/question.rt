@@ -4,7 +4,8 @@ ghost use Rattle.std.specs.List.{list_any};
 ghost use Rattle.sm_base.specs.Texts.{same_text};
 ghost use Rattle.sm_policy.specs.Decisions.{plain_question, account_in, root_of, is_for, is_like, is_action, tag_value, value_of, equals_one, like_one, test_holds, block_holds, condition_holds, matches, denies, allows, first_number, decision, is_everybody, is_open, public_number};
 
-use crate::pattern::{Case, is_match};
+use crate::pattern::Case;
+use crate::spread::{Sought, has_gap};
 use sm_base::Text;
 use sm_base::text::same_text;
 use sm_model::{Person, SecretRow, Tag};
@@ -79,18 +80,6 @@ fn is_root_of(account: &[u8], text: &[u8]) -> bool
     is_joined(text, b"arn:aws:iam::", account, b":root")
 }
 
-fn is_like(text: &[u8], pattern: &Pattern) -> bool
-    ensures { result ≡ is_like text.now pattern.now }
-{
-    is_match(Case::Exact, pattern.0.as_bytes(), text)
-}
-
-fn is_action(action: &[u8], pattern: &Pattern) -> bool
-    ensures { result ≡ is_action action.now pattern.now }
-{
-    is_match(Case::Folded, pattern.0.as_bytes(), action)
-}
-
 /// The value of the tag with the key.
 #[tactic(auto, using(crate::proofs::DecisionLemmas::tag_here, crate::proofs::DecisionLemmas::tag_later, crate::proofs::DecisionLemmas::tag_none))]
 fn tag_value<'a>(tags: &'a [Tag], key: &[u8]) -> Option<&'a [u8]>
@@ -123,12 +112,13 @@ fn equals_one(texts: &[Text], value: &[u8]) -> bool
     texts.iter().any(|text| same_text(text.as_bytes(), value))
 }
 
+/// Whether one of the texts, as a pattern, matches the value.
 fn like_one(texts: &[Text], value: &[u8]) -> bool
     ensures { result ≡ like_one texts.now value.now }
 {
-    texts
-        .iter()
-        .any(|text| is_match(Case::Exact, text.as_bytes(), value))
+    let has_gaps = texts.iter().any(|text| has_gap(text.as_bytes()));
+    let sought = Sought::new(Case::Exact, value, has_gaps);
+    texts.iter().any(|text| sought.is_matched(text.as_bytes()))
 }
 
 /// Whether a key's test holds. StringNotEquals holds also where there is no value.
@@ -177,16 +167,27 @@ fn is_for_one(arn: &[u8], principals: &Principals) -> bool
         .any(|principal| is_for(arn, principal))
 }
 
+/// Whether one of the patterns has a gap.
+fn have_gaps(patterns: &[Pattern]) -> bool {
+    patterns.iter().any(|pattern| has_gap(pattern.0.as_bytes()))
+}
+
 fn is_action_of_one(action: &[u8], patterns: &[Pattern]) -> bool
     ensures { result ≡ list_any (is_action action.now) patterns.now }
 {
-    patterns.iter().any(|pattern| is_action(action, pattern))
+    let sought = Sought::new(Case::Folded, action, have_gaps(patterns));
+    patterns
+        .iter()
+        .any(|pattern| sought.is_matched(pattern.0.as_bytes()))
 }
 
 fn is_like_one(text: &[u8], patterns: &[Pattern]) -> bool
     ensures { result ≡ list_any (is_like text.now) patterns.now }
 {
-    patterns.iter().any(|pattern| is_like(text, pattern))
+    let sought = Sought::new(Case::Exact, text, have_gaps(patterns));
+    patterns
+        .iter()
+        .any(|pattern| sought.is_matched(pattern.0.as_bytes()))
 }
 
 /// Whether a statement matches by its principal, its action, its resource and its condition.

@@ -1,0 +1,15 @@
+use Rattle.std.proofs.Common.{◌∙◌}
+use Rattle.sm_policy.specs.Patterns.{letters}
+use Rattle.sm_policy.proofs.MatchInLemmas.{whole_spread, more_spread}
+use Rattle.sm_policy.proofs.spread.spread_of.Goals as goal
+
+pub returns-in_default : goal.returns-in_default
+returns-in_default c =
+    whole_spread (letters c.args.case c.args.text.now) c.loop-letter.spread c.loop-letter.invariant.0
+    (c.loop-letter.invariant.1 ∙ c.in_default.ensures)
+
+pub loop-letter-preserved : goal.loop-letter-preserved
+loop-letter-preserved c =
+    more_spread (letters c.args.case c.args.text.now) (letters c.args.case c.in-Some.next.now) c.in-Some.letter
+    c.loop-letter.spread c.add.new.spread c.loop-letter.invariant.0
+    (c.loop-letter.invariant.1 ∙ c.in-Some.ensures.front) c.add.ensures
