@@ -7,7 +7,7 @@ use crate::disks::content;
 use crate::rows::compare;
 use sm_base::{Bytes, Fails, List, NoMemory};
 use sm_disk::{DiskFailed, MemoryDisk};
-use sm_journal::{Format, Fresh, Journal, named_file};
+use sm_journal::{Damage, Format, Fresh, Journal, OpenRefused, named_file};
 use std::alloc::Global;
 use std::test::Fail;
 
@@ -179,5 +179,59 @@ fn new_file(alloc: Global) -> Result<Vec<u8>, Fail> {
 fn new_files_have_exact_bytes(rt: HostRuntime) -> Result<(), Fail> {
     let came = new_file(rt.alloc())?;
     compare(&rt, "a new file of two bodies", came.as_slice(), &WHOLE);
+    Ok(())
+}
+
+/// The old file, the new one cut to this length, and a root of these bytes.
+fn disk_cut(alloc: Global, length: usize, root: &[u8]) -> Result<MemoryDisk, NoMemory> {
+    let journal_0 = Bytes::from_slice(alloc, b"SMJRNL01\x01\0\0\0\x03old\0")?;
+    let length = length.min(WHOLE.len());
+    let journal_1 = Bytes::from_slice(alloc, &WHOLE[..length])?;
+    let root = Bytes::from_slice(alloc, root)?;
+    MemoryDisk::new(alloc, journal_0, journal_1, root, Fails::never(alloc))
+}
+
+/// What is found in the second file: so many records, or damage.
+#[derive(Clone, Copy, Debug, PartialEq, Eq)]
+enum Found {
+    Records(usize),
+    Damaged(Damage),
+    Nothing,
+}
+
+/// What opening the second file finds.
+fn found_in(alloc: Global, disk: MemoryDisk) -> Found {
+    match Journal::open(alloc, disk, 1, 1000, Format::Second) {
+        Ok((_journal, bodies)) => Found::Records(bodies.len()),
+        Err(OpenRefused::Damaged(_disk, damage)) => Found::Damaged(damage),
+        Err(_refused) => Found::Nothing,
+    }
+}
+
+/// What is found in the new file where it is cut to this length. Its gates are at 8, 16 and 21.
+fn wanted_at(length: usize) -> Found {
+    match length {
+        0..=9 => Found::Records(0),
+        10..=16 => Found::Damaged(Damage { at: 8, entry: 0 }),
+        17..=21 => Found::Damaged(Damage { at: 16, entry: 1 }),
+        _ => Found::Records(2),
+    }
+}
+
+#[test]
+fn new_files_that_are_cut_are_damaged(rt: HostRuntime) -> Result<(), Fail> {
+    for length in 0..=WHOLE.len() {
+        let found = found_in(rt.alloc(), disk_cut(rt.alloc(), length, &[1])?);
+        assert_eq!(rt; found, wanted_at(length), "{length}");
+    }
+    Ok(())
+}
+
+#[test]
+fn new_files_do_not_count_before_they_are_named(rt: HostRuntime) -> Result<(), Fail> {
+    for length in 0..=WHOLE.len() {
+        let came = recovered(rt.alloc(), disk_cut(rt.alloc(), length, &[])?);
+        assert_eq!(rt; came, Came::Old, "{length}");
+    }
     Ok(())
 }

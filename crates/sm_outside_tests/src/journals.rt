@@ -119,13 +119,13 @@ fn disk_of(alloc: Global, bytes: &[u8], fails: Fails) -> Result<MemoryDisk, NoMe
     )
 }
 
-/// A disk with the file of a case.
-fn case_disk(alloc: Global, case: &Case) -> Result<MemoryDisk, NoMemory> {
+/// A disk with the first bytes of that journal, with this byte at a place.
+fn disk_with(alloc: Global, length: usize, place: usize, byte: u8) -> Result<MemoryDisk, NoMemory> {
     let mut bytes = WHOLE;
-    if let Some(byte) = bytes.get_mut(case.place) {
-        *byte = case.byte;
+    if let Some(old) = bytes.get_mut(place) {
+        *old = byte;
     }
-    let length = case.length.min(bytes.len());
+    let length = length.min(bytes.len());
     disk_of(alloc, &bytes[..length], Fails::never(alloc))
 }
 
@@ -147,7 +147,7 @@ fn find(alloc: Global, disk: MemoryDisk) -> (Found, MemoryDisk) {
 
 /// What opening finds of a case.
 fn find_case(alloc: Global, case: &Case) -> Result<Found, NoMemory> {
-    let (found, _) = find(alloc, case_disk(alloc, case)?);
+    let (found, _) = find(alloc, disk_with(alloc, case.length, case.place, case.byte)?);
     Ok(found)
 }
 
@@ -165,6 +165,59 @@ fn wrong_case(alloc: Global) -> Result<Option<(&'static str, Found, Found)>, NoM
 #[test]
 fn files_are_recovered_or_damaged(rt: HostRuntime) -> Result<(), Fail> {
     assert_eq!(rt; wrong_case(rt.alloc())?, None);
+    Ok(())
+}
+
+/// What is found in the first bytes of that journal: no record in at most nine, and else damage until the record and
+/// the gate behind it are whole.
+fn found_at(length: usize) -> Found {
+    if length <= 9 {
+        Found::Records(0, 9)
+    } else if length < WHOLE.len() {
+        Found::Damaged(Damage { at: 8, entry: 0 })
+    } else {
+        Found::Records(1, 36)
+    }
+}
+
+/// The first length at which something else is found in that journal, where its header ends in this byte, and what.
+fn wrong_length(alloc: Global, byte: u8) -> Result<Option<(usize, Found)>, NoMemory> {
+    for length in 0..=WHOLE.len() {
+        let (found, _) = find(alloc, disk_with(alloc, length, 7, byte)?);
+        if found != found_at(length) {
+            return Ok(Some((length, found)));
+        }
+    }
+    Ok(None)
+}
+
+#[test]
+fn files_that_are_cut_are_damaged(rt: HostRuntime) -> Result<(), Fail> {
+    assert_eq!(rt; wrong_length(rt.alloc(), b'1')?, None);
+    assert_eq!(rt; wrong_length(rt.alloc(), b'2')?, None);
+    Ok(())
+}
+
+/// What stands in files of at most nine bytes.
+const SHORT: [&[u8]; 4] = [b"", b"SMJRNL01\0", b"SMJRNL02\x01", b"other"];
+
+/// The file that an opening makes of these bytes in a format.
+fn made_new(alloc: Global, bytes: &[u8], format: Format) -> Result<Vec<u8>, Fail> {
+    let disk = disk_of(alloc, bytes, Fails::never(alloc))?;
+    match Journal::open(alloc, disk, 0, 64, format) {
+        Ok((journal, _bodies)) => content(alloc, &mut journal.close(), 0),
+        Err(_refused) => Err("not opened".into()),
+    }
+}
+
+#[test]
+fn short_files_are_made_new_in_the_format_asked_for(rt: HostRuntime) -> Result<(), Fail> {
+    for bytes in &SHORT {
+        let first = made_new(rt.alloc(), bytes, Format::First)?;
+        compare(&rt, "the first format", first.as_slice(), b"SMJRNL01\0");
+        let second = made_new(rt.alloc(), bytes, Format::Second)?;
+        compare(&rt, "the second format", second.as_slice(), b"SMJRNL02\0");
+    }
     Ok(())
 }
 

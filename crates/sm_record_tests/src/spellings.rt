@@ -20,7 +20,7 @@ fn place(alloc: Global, edition: Edition, body: &[u8]) -> Result<Option<usize>, 
 }
 
 /// The last field that begins at this place or before it.
-fn field_at(places: &[usize], end: usize) -> Option<usize> {
+pub fn field_at(places: &[usize], end: usize) -> Option<usize> {
     places.iter().copied().filter(|place| *place <= end).last()
 }
 

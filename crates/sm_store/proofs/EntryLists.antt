@@ -16,13 +16,13 @@ spelled_push [] e all fits = (fits, tt)
 spelled_push (d ∷ list) e all fits = (all.0, spelled_push list e all.1 fits)
 
 -- the first of two lists, and the rest
-first_is : {A : Type 0} (x y : A) (xs ys : List A) → x ∷ xs ≡ y ∷ ys → x ≡ y
+pub first_is : {A : Type 0} (x y : A) (xs ys : List A) → x ∷ xs ≡ y ∷ ys → x ≡ y
 first_is x y xs ys same = cc
 
-rest_is : {A : Type 0} (x y : A) (xs ys : List A) → x ∷ xs ≡ y ∷ ys → xs ≡ ys
+pub rest_is : {A : Type 0} (x y : A) (xs ys : List A) → x ∷ xs ≡ y ∷ ys → xs ≡ ys
 rest_is x y xs ys same = cc
 
-none_is_some : {A : Type 0} (x : A) (xs : List A) → [] ≡ x ∷ xs → ⊥
+pub none_is_some : {A : Type 0} (x : A) (xs : List A) → [] ≡ x ∷ xs → ⊥
 none_is_some x xs same = cc
 
 -- entries of one list of bodies are one list

@@ -1,5 +1,5 @@
 -- How a file is filled, body by body.
-use Rattle.std.proofs.Common.{◌≡◌, ℕ, ◌+◌, ◌^◌, ◌<◌, ◌≤◌, false, List, [], ◌∷◌, ◌++◌, length, flat_map, take, drop, get_or, Result, Ok, Err, refl, sym, ap, subst, ◌∙◌, append_assoc, append-nil, arith}
+use Rattle.std.proofs.Common.{◌≡◌, ℕ, ◌+◌, ◌<◌, ◌≤◌, false, List, [], ◌∷◌, ◌++◌, length, flat_map, take, drop, get_or, Result, Ok, Err, refl, sym, ap, subst, ◌∙◌, append_assoc, append-nil, arith}
 use Rattle.std.proofs.lemmas.List.{take_more, take_all}
 use Rattle.std.proofs.lemmas.List.Concat.{flat_map-append}
 use Rattle.std.proofs.Common.{take-append-drop, Bool, IsTrue, Some, slice_get}
@@ -20,7 +20,7 @@ use Rattle.sm_store.specs.Filling.{HasRoom, HasAdded, GoesOn, Fills}
 use Rattle.sm_store.specs.declared.filling.FillRefused.{FillRefused}
 use Rattle.sm_store.specs.declared.filling.FillRefused.TheVariants.{Failed, Memory}
 
-size-append : (xs ys : List (List ℕ)) → size (xs ++ ys) ≡ size xs + size ys
+pub size-append : (xs ys : List (List ℕ)) → size (xs ++ ys) ≡ size xs + size ys
 size-append [] ys = omega arith
 size-append (x ∷ xs) ys = omega (arith, size-append xs ys)
 

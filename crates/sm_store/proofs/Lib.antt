@@ -5,3 +5,10 @@ pub mod OpenRuns
 pub mod ReadingRuns
 pub mod FillRuns
 pub mod HeldRuns
+pub mod EntryRuns
+pub mod LoadRuns
+pub mod NamedRuns
+pub mod BaseStands
+pub mod HeldLaws
+pub mod HeldProofs
+pub mod OpenedRuns

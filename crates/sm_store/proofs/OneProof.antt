@@ -26,7 +26,7 @@ pub entries_prop : (bytes : List ℕ) (list : List Entry) → IsProp (HasEntries
 entries_prop bytes list = ×_prop (recovers_prop bytes formats.First (map (spelling First) list)) (spelled_prop list)
 
 -- two sides that exclude each other
-either_side : {A B : Type 0} → IsProp A → IsProp B → (A → B → ⊥) → IsProp (A ⊎ B)
+pub either_side : {A B : Type 0} → IsProp A → IsProp B → (A → B → ⊥) → IsProp (A ⊎ B)
 either_side one other apart (inl a) (inl b) = ap inl (one a b)
 either_side one other apart (inl a) (inr b) = absurd (apart a b)
 either_side one other apart (inr a) (inl b) = absurd (apart b a)

@@ -12,12 +12,12 @@ use Rattle.sm_store.specs.declared.entries.EntriesRefused.{EntriesRefused}
 use Rattle.sm_store.specs.declared.entries.EntriesRefused.TheVariants.{Damaged}
 use Rattle.sm_store.specs.Entries.{SpellsNone, AreSpelled, IsUnspelledIn}
 
-size_take : (n : ℕ) (bodies : List (List ℕ)) → size (take n bodies) ≤ size bodies
+pub size_take : (n : ℕ) (bodies : List (List ℕ)) → size (take n bodies) ≤ size bodies
 size_take zero bodies = omega arith
 size_take (suc n) [] = omega arith
 size_take (suc n) (body ∷ bodies) = omega (arith, size_take n bodies)
 
-parted : (n : ℕ) (bodies : List (List ℕ)) (d : List ℕ) → n < length bodies
+pub parted : (n : ℕ) (bodies : List (List ℕ)) (d : List ℕ) → n < length bodies
     → bodies ≡ take n bodies ++ get_or bodies n d ∷ drop (suc n) bodies
 parted zero [] d lt = absurd (omega arith)
 parted zero (body ∷ bodies) d lt = refl

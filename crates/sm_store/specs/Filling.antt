@@ -1,5 +1,5 @@
 -- A file that is filled with the bodies of rows.
-use Rattle.std.specs.Prelude.{◌≡◌, ◌<◌, ℕ, ◌^◌, ◌+◌, ◌≤◌, Bool, true, false, List, [], ◌∷◌, ◌++◌, Result, Ok, Err}
+use Rattle.std.specs.Prelude.{◌≡◌, ℕ, ◌^◌, ◌+◌, ◌≤◌, false, List, ◌++◌, Result, Ok, Err}
 use Rattle.sm_base.specs.Faults.{Rose}
 use Rattle.sm_disk.specs.OneFile.{Anyhow, Leaves}
 use Rattle.sm_disk.specs.declared.disk.Disk.{Ghosts}

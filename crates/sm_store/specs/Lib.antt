@@ -4,3 +4,7 @@ pub mod Openings
 pub mod Held
 pub mod BaseStores
 pub mod Filling
+pub mod Loading
+pub mod BaseFiles
+pub mod BaseOpenings
+pub mod BaseAppends

@@ -121,7 +121,7 @@ fn name_over<D: Disk>(
 
 impl<D: Disk> BaseStore<D> {
     /// Puts a base in the place of all that is held: it makes the other file with the base, each body as it is encoded,
-    /// and seals it, and then lets the root name that file. It needs two syncs of the file and one of the root. An
+    /// and seals it, and then lets the root name that file. It needs one sync of the file and one of the root. An
     /// error hands the disk back.
     pub fn checkpoint(self, alloc: Global, base: &Base) -> Result<BaseStore<D>, OpenRefused<D>>
         requires sure { is_unsure self ≡ false }

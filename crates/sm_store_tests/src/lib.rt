@@ -2,4 +2,12 @@
 #![tactic(auto)]
 
 #[cfg(test)]
+mod base_faults;
+#[cfg(test)]
+mod base_files;
+#[cfg(test)]
+mod base_limits;
+#[cfg(test)]
+mod letters;
+#[cfg(test)]
 mod stores;
