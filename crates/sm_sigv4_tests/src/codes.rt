@@ -142,7 +142,7 @@ fn published_keys(rt: HostRuntime) -> Result<(), Fail> {
 
 #[test]
 fn published_signatures(rt: HostRuntime) -> Result<(), Fail> {
-    // The string to sign of the General Reference's worked example, and of get-vanilla.
+    // The string to sign of the General Reference's worked example, and those of get-vanilla and post-vanilla.
     let listed = signature_of(
         rt.alloc(),
         "20150830",
@@ -164,6 +164,17 @@ fn published_signatures(rt: HostRuntime) -> Result<(), Fail> {
     assert_eq!(rt;
         vanilla.as_str(),
         "5fa00fa31553b73ebf1942676e86291e8372ff2a2260956d9b8aae1d763fbf31"
+    );
+    let posted = signature_of(
+        rt.alloc(),
+        "20150830",
+        "service",
+        "AWS4-HMAC-SHA256\n20150830T123600Z\n20150830/us-east-1/service/aws4_request\n\
+         553f88c9e4d10fc9e109e2aeb65f030801b70c2f6468faca261d401ae622fc87",
+    )?;
+    assert_eq!(rt;
+        posted.as_str(),
+        "5da7c1a2acd57cee7505fc6676e4e544621c30862966e37dddb68e92efbe5d6b"
     );
     Ok(())
 }

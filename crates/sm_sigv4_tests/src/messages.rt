@@ -55,6 +55,14 @@ the first of two moments|ok|.|.|.|Host>127.0.0.1:7777;Accept-Encoding>identity;\
     X-Amz-Target>secretsmanager.GetSecretValue;Content-Type>application/x-amz-json-1.1;User-Agent>aws-cli/2.13;\
     X-Amz-Date>20231114T221320Z;x-amz-date>20231115T000000Z|.|.|.\
     | Signature=47999b9a8ad28262c30cfc5a9f6b77c0dfc03a0d2fe654857cc0ab600056669a
+a name that another begins with|ok|.|.|.|Host>127.0.0.1:7777;Accept-Encoding>identity;\
+    X-Amz-Target>secretsmanager.GetSecretValue;Content-Type>application/x-amz-json-1.1;User-Agent>aws-cli/2.13;\
+    X-Amz-Date>20231114T221320Z;X-Amz>a|.|.| SignedHeaders=content-type;host;x-amz;x-amz-date;x-amz-target,\
+    | Signature=3bd48196e165c900ee2f7b306a34be83c99be3da91dbc7c23722e7e923f01935
+names with marks in byte order|ok|.|.|.|Host>127.0.0.1:7777;Accept-Encoding>identity;\
+    X-Amz-Target>secretsmanager.GetSecretValue;Content-Type>application/x-amz-json-1.1;User-Agent>aws-cli/2.13;\
+    X-Amz-Date>20231114T221320Z;X-B_c>b;X-B-d>a;X-B~>|.|.| SignedHeaders=content-type;host;x-amz-date;\
+    x-amz-target;x-b-d;x-b_c;x-b~,| Signature=d0da25002c5b26526e0ea2fa3037b2eaf8b176b094a673f9bb33e6c8a6cc2b53
 a field that is not signed is another|ok|.|.|.|Host>127.0.0.1:7777;Accept-Encoding>identity;\
     X-Amz-Target>secretsmanager.GetSecretValue;Content-Type>application/x-amz-json-1.1;User-Agent>other;\
     X-Amz-Date>20231114T221320Z|.|.|.|.
@@ -139,7 +147,18 @@ names: a space|SignedHeaders|.|.|.|.|.|.| SignedHeaders=content-type; host;x-amz
     | Signature=e488580029dc3939f3d20e4a3083a963f4ffb8dbfa663f90702c886fd64658ad
 names: no name of a field|SignedHeaders|.|.|.|.|.|.| SignedHeaders=host;x-(amz);x-amz-date;x-amz-target,\
     | Signature=749df712c651693019fa0fb95add294d9509a95cc3d73b1ecc397ab64b506208
+names: of a message without Host|SignedHeaders|.|.|.|Accept-Encoding>identity;\
+    X-Amz-Target>secretsmanager.GetSecretValue;Content-Type>application/x-amz-json-1.1;User-Agent>aws-cli/2.13;\
+    X-Amz-Date>20231114T221320Z|.|.|.|.
+names: of a message without X-Amz-Target|SignedHeaders|.|.|.|Host>127.0.0.1:7777;Accept-Encoding>identity;\
+    Content-Type>application/x-amz-json-1.1;User-Agent>aws-cli/2.13;X-Amz-Date>20231114T221320Z|.|.|.|.
+names: of a message without X-Amz-Date|SignedHeaders|.|.|.|Host>127.0.0.1:7777;Accept-Encoding>identity;\
+    X-Amz-Target>secretsmanager.GetSecretValue;Content-Type>application/x-amz-json-1.1;User-Agent>aws-cli/2.13|\
+    .|.|.|.
 no field|Authorization|.|.|.|.|.|||
+field: another in front of it|Authorization|.|.|.|Host>127.0.0.1:7777;Accept-Encoding>identity;\
+    X-Amz-Target>secretsmanager.GetSecretValue;Content-Type>application/x-amz-json-1.1;User-Agent>aws-cli/2.13;\
+    X-Amz-Date>20231114T221320Z;authorization>Basic QURBOmtleTE=|.|.|.|.
 another algorithm|Authorization|.|.|.|.|.|AWS4-ECDSA-P256-SHA256 Credential=ADA/20231114/us-east-1/secretsma\
     nager/aws4_request,|.|.
 field: a small letter of the algorithm|Authorization|.|.|.|.|.|\
