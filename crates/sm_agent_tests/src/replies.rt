@@ -1,8 +1,13 @@
 //! Replies: those of the reader, and those that it reads of a server.
+use crate::script::{Reply, script};
 use httparse::spans::EMPTY_HEADER_SPAN;
 use sm_agent::received::{Received, reply_in};
-use sm_agent::{Answer, Given, given_reply, refused_reply, request};
+use sm_agent::{
+    Agent, Answer, CACHE_SIZE, Given, ScriptUpstream, TTL, given_reply, refused_reply, request,
+    turn,
+};
 use sm_base::{Bytes, Moment, NoMemory};
+use sm_io::FixedClock;
 use std::alloc::Global;
 use std::str;
 use std::test::Fail;
@@ -56,6 +61,44 @@ fn answers_are_handed_on(rt: HostRuntime) -> Result<(), Fail> {
     assert_eq!(rt; given(alloc, kept)?.as_str(), "200 {}");
     assert_eq!(rt; given(alloc, asked)?.as_str(), "400 no");
     assert_eq!(rt; given(alloc, Given::Failed)?.as_str(), fault);
+    Ok(())
+}
+
+/// The reply to a request, as text.
+fn replied(
+    alloc: Global,
+    agent: &mut Agent,
+    upstream: &mut ScriptUpstream,
+    method: &[u8],
+    path: &[u8],
+) -> Result<String, NoMemory> {
+    let mut clock = FixedClock::new(Moment(1700000000));
+    shown(
+        alloc,
+        &turn(alloc, agent, upstream, &mut clock, method, path)?,
+    )
+}
+
+#[test]
+fn requests_are_answered(rt: HostRuntime) -> Result<(), Fail> {
+    let alloc = rt.alloc();
+    let mut agent = Agent::build(alloc, CACHE_SIZE, TTL)?;
+    let mut upstream = script(alloc, &[Reply::Fine("{}")], &[])?;
+    let path = "400 {\"Message\":\"agent: path\",\"__type\":\"InvalidParameterException\"}";
+    let asked = b"/secretsmanager/get?secretId=a";
+    assert_eq!(rt;
+        replied(alloc, &mut agent, &mut upstream, b"POST", asked)?.as_str(),
+        path
+    );
+    assert_eq!(rt;
+        replied(alloc, &mut agent, &mut upstream, b"GET", asked)?.as_str(),
+        "200 {}"
+    );
+    assert_eq!(rt;
+        replied(alloc, &mut agent, &mut upstream, b"GET", asked)?.as_str(),
+        "200 {}"
+    );
+    assert_eq!(rt; upstream.told().len(), 1);
     Ok(())
 }
 

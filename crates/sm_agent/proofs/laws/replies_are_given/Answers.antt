@@ -1,0 +1,5 @@
+use Rattle.sm_agent.proofs.TurnLemmas.{replies_are_given}
+use Rattle.sm_agent.proofs.laws.replies_are_given.Goals as goal
+
+pub returns : goal.returns
+returns c = replies_are_given
