@@ -7,6 +7,10 @@ def number(value):
     return value.to_bytes(8, "big", signed=True)
 
 
+def natural(value):
+    return value.to_bytes(8, "big")
+
+
 def text(value):
     return octets(value.encode())
 
@@ -39,5 +43,5 @@ def entry(act, *fields, caller="", drawn=b"", moment=MOMENT):
     return number(moment) + text(caller) + octets(drawn) + bytes([act]) + b"".join(fields)
 
 
-def journal(bodies):
-    return b"SMJRNL01" + b"".join(b"\1" + octets(body) for body in bodies) + b"\0"
+def journal(bodies, header=b"SMJRNL01"):
+    return header + b"".join(b"\1" + octets(body) for body in bodies) + b"\0"

@@ -2,7 +2,8 @@
 
 A true journal is what an account leaves whose clock goes on between its messages. Of most of them a field of an entry
 is changed and spelled again, records are dropped, doubled, swapped or put in, or bytes are changed, cut off or added. A
-seed's journal is the same in each run.
+seed's journal is the same in each run. Where the programs know bases (tools/stores.py), a journal is of either format,
+in either file, and may begin with a base, of which fields are changed too.
 """
 
 import contextlib
@@ -11,20 +12,22 @@ import os
 import subprocess
 import tempfile
 
-import entries
+import formats
 import model
+import sound
+import stores
+
+from formats import Damaged, Entry
 
 # Somebody forces the deletion of a secret that is not there: an entry that is legal and changes nothing.
 DELETION_OF_NOBODY = ("opened", "the deletion of nobody")
 
 DAY = 86400
-# A journal of at most so many bytes has no record, and is made anew.
-SHORT = 9
 # What a line begins with that says which step of a rotation failed, as the local rotator's may.
 STEP = "secretsd: the rotation of "
 # When a history begins, how long its clock stands between two messages, and how many steps of rotations are taken
 # behind each.
-BEGINNINGS = [0, model.NOW - 40 * DAY, model.NOW, model.NOW, model.LAST_MOMENT - 9 * DAY]
+BEGINNINGS = [0, model.NOW - 40 * DAY, model.NOW, model.NOW, formats.LAST_MOMENT - 9 * DAY]
 WAITS = [0, 0, 0, 0, 1, 29, 60, 180, DAY, 7 * DAY, 31 * DAY, 1000 * DAY]
 SIZES = [1, 5, 10, 20, 40]
 WEIGHTS = {"CreateSecret": 2, "PutSecretValue": 4, "UpdateSecret": 2, "DeleteSecret": 1, "RestoreSecret": 1}
@@ -48,30 +51,51 @@ EDGE_MEMBERS = {
 OF_A_SECRET = ["RestoreSecret", "DeleteResourcePolicy", "CancelRotateSecret"]
 # How many versions of a secret are read.
 READ_VERSIONS = 5
+# Numbers of rows, dates and attempts among them.
+ODD_NUMBERS = [0, 1, 5, 6, 1000, 1001, sound.LAST_DATE, sound.LAST_DATE + 1, model.NO_NUMBER - 1, model.NO_NUMBER]
+ODD_NUMBERS += [model.NOW, formats.LAST_MOMENT, formats.LAST_MOMENT + 1, sound.LAST_ROTATION_DATE + 1]
+# Roots that name a journal, by its number, and what may stand in the other one.
+ROOTS = {0: [b"", b"\0", b"\2", b"\0\1", b"\xff"], 1: [b"\1", b"\1\0", b"\1abc"]}
+OTHERS = [b"", b"\0", b"SMJRNL01\0", b"SMJRNL02\1", b"anything else"]
 
 
 class Forger:
-    """Makes the bytes of a journal, from the messages of a seed's streams. What was forged stands in `forged`."""
+    """Makes the files of a folder, from the messages of a seed's streams. What was forged stands in `forged`."""
 
-    def __init__(self, streams):
+    def __init__(self, streams, bases=None):
         self.streams, self.random = streams, streams.random
-        self.account = self.history()
+        self.bases = stores.BASES if bases is None else bases
+        self.edition = self.random.choice([1, 2]) if self.bases else 1
+        self.account, self.front = self.history(), []
+        if self.bases and self.random.random() < 0.6:
+            self.stand_on_base()
         self.forged = []
 
     def history(self):
         """An account that was asked for changes, while its clock went on and rotations were taken some steps on."""
-        account = model.Account()
+        account = model.Account(edition=self.edition)
         account.clock = self.random.choice(BEGINNINGS)
+        self.go_on(account, ["CreateSecret"] * 2)
+        return account
+
+    def go_on(self, account, first=()):
+        """Asks an account for changes."""
         operations = self.random.choices(list(WEIGHTS), list(WEIGHTS.values()), k=self.random.choice(SIZES))
-        for operation in ["CreateSecret"] * 2 + operations:
-            account.clock = min(account.clock + self.random.choice(WAITS), model.LAST_MOMENT)
+        for operation in [*first, *operations]:
+            account.clock = min(account.clock + self.random.choice(WAITS), formats.LAST_MOMENT)
             person = self.random.choice(PERSONS)
             with contextlib.suppress(model.Refusal):
                 account.answer(person, operation, json.dumps(self.members(account, operation)).encode())
             steps = self.random.choice(STEPS)
             while steps and account.turn():
                 steps -= 1
-        return account
+
+    def stand_on_base(self):
+        """What the account's entries made becomes a base, and others come behind it."""
+        base = stores.base_of(self.account)
+        self.front = formats.spelled_base(base, self.edition)
+        self.account.before, self.account.entries = base.entries, []
+        self.go_on(self.account)
 
     def members(self, account, operation):
         """The members of a request, which mostly names a secret that is there."""
@@ -83,12 +107,22 @@ class Forger:
         return members
 
     def data(self):
-        """Mostly one thing is forged, sometimes none or two."""
-        bodies = list(self.account.entries)
+        """The journal. Mostly one thing is forged in it, sometimes none or two."""
+        bodies = self.front + self.account.entries
+        kinds = [OF_ENTRIES, OF_ENTRIES, OF_RECORDS, OF_MOMENTS] + [OF_ROWS] * (3 if self.front else 0)
         for _ in range(self.random.choice([0, 1, 1, 1, 2])):
-            bodies = self.one_of(self.random.choice([OF_ENTRIES, OF_ENTRIES, OF_RECORDS, OF_MOMENTS]), bodies)
-        data = entries.journal(bodies)
+            bodies = self.one_of(self.random.choice(kinds), bodies)
+        data = formats.journal(bodies, self.edition)
         return self.one_of(OF_BYTES, data) if self.random.random() < 0.25 else data
+
+    def files(self):
+        """The files of a folder with the journal."""
+        data = self.data()
+        if not self.bases:
+            return data, b"", b""
+        number, other = self.random.choice([0, 1]), self.random.choice([*OTHERS, data])
+        journals = [data, other] if number == 0 else [other, data]
+        return *journals, self.random.choice(ROOTS[number])
 
     def one_of(self, kinds, thing):
         kind = self.random.choice(kinds)
@@ -97,28 +131,36 @@ class Forger:
 
     # Entries: the new bodies of a journal.
 
+    def body(self, entry):
+        return formats.spelled_entry(entry, self.edition)
+
+    def entry(self, body):
+        """The entry of a body, or None."""
+        with contextlib.suppress(formats.NotSpelled):
+            return formats.read_entry(body, self.edition)
+
     def with_another(self, bodies, change):
         """One entry of an act becomes what `change` makes of it, each act as often as any other."""
         acts = {}
         for at, body in enumerate(bodies):
-            with contextlib.suppress(model.NotSpelled):
-                entry = model.Fields(body).entry()
+            entry = self.entry(body)
+            if entry is not None:
                 acts.setdefault(entry.act, []).append((at, entry))
         if not acts:
             return bodies
         at, entry = self.random.choice(acts[self.random.choice(sorted(acts))])
-        return bodies[:at] + [model.body_of(change(entry))] + bodies[at + 1 :]
+        return bodies[:at] + [self.body(change(entry))] + bodies[at + 1 :]
 
     def field(self, bodies):
         return self.with_another(bodies, self.with_a_field)
 
     def with_a_field(self, entry):
-        name, is_there, kind = self.random.choice(list(model.fields_of(entry.act)))
+        field = self.random.choice([it for it in formats.FIELDS[entry.act] if it.is_in(self.edition)])
         fields = dict(entry.fields)
-        if name in fields and not is_there and self.random.random() < 0.3:
-            del fields[name]
+        if field.name in fields and field.is_optional and self.random.random() < 0.3:
+            del fields[field.name]
         else:
-            fields[name] = self.value_for(name, kind, fields.get(name))
+            fields[field.name] = self.value_for(field.name, field.kind_name, fields.get(field.name))
         return entry._replace(fields=fields)
 
     def value_for(self, name, kind, before):
@@ -134,12 +176,56 @@ class Forger:
             "arn": lambda: choice(self.arns() + ODD_ARNS),
             "bytes": lambda: choice([b"", b"\0\xff", LONG_VALUES[2]]),
             "integer": lambda: choice([7, 30, 8, 6, 31, 0, -1]),
-            "rules": lambda: model.Rules(choice([None, 1, 30, 1000, 0, 1001, -(2**63)])),
+            "rules": self.rules,
             "tags": lambda: [(tag["Key"], tag.get("Value", "")) for tag in streams.tags()],
             "texts": lambda: streams.keys() if name == "TagKeys" else self.labels(),
             "token": lambda: choice([streams.token() for _ in range(5)] + ["t" * 31]),
         }
-        return values[kind]()
+        return values[kind]() if kind in values else self.value_of_a_row(kind, before)
+
+    def rules(self):
+        rules = model.Rules(self.random.choice([None, 1, 30, 1000, 0, 1001, -(2**63)]))
+        has_schedule = self.edition == 2 and self.random.random() < 0.3
+        return rules._replace(schedule="rate(1 day)") if has_schedule else rules
+
+    def value_of_a_row(self, kind, before):
+        """Another value of a field of a row."""
+        choice = self.random.choice
+        values = {
+            "days": lambda: choice([0, 1, 1000, 1001, 2**32 - 1]),
+            "job": lambda: self.with_a_part(before, "job") if before else self.job(),
+            "name": lambda: choice([secret.name for secret in self.account.secrets] + ["a", "n" * 512, "a b"]),
+            "number": lambda: choice(ODD_NUMBERS if before is None else [*ODD_NUMBERS, before + 1, max(before - 1, 0)]),
+            "octet": lambda: choice([0, 1, 5, 6, 255]),
+            "pairs": lambda: self.pairs(before),
+            "value": lambda: choice(ANSWERS[3:] + LONG_VALUES),
+        }
+        return values[kind]() % 2**64 if kind == "number" else values[kind]()
+
+    def job(self):
+        tokens = [version for secret in self.account.secrets for version in secret.versions] + [self.streams.token()]
+        stage, tested = self.random.choice(model.STAGES), self.random.choice([None, 1])
+        return formats.Job(self.random.choice(tokens), stage, 1, 0, tested)
+
+    def pairs(self, before):
+        """Labels of which one is dropped, doubled or on another version."""
+        ids = [version for _, version in before] + [self.streams.token()]
+        one = (self.streams.label(), self.random.choice(ids))
+        if not before:
+            return [one]
+        at = self.random.randrange(len(before))
+        moved = (before[at][0], self.random.choice(ids))
+        others = [[], [before[at], one], [before[at], moved], [moved]]
+        return before[:at] + self.random.choice(others) + before[at + 1 :]
+
+    def with_a_part(self, thing, kind):
+        """A row, a version or a job of which one field is another one."""
+        fields = formats.kind_of(kind).fields
+        field = self.random.choice([it for it in fields if it.is_in(self.edition)])
+        before = getattr(thing, field.name)
+        if before is not None and field.is_optional and self.random.random() < 0.3:
+            return thing._replace(**{field.name: None})
+        return thing._replace(**{field.name: self.value_for(field.name, field.kind_name, before)})
 
     def text_for(self, name):
         streams = self.streams
@@ -168,7 +254,8 @@ class Forger:
             same = entry.drawn
             drawn = self.random.choice([b"", same[:-1], same + b"\0", bytes(reversed(same)), bytes(16), bytes(22)])
             caller = self.random.choice(["", "ADA", "ä b"])
-            return self.random.choice([entry._replace(caller=caller), entry._replace(drawn=drawn)])
+            others = [entry._replace(caller=caller), entry._replace(drawn=drawn)]
+            return self.random.choice(others + ([entry._replace(by=caller)] if self.edition == 2 else []))
 
         return self.with_another(bodies, change)
 
@@ -184,20 +271,45 @@ class Forger:
 
     def moment(self, bodies):
         """One entry at another moment."""
-        moments = [0, model.LAST_MOMENT, model.LAST_MOMENT + 1, -1]
+        moments = [0, formats.LAST_MOMENT, formats.LAST_MOMENT + 1, -1]
 
         def change(entry):
             near = entry.moment + self.random.choice(MOVES) * self.random.choice([-1, 1])
-            return entry._replace(moment=self.random.choice(moments) if self.random.random() < 0.2 else near)
+            moment = self.random.choice(moments) if self.random.random() < 0.2 else near
+            return entry._replace(moment=moment % 2**64)
 
         return self.with_another(bodies, change)
 
     def later(self, bodies):
         """All entries from one on at later moments."""
         at, more = self.random.randrange(len(bodies) + 1), self.random.choice(MOVES)
-        moments = [int.from_bytes(body[:8], "big", signed=True) for body in bodies]
-        moved = [entries.number(moment + more) + body[8:] for moment, body in zip(moments, bodies)]
-        return bodies[:at] + moved[at:]
+        place = 0 if self.edition == 1 else 1
+
+        def moved(body):
+            if formats.is_of_rows(body):
+                return body
+            moment = int.from_bytes(body[place : place + 8], "big") + more
+            return body[:place] + (moment % 2**64).to_bytes(8, "big") + body[place + 8 :]
+
+        return bodies[:at] + [moved(body) for body in bodies[at:]]
+
+    # Rows: a field of one is changed.
+
+    def row(self, bodies):
+        """Another field of a row: of the start, of a secret or of a version, each as often as any other."""
+        signs = {}
+        for at, body in enumerate(bodies):
+            if formats.is_of_rows(body):
+                signs.setdefault(body[0], []).append(at)
+        if not signs:
+            return bodies
+        sign = self.random.choice(sorted(signs))
+        at, kind = self.random.choice(signs[sign]), formats.OF_ROWS[sign][0]
+        try:
+            row = formats.read_row(bodies[at], self.edition, sign)
+        except formats.NotSpelled:
+            return bodies
+        return bodies[:at] + [formats.spelled_row(self.with_a_part(row, kind), self.edition, sign)] + bodies[at + 1 :]
 
     # Records: some are left out, doubled, swapped or put in.
 
@@ -223,8 +335,8 @@ class Forger:
     def put_in(self, bodies):
         """An entry that nobody asked for, mostly one that is due there, or the last entry of another history."""
         at = self.random.randrange(len(bodies) + 1)
-        account = model.account_of(entries.journal(bodies[:at]))
-        account.begin(min(account.last + self.random.choice(WAITS[:6]), model.LAST_MOMENT))
+        account = stores.account_of(bodies[:at], self.edition)
+        account.begin(min(account.last + self.random.choice(WAITS[:6]), formats.LAST_MOMENT))
         return bodies[:at] + self.news(account) + bodies[at:]
 
     def news(self, account):
@@ -240,15 +352,15 @@ class Forger:
     def step_of(self, secret, answer):
         job = secret.job
         step = {"ARN": secret.arn, "Token": job.token, "Stage": job.stage, "Attempt": job.attempt, "Answer": answer}
-        return model.body_of(model.Entry(secret.account.moment, "", b"", False, "Reported", step))
+        return self.body(Entry(secret.account.moment, "", b"", False, "Reported", step))
 
     def start_of(self, secret):
         drawn = bytes(self.random.randrange(256) for _ in range(16))
-        return model.body_of(model.Entry(secret.account.moment, "", drawn, False, "Begun", {"ARN": secret.arn}))
+        return self.body(Entry(secret.account.moment, "", drawn, False, "Begun", {"ARN": secret.arn}))
 
     def edge(self, bodies):
         """Behind all others entries that let a secret be due or gone at a moment, and one then or just before."""
-        account = model.account_of(entries.journal(bodies))
+        account = stores.account_of(bodies, self.edition)
         live = [secret for secret in account.secrets if secret.deletion is None]
         if not live or self.random.random() < 0.1:
             return bodies + self.too_long(account)
@@ -259,12 +371,12 @@ class Forger:
         return bodies + made + [self.start_of(secret) if acts[0] == "RotateSecret" else self.request_for(secret)]
 
     def entry_at(self, moment, act, drawn=b"", **fields):
-        return model.body_of(model.Entry(moment, "ADA", drawn, False, act, fields))
+        return self.body(Entry(moment, "ADA", drawn, False, act, model.as_counted(act, fields)))
 
     def too_long(self, account):
         """An answer, if there is a step, whose record is as long as one may be, or a byte longer."""
         working = [secret for secret in account.secrets if secret.job is not None][:1]
-        lengths = [model.RECORD_LIMIT - len(self.step_of(secret, "")) for secret in working]
+        lengths = [formats.BODY_LIMIT - len(self.step_of(secret, "")) for secret in working]
         more = self.random.choice([0, 1])
         return [self.step_of(secret, "x" * (length + more)) for secret, length in zip(working, lengths)]
 
@@ -298,8 +410,8 @@ class Forger:
     def another_gate_or_length(self, data):
         """One of the five bytes at the beginning of a record is another one, or the gate that ends all."""
         try:
-            places = [place for place, _ in model.records_of(data)[0]] + [len(data) - 1]
-        except model.Damaged:
+            places = [place for place, _ in formats.records_of(data)[1]] + [len(data) - 1]
+        except Damaged:
             return data
         at = min(self.random.choice(places) + self.random.choice([0, 0, 0, 1, 2, 3, 4]), len(data) - 1)
         return data[:at] + bytes([self.random.choice([0, 1, 2, 255, data[at] ^ 1])]) + data[at + 1 :]
@@ -312,6 +424,7 @@ class Forger:
 
 
 OF_ENTRIES = ["field", "field", "field", "head", "head", "act", "moment", "later"]
+OF_ROWS = ["row"]
 OF_RECORDS = ["dropped", "doubled", "swapped", "put_in", "put_in"]
 OF_MOMENTS = ["edge"]
 OF_BYTES = ["flipped", "flipped", "high_bit", "high_bit", "header", "another_gate_or_length", "cut", "added"]
@@ -321,9 +434,10 @@ OF_BYTES = ["flipped", "flipped", "high_bit", "high_bit", "header", "another_gat
 
 
 def question(operation, **members):
+    """A message of whoever has the key ADA."""
     body = json.dumps(members).encode()
-    head = f"POST / HTTP/1.1\r\nX-Amz-Target: secretsmanager.{operation}\r\nContent-Length: {len(body)}\r\n\r\n"
-    return head.encode() + body
+    head = f"POST / HTTP/1.1\r\nX-Amz-Target: secretsmanager.{operation}\r\nContent-Length: {len(body)}\r\n"
+    return f"{head}Authorization: Credential=ADA/\r\n\r\n".encode() + body
 
 
 def questions(account):
@@ -338,61 +452,46 @@ def questions(account):
 
 
 class Seen:
-    """What a run of a program over a folder shows: its code, what it writes, what it says but for steps of rotations that
-    failed, and the journal that it leaves."""
+    """What a run of a program over a folder shows: its code, what it writes, what it says but for steps of rotations
+    that failed, and the files that it leaves."""
 
-    def __init__(self, program, folder, mode, stream):
+    def __init__(self, program, folder, mode, stream, people=None):
         words = [program, "--mode", mode, "--number", "0", "--data", folder]
+        words += ["--people", people] if people else []
         run = subprocess.run(words, input=stream, capture_output=True)
         self.code, self.output = run.returncode, run.stdout
         lines = run.stderr.decode().splitlines(keepends=True)
         self.said = "".join(line for line in lines if not line.startswith(STEP))
-        with open(os.path.join(folder, "journal-0"), "rb") as file:
-            self.journal = file.read()
+        self.files = stores.read(folder)
 
-    def differs(self, code, output, said, journal):
-        """The names of what differs. A journal of None is not compared."""
-        wanted = {"code": code, "output": output, "said": said}
+    def differs(self, code, output, folder):
+        """The names of what differs from a code, an output, and what the model's folder says and holds."""
+        wanted = {"code": code, "output": output, "said": folder.said}
         names = [name for name, value in wanted.items() if getattr(self, name) != value]
-        return names + (["journal"] if journal not in (None, self.journal) else [])
+        return names + [name for name, one, other in zip(stores.NAMES, self.files, folder.files) if one != other]
+
+    def of_opening(self):
+        """The same, but that it says nothing else than what is said of an opening."""
+        self.said = "".join(line for line in self.said.splitlines(keepends=True) if stores.SAID.match(line))
+        return self
 
 
-def refusal(damaged):
-    place = f"byte {damaged.place}, in the entry of number {damaged.number}, counted from 0"
-    return f"secretsd: the journal is damaged at {place}\nsecretsd: status 3\n"
-
-
-def cut_off(data):
-    """What is said of the bytes that an opening cuts off behind the last whole record, where all before are records."""
-    try:
-        end = len(model.mended(data))
-    except model.Damaged:
-        return ""
-    if len(data) <= max(end, SHORT):
-        return ""
-    return f"secretsd: {len(data) - end} bytes behind the last whole record of journal-0 are cut off, from byte {end} on\n"
-
-
-def difference(program, data, mode="check"):
-    """What differs from the model when a program opens a folder with this journal, or None. A damaged one is opened in
+def difference(program, files, mode="check"):
+    """What differs from the model when a program opens a folder with these files, or None. A damaged one is opened in
     the mode alone, any other in mode check, and then it is read in mode exec."""
+    wanted = stores.Folder(files)
+    code, output = wanted.run("check")
     with tempfile.TemporaryDirectory() as folder:
-        with open(os.path.join(folder, "journal-0"), "wb") as file:
-            file.write(data)
-        try:
-            account = model.opened(data)
-        except model.Damaged as damaged:
-            seen, wanted = Seen(program, folder, mode, b""), cut_off(data) + refusal(damaged)
-            return told(mode, seen.differs(3, b"", wanted, None), seen, wanted)
-        checked, shown = Seen(program, folder, "check", b""), model.summary(account)
-        names = checked.differs(0, shown, cut_off(data), model.mended(data))
-        if names:
-            return told("check", names, checked, shown)
-        stream = questions(account)
-        account.restart()
-        code, output = model.run(stream, account)
+        stores.write(folder, files)
+        first = "check" if code == 0 else mode
+        seen = Seen(program, folder, first, b"")
+        names = seen.differs(code, output, wanted)
+        if names or code != 0:
+            return told(first, names, seen, output + wanted.said.encode())
+        stream = questions(wanted.account)
+        code, output = wanted.run("exec", stream)
         asked = Seen(program, folder, "exec", stream)
-        return told("exec", asked.differs(code, output, "", entries.journal(account.entries)), asked, output)
+        return told("exec", asked.differs(code, output, wanted), asked, output)
 
 
 def told(mode, names, seen, wanted):
@@ -403,18 +502,17 @@ def told(mode, names, seen, wanted):
     return f"mode {mode}, {names}: {ended}; the model wants {wanted[-2000:]!r}"
 
 
-def reached_by(data):
-    """What a journal reaches: how often each act is legal in it, and what is damaged in it, if something is."""
-    try:
-        return model.opened(data).reached
-    except model.Damaged as damaged:
-        damaged.account.reached["damaged", damaged.why] += 1
-        return damaged.account.reached
+def reached_by(files):
+    """What a folder reaches: how often each act is legal in it, and what is damaged in it, if something is."""
+    folder = stores.Folder(files)
+    folder.run("check")
+    return folder.account.reached
 
 
-def lacking(reached):
+def lacking(reached, bases=None):
     """What no journal reached: an act that was legal, one that was not, or another damage."""
-    wanted = [("opened", act) for act in model.ACTS]
-    wanted += [("damaged", why) for why in model.ACTS + ["the header", "a record", "an entry"]]
+    bases = stores.BASES if bases is None else bases
+    acts, places = formats.acts_of(1), ["the header", "a record", "an entry"] + (["a snapshot"] if bases else [])
+    wanted = [("opened", act) for act in acts] + [("damaged", why) for why in acts + places]
     wanted.append(DELETION_OF_NOBODY)
     return [" ".join(it) for it in wanted if not reached[it]]

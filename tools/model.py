@@ -2,13 +2,14 @@
 
 It is written from the rules of the product (docs/RULES.md, docs/USING.md) alone, in another language and shape than the program and its
 specifications: a dictionary of versions and a list of labels for each secret, exceptions for refusals, Python's own JSON. It knows one account, a
-clock that reads 1700000000 unless it is set, random bytes that count up from 0, and the rotator that changes the password in a JSON text. It also
-opens the bytes of a journal, and says where they are damaged: each entry does once more what it did, by the functions that answer messages.
+clock that reads 1700000000 unless it is set, random bytes that count up from 0, and the rotator that changes the password in a JSON text. Each entry
+of a journal does once more what it did, by the functions that answer messages; tools/stores.py opens the files that have them.
 """
 
 import base64
 import binascii
 import collections
+import copy
 import datetime
 import hashlib
 import hmac
@@ -18,12 +19,19 @@ import string
 import uuid
 
 import entries
+import formats
+
+from formats import ARN, NAME, STAGES, TOKEN, Entry, Job, Rules
 
 NOW = entries.MOMENT
 MESSAGE_LIMIT = 1000
 # How many steps of rotations are made at most after a message.
 TURN_LIMIT = 100
 HEAD_LIMIT = 16384
+SECRETS_LIMIT = 10000
+VERSIONS_LIMIT = 1000
+# A serial, or a count of entries, that is never given.
+NO_NUMBER = 2**64 - 1
 FIELD_LIMIT = 64
 BODY_LIMIT = 524288
 
@@ -62,9 +70,6 @@ TRUE_IF_ABSENT = {"RequireEachIncludedType", "RotateImmediately"}
 # What works on a secret that is scheduled for deletion, beside a forced deletion.
 ON_SCHEDULED = {"DescribeSecret", "GetResourcePolicy", "ListSecretVersionIds", "RestoreSecret", "ValidateResourcePolicy"}
 
-NAME = re.compile(r"[A-Za-z0-9/_+=.@-]{1,512}")
-ARN = re.compile(r"arn:aws:secretsmanager:[a-z0-9-]{1,32}:[0-9]{12}:secret:[A-Za-z0-9/_+=.@-]{1,519}")
-TOKEN = re.compile(r"[!-~]{32,64}")
 PAGE_TOKEN = re.compile(r"[sv](0|[1-9][0-9]*)")
 
 
@@ -120,6 +125,8 @@ KINDS = set(ERRORS) | {
     "limit of 20 labels",
     "limit of 50 tags",
     "limit of 1000 versions",
+    "limit of 10000 secrets",
+    "limit of 1000000 entries",
     "version _ has no value",
     "version _ exists",
     "AWSPENDING is held by _",
@@ -318,9 +325,6 @@ def read_tag(value):
 
 def read_filter(value):
     return inner(value, "Key", of_type(str)), inner(value, "Values", read_list(of_type(str)))
-
-
-Rules = collections.namedtuple("Rules", "days")
 
 
 def read_rules(value):
@@ -645,6 +649,7 @@ def admit(person, operation, secret, members):
 
 Person = collections.namedtuple("Person", "key is_full arn")
 ROOT = Person("", True, "arn:aws:iam::000000000000:root")
+NOBODY = Person("", True, "")
 LINE = re.compile(rb"([A-Za-z0-9_]{1,128}) (full|guest) (arn:aws:iam::[0-9]{12}:[!-~]{1,128})(?: ([!-~]{1,128}))?")
 CREDENTIAL = re.compile(rb"([A-Za-z0-9_]{1,128})/")
 
@@ -730,10 +735,6 @@ def check_signature(secret, message):
 
 # ---- rotation
 
-STAGES = ("createSecret", "setSecret", "testSecret", "finishSecret")
-Job = collections.namedtuple("Job", "token stage attempt retry_at")
-
-
 def object_with_password(value):
     """The object that a value is a text of, with a text as its password and with whole numbers alone; or None."""
     try:
@@ -810,11 +811,15 @@ class Secret:
         self.arn = arn
         self.tags = tags
         self.said = {}
-        # The value of each version, or None where a rotation has made it and not filled it; and when each was made.
+        # The value of each version, or None where a rotation has made it and not filled it; when each was made, and its number.
         self.versions = {}
         self.dates = {}
+        self.numbers = {}
+        self.given = 0
         self.created = self.changed = account.moment
+        # The versions that a rotation has made, and the attempt at which each was tested that one has finished.
         self.of_rotation = set()
+        self.tested = {}
         self.labels = []
         self.deletion = None
         self.policy = None
@@ -825,8 +830,14 @@ class Secret:
 
     def fill(self, version, value):
         """Gives a version its value, and makes it where it is not there."""
+        if version not in self.versions:
+            self.dates[version], self.numbers[version] = self.account.moment, self.given
+            self.given += 1
         self.versions[version] = value
-        self.dates.setdefault(version, self.account.moment)
+
+    def is_full(self):
+        """No version may be added."""
+        return len(self.versions) >= VERSIONS_LIMIT or self.given == NO_NUMBER
 
     def holder(self, label):
         return next((version for held, version in self.labels if held == label), None)
@@ -870,7 +881,7 @@ class Secret:
         """A rotation may start by itself, with a token that no version has."""
         current, pending = self.holder("AWSCURRENT"), self.holder("AWSPENDING")
         is_reached = self.is_rotated and self.next_rotation is not None and self.next_rotation <= self.account.moment
-        is_free = current is not None and pending in (None, current) and len(self.versions) < 1000
+        is_free = current is not None and pending in (None, current) and not self.is_full()
         return is_reached and is_free and self.deletion is None
 
     def start(self, token):
@@ -892,11 +903,13 @@ class Secret:
         if job.stage == "finishSecret":
             self.place("AWSCURRENT", job.token)
             self.labels = self.without("AWSPENDING")
+            self.tested[job.token] = job.tested
             self.said["LastRotatedDate"] = moment
             self.next_rotation = self.following_rotation()
             self.job = None
         else:
-            self.job = Job(job.token, STAGES[STAGES.index(job.stage) + 1], 1, moment)
+            tested = job.attempt if job.stage == "testSecret" else None
+            self.job = Job(job.token, STAGES[STAGES.index(job.stage) + 1], 1, moment, tested)
 
     def following_rotation(self):
         return None if self.days is None else self.account.moment + 86400 * self.days
@@ -914,17 +927,22 @@ class Illegal(Exception):
 
 
 class Account:
-    """One account, which answers one message after the other. It counts what it reached: (operation, how it was answered)."""
+    """One account, which answers one message after the other. It counts what it reached: (operation, how it was answered).
+    Its entries are spelled in a format."""
 
-    def __init__(self, people=b""):
+    def __init__(self, people=b"", edition=1):
         self.people = People(people)
+        self.edition = edition
         self.claimed = set()
         self.secrets = []
         self.made = 0
         self.drawn = 0
         self.reached = collections.Counter()
-        # The entries that were made, as they stand in a journal.
+        # How many entries are not kept, and those behind them, as they stand in a journal.
+        self.before = 0
         self.entries = []
+        # Whether old versions are dropped with what is done, and from which secret.
+        self.prunes, self.changed = False, None
         # What the clock reads, the moment of the last entry, and that of what is done now.
         self.clock, self.last, self.moment = NOW, 0, NOW
 
@@ -942,12 +960,26 @@ class Account:
         """Something is done now. Moments never fall."""
         self.begin(max(self.clock, self.last))
 
-    def enter(self, caller, drawn, act, fields, secret=None):
+    def count(self):
+        """How many entries were made."""
+        return self.before + len(self.entries)
+
+    def enter(self, person, drawn, act, fields, secret=None):
         """Keeps an entry, which changed a secret if one is named."""
-        self.entries.append(body_of(Entry(self.moment, caller, bytes(drawn), False, act, fields)))
+        entry = Entry(self.moment, person.key, bytes(drawn), self.prunes, act, as_counted(act, fields), person.arn)
+        self.entries.append(formats.spelled_entry(entry, self.edition))
         self.last = self.moment
         if secret is not None:
             secret.changed = self.moment
+        self.changed = secret
+
+    def finish(self):
+        """What every change ends with: all secrets are settled, and then the one that was changed loses its old versions."""
+        for secret in self.secrets:
+            secret.settle()
+        if self.prunes:
+            pruned(self.changed, self.moment)
+        self.changed = None
 
     def draw(self, count):
         drawn = [(self.drawn + place) % 256 for place in range(count)]
@@ -970,6 +1002,8 @@ class Account:
                 continue
             self.claimed.add((secret.arn, job))
             answer = rotate_locally(job, secret.current_value(), secret.versions[job.token])
+            if self.count() == NO_NUMBER:
+                return False
             if isinstance(answer, str) and not is_value(answer):
                 answer = None
             self.report(secret, answer)
@@ -979,7 +1013,7 @@ class Account:
         if not due:
             return False
         drawn = self.draw(16)
-        startable = [secret for secret in due if drawn_token(drawn) not in secret.versions]
+        startable = [secret for secret in due if drawn_token(drawn) not in secret.versions and self.count() < NO_NUMBER]
         for secret in startable[:1]:
             self.start(secret, drawn)
             self.reached["turn", "a start"] += 1
@@ -988,30 +1022,31 @@ class Account:
     def start(self, secret, drawn):
         """Starts a due rotation, by nobody's request. Its next date stays."""
         secret.start(drawn_token(drawn))
-        secret.settle()
-        self.enter("", drawn, "Begun", {"ARN": secret.arn}, secret)
+        self.enter(NOBODY, drawn, "Begun", {"ARN": secret.arn}, secret)
+        self.finish()
 
     def report(self, secret, answer):
         """Enters an answer to the step at which a secret's rotation is."""
         job = secret.job
         secret.report(answer)
-        secret.settle()
         step = {"ARN": secret.arn, "Token": job.token, "Stage": job.stage, "Attempt": job.attempt, "Answer": answer}
-        self.enter("", b"", "Reported", step, secret)
+        self.enter(NOBODY, b"", "Reported", step, secret)
+        self.finish()
 
     def again(self, entry):
         """Does once more what an entry of a journal did, if it is legal there: it would be accepted, and is no repeat."""
-        if entry.moment < self.last or entry.prunes:
+        if entry.moment < self.last or self.count() == NO_NUMBER or has_later_parts(entry):
             raise Illegal
         self.begin(entry.moment)
+        self.prunes = entry.prunes
         if entry.act == "Begun":
             self.start_again(entry)
         elif entry.act == "Reported":
             self.report_again(entry.fields)
         else:
             self.ask_again(entry)
-        for secret in self.secrets:
-            secret.settle()
+        self.finish()
+        self.prunes = False
 
     def start_again(self, entry):
         """A start is legal where the secret with exactly this ARN is due for the token."""
@@ -1032,10 +1067,11 @@ class Account:
         """A request is legal in its forms and with its random bytes, whoever asked, and whatever their policies say."""
         if len(entry.drawn) != needed(entry.act, entry.fields):
             raise Illegal
-        count = len(self.entries)
+        count, person = len(self.entries), Person(entry.caller, True, entry.by)
+        members = {name: value for name, value in entry.fields.items() if name != "AddReplicaRegions"}
         try:
-            test_forms(entry.act, entry.fields)
-            self.act(Person(entry.caller, True, ""), entry.act, entry.fields, entry.drawn)
+            test_forms(entry.act, members)
+            self.act(person, entry.act, members, entry.drawn)
         except Refusal:
             raise Illegal
         if len(self.entries) == count:
@@ -1043,7 +1079,7 @@ class Account:
             if not entry.fields.get("ForceDeleteWithoutRecovery"):
                 raise Illegal
             self.reached["opened", "the deletion of nobody"] += 1
-            self.enter(entry.caller, entry.drawn, entry.act, entry.fields)
+            self.enter(person, entry.drawn, entry.act, entry.fields)
 
     def answer(self, person, operation, body):
         self.begin_now()
@@ -1051,9 +1087,8 @@ class Account:
         drawn = self.draw(needed(operation, members))
         test_forms(operation, members)
         self.admit(person, operation, members)
-        reply = self.act(person, operation, members, drawn)
-        for secret in self.secrets:
-            secret.settle()
+        reply = self.act_below_limit(person, operation, members, drawn)
+        self.finish()
         return reply
 
     def admit(self, person, operation, members):
@@ -1062,6 +1097,16 @@ class Account:
                 admit(person, "ListSecrets", None, members)
         else:
             admit(person, operation, self.find(members["SecretId"]) if "SecretId" in members else None, members)
+
+    def act_below_limit(self, person, operation, members, drawn):
+        """Where as many entries were made as can be counted, what would make another one is refused."""
+        if self.count() < NO_NUMBER:
+            return self.act(person, operation, members, drawn)
+        other = copy.deepcopy(self)
+        reply = other.act(person, operation, members, drawn)
+        if other.count() > self.count():
+            raise limit_of(1000000, "entries")
+        return reply
 
     def act(self, person, operation, members, drawn):
         if operation == "CreateSecret":
@@ -1084,7 +1129,7 @@ class Account:
         if forced:
             self.secrets.remove(secret)
         if is_new:
-            self.enter(person.key, drawn, operation, members, secret)
+            self.enter(person, drawn, operation, members, secret)
         return reply
 
     def named(self, operation, secret_id, forced=False):
@@ -1149,12 +1194,14 @@ class Account:
             tags = members.get("Tags", [])
             if len(tags) > 50:
                 raise limit_of(50, "tags")
+            if len(self.secrets) >= SECRETS_LIMIT or self.made == NO_NUMBER:
+                raise limit_of(SECRETS_LIMIT, "secrets")
             suffix = "".join(SUFFIX_CHARACTERS[byte % 62] for byte in drawn[:6])
             secret = Secret(self, self.made, members["Name"], f"{ARN_BEGINNING}{members['Name']}-{suffix}", tags)
             self.made += 1
             secret.say(members)
             self.secrets.append(secret)
-            self.enter(person.key, drawn, "CreateSecret", members, secret)
+            self.enter(person, drawn, "CreateSecret", members, secret)
             if value is not None:
                 secret.fill(token, value)
                 secret.place("AWSCURRENT", token)
@@ -1165,215 +1212,25 @@ class Account:
         return secret.named() | ({} if value is None else {"VersionId": token})
 
 
-# ---- entries and the journal's file
-
-# What an entry says: when it was made, the key of who asked, the random bytes, whether it drops versions, its act and the act's fields.
-Entry = collections.namedtuple("Entry", "moment caller drawn prunes act fields")
-# The acts, by their number in a journal from 1 on, and those that nobody asks for, with their fields.
-ACTS = ["CreateSecret", "PutSecretValue", "UpdateSecret", "DeleteSecret", "RestoreSecret", "UpdateSecretVersionStage", "TagResource"]
-ACTS += ["UntagResource", "PutResourcePolicy", "DeleteResourcePolicy", "RotateSecret", "CancelRotateSecret", "Begun", "Reported"]
-UNASKED = {"Begun": "ARN* arn", "Reported": "ARN* arn, Token* token, Stage* stage, Attempt* attempt, Answer* answer"}
-# The bit of an act's number in an entry that drops versions.
-PRUNES = 128
-LAST_MOMENT = 200000000000
-RECORD_LIMIT = 1048576
-HEADER = b"SMJRNL01"
-# How an answer that is no value is spelled.
-ANSWERS = {True: 2, False: 3, None: 4}
+# ---- entries
 
 
-def fields_of(act):
-    """The name of each field of an act, whether it is always there, and its type: the members in the order of their names."""
-    for member in (UNASKED.get(act) or MEMBERS[act]).split(", "):
-        name, kind = member.split(" ")
-        # A truth value stands as it counts. No journal has regions.
-        if kind != "regions":
-            yield name.rstrip("*"), name.endswith("*") or kind == "truth", kind
+def as_counted(act, fields):
+    """The fields of an act: its truth values stand as they count."""
+    truths = [field.name for field in formats.FIELDS[act] if field.kind_name == "truth"]
+    return {name: name in TRUE_IF_ABSENT for name in truths} | fields
 
 
-def spelled_answer(answer):
-    if isinstance(answer, (str, bytes)):
-        return b"\1\1" + entries.text(answer) if isinstance(answer, str) else b"\1\2" + entries.octets(answer)
-    return bytes([ANSWERS[answer]])
+def has_later_parts(entry):
+    """Whether an entry speaks of regions or of a schedule, which nothing makes yet."""
+    rules = entry.fields.get("RotationRules")
+    has_schedule = rules is not None and rules.schedule is not None
+    return entry.act in formats.OF_THE_SECOND or bool(entry.fields.get("AddReplicaRegions")) or has_schedule
 
 
-# How a field is spelled, by its type.
-SPELLED = {
-    "answer": spelled_answer,
-    "arn": entries.text,
-    "attempt": lambda attempt: bytes([attempt]),
-    "bytes": entries.octets,
-    "integer": entries.number,
-    "rules": lambda rules: entries.option(None if rules.days is None else entries.number(rules.days)),
-    "stage": lambda stage: bytes([STAGES.index(stage) + 1]),
-    "tags": lambda tags: entries.items(*(entries.tag(key, value) for key, value in tags)),
-    "text": entries.text,
-    "texts": lambda texts: entries.items(*map(entries.text, texts)),
-    "token": entries.text,
-    "truth": entries.truth,
-}
-
-
-def body_of(entry):
-    """The bytes of an entry."""
-    spelled = []
-    for name, is_there, kind in fields_of(entry.act):
-        if is_there:
-            spelled.append(SPELLED[kind](entry.fields.get(name, name in TRUE_IF_ABSENT) if kind == "truth" else entry.fields[name]))
-        else:
-            spelled.append(entries.option(SPELLED[kind](entry.fields[name]) if name in entry.fields else None))
-    number = ACTS.index(entry.act) + 1 + (PRUNES if entry.prunes else 0)
-    return entries.entry(number, *spelled, caller=entry.caller, drawn=entry.drawn, moment=entry.moment)
-
-
-class NotSpelled(Exception):
-    """The bytes are no entry."""
-
-
-class Fields:
-    """The fields of an entry, read from its bytes one after the other."""
-
-    def __init__(self, body):
-        self.rest = body
-
-    def take(self, count):
-        if count > len(self.rest):
-            raise NotSpelled
-        taken, self.rest = self.rest[:count], self.rest[count:]
-        return taken
-
-    def byte(self, *known):
-        found = self.take(1)[0]
-        if found not in known:
-            raise NotSpelled
-        return found
-
-    def integer(self):
-        return int.from_bytes(self.take(8), "big", signed=True)
-
-    def count(self):
-        return int.from_bytes(self.take(4), "big")
-
-    def octets(self):
-        return self.take(self.count())
-
-    def text(self, spelling=None):
-        try:
-            found = self.octets().decode("utf-8")
-        except ValueError:
-            raise NotSpelled
-        if spelling and not spelling.fullmatch(found):
-            raise NotSpelled
-        return found
-
-    def option(self, read):
-        """What is read as a list of one, or of none where it is not there."""
-        return [read()] if self.byte(0, 1) else []
-
-    def items(self, read):
-        return [read() for _ in range(self.count())]
-
-    def answer(self):
-        kind = self.byte(1, *ANSWERS.values())
-        if kind == 1:
-            return self.text() if self.byte(1, 2) == 1 else self.octets()
-        return next(answer for answer, number in ANSWERS.items() if number == kind)
-
-    def of_kind(self, kind):
-        readers = {
-            "answer": self.answer,
-            "arn": lambda: self.text(ARN),
-            "attempt": lambda: self.byte(1, 2, 3, 4, 5),
-            "bytes": self.octets,
-            "integer": self.integer,
-            "rules": lambda: Rules(*self.option(self.integer) or [None]),
-            "stage": lambda: STAGES[self.byte(1, 2, 3, 4) - 1],
-            "tags": lambda: self.items(lambda: (self.text(), self.text())),
-            "text": self.text,
-            "texts": lambda: self.items(self.text),
-            "token": lambda: self.text(TOKEN),
-            "truth": lambda: self.byte(0, 1) == 1,
-        }
-        return readers[kind]()
-
-    def entry(self):
-        moment, caller, drawn = self.integer(), self.text(), self.octets()
-        tag = self.take(1)[0]
-        number = tag % PRUNES
-        if not 0 <= moment <= LAST_MOMENT or not 1 <= number <= len(ACTS):
-            raise NotSpelled
-        act = ACTS[number - 1]
-        # A start has the bytes of its token, an answer none, and nobody asked for either.
-        if act in UNASKED and (caller or len(drawn) != (16 if act == "Begun" else 0)):
-            raise NotSpelled
-        fields = {}
-        for name, is_there, kind in fields_of(act):
-            found = [self.of_kind(kind)] if is_there else self.option(lambda: self.of_kind(kind))
-            fields |= {name: it for it in found}
-        if self.rest:
-            raise NotSpelled
-        return Entry(moment, caller, drawn, tag >= PRUNES, act, fields)
-
-
-class Damaged(Exception):
-    """A journal is damaged: the place of a record's gate, the number of records before it, what is wrong there, and the account so far."""
-
-    def __init__(self, place, number, why, account=None):
-        super().__init__(place, number, why)
-        self.place, self.number, self.why = place, number, why
-        self.account = account or Account()
-
-
-def records_of(data):
-    """The place and the body of each record of a journal's file, and the place of the gate that ends them."""
-    if len(data) <= 9:
-        return [], 8
-    if not data.startswith(HEADER):
-        raise Damaged(0, 0, "the header")
-    records, gate = [], 8
-    while data[gate] == 1:
-        length, behind = int.from_bytes(data[gate + 1 : gate + 5], "big"), gate + 5
-        if len(data) < behind or length > RECORD_LIMIT or len(data) <= behind + length:
-            raise Damaged(gate, len(records), "a record")
-        records.append((gate, data[behind : behind + length]))
-        gate = behind + length
-    return records, gate
-
-
-def entries_of(data):
-    """The place and the entry of each record of a journal's file."""
-    found = []
-    for gate, body in records_of(data)[0]:
-        try:
-            found.append((gate, Fields(body).entry()))
-        except NotSpelled:
-            raise Damaged(gate, len(found), "an entry")
-    return found
-
-
-def opened(data):
-    """The account that a journal's file holds. The whole file is read before its entries are judged."""
-    account = Account()
-    for number, (gate, entry) in enumerate(entries_of(data)):
-        try:
-            account.again(entry)
-        except Illegal:
-            raise Damaged(gate, number, entry.act, account)
-        account.reached["opened", entry.act] += 1
-    return account
-
-
-def account_of(data):
-    """The account of a journal's file, up to the first entry that is damaged."""
-    try:
-        return opened(data)
-    except Damaged as damaged:
-        return damaged.account
-
-
-def mended(data):
-    """What stands in a journal's file once it was opened: nothing behind the gate that ends its records, whatever that holds."""
-    return data[: records_of(data)[1] + 1] if len(data) > 9 else entries.journal([])
+def pruned(secret, moment):
+    """Drops the versions of a secret, if one is named, that need not be kept at a moment. No entry does that yet."""
+    raise Illegal
 
 
 def get(secret, members):
@@ -1407,12 +1264,12 @@ def describe(secret, members):
 
 
 def list_versions(secret, members):
-    numbered = list(enumerate(secret.versions))
-    listed = [number for number, it in numbered if members.get("IncludeDeprecated") or secret.labels_of(it)]
+    numbered = {secret.numbers[version]: version for version in secret.versions}
+    listed = [number for number, it in numbered.items() if members.get("IncludeDeprecated") or secret.labels_of(it)]
     shown, following = page("ListSecretVersionIds", members, listed)
     versions = []
     for number in shown:
-        version = numbered[number][1]
+        version = numbered[number]
         labels = secret.labels_of(version)
         shown_version = {"CreatedDate": secret.dates[version], "VersionId": version}
         versions.append(shown_version | ({"VersionStages": labels} if labels else {}))
@@ -1425,8 +1282,8 @@ def add_value(secret, token, value, labels):
         if secret.versions[token] != value:
             raise Refusal("ResourceExistsException", f"version {token} has another value", "version _ has another value")
         return False
-    if token not in secret.versions and len(secret.versions) >= 1000:
-        raise limit_of(1000, "versions")
+    if token not in secret.versions and secret.is_full():
+        raise limit_of(VERSIONS_LIMIT, "versions")
     secret.place_all(labels, token)
     secret.fill(token, value)
     return True
@@ -1544,8 +1401,8 @@ def test_start(secret, token):
         raise Refusal("InvalidRequestException", f"AWSPENDING is held by {pending}", "AWSPENDING is held by _")
     if token in secret.versions:
         raise Refusal("ResourceExistsException", f"version {token} exists", "version _ exists")
-    if len(secret.versions) >= 1000:
-        raise limit_of(1000, "versions")
+    if secret.is_full():
+        raise limit_of(VERSIONS_LIMIT, "versions")
 
 
 def cancel(secret, members, drawn):
@@ -1706,7 +1563,7 @@ def summary(account):
     """What mode check says of an account."""
     account.begin_now()
     secrets = account.secrets
-    lines = [f"secrets {len(secrets)} versions {sum(len(it.versions) for it in secrets)} entries {len(account.entries)}"]
+    lines = [f"secrets {len(secrets)} versions {sum(len(it.versions) for it in secrets)} entries {account.count()}"]
     for it in secrets:
         state = "live" if it.deletion is None else f"until {date_of(it.deletion)}"
         job = "idle" if it.job is None else f"{it.job.stage} {it.job.attempt}"
