@@ -13,5 +13,6 @@ pub mod DateLemmas
 pub mod DeletionLemmas
 pub mod SignLemmas
 pub mod RoomLemmas
+pub mod GatherLemmas
 pub mod TableLaws
 pub mod LookUpLaws

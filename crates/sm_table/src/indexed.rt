@@ -3,7 +3,7 @@ ghost use Rattle.std.specs.Prelude.{◌≡◌, ◌+◌, ◌<◌, ◌≤◌, ◌^
 ghost use Rattle.sm_versions.specs.Texts.{once};
 ghost use Rattle.sm_table.specs.Sweep.{swept};
 ghost use Rattle.sm_table.specs.Found.{row_named};
-ghost use Rattle.sm_table.specs.Changes.{replaced, dropped};
+ghost use Rattle.sm_table.specs.Changes.{row_with, replaced, dropped};
 ghost use Rattle.sm_table.specs.Kept.{row_names, IsRising};
 ghost use Rattle.sm_table.specs.Indexed.{behind, room_left, HasRoom, IsIndexed, IsRoom};
 ghost use Rattle.sm_table.specs.Maps.{without_row};
@@ -71,6 +71,22 @@ impl Indexed {
             signs: Signs::new(alloc),
             left: 0,
         }
+    }
+
+    /// No rows, with room for so many, of which some have not been made yet.
+    pub fn with_room(alloc: Global, count: usize, left: u64) -> Result<Indexed, NoMemory>
+        ensures kept { IfOk result IsIndexed }
+        ensures rows { IfOk result (λ indexed. indexed.rows.list ≡ []) }
+        ensures left { IfOk result (λ indexed. indexed.left ≡ left) }
+        ensures room { IfOk result (λ indexed. HasRoom indexed count) }
+    {
+        let Room { rows, names, signs } = Room::for_rows(alloc, count)?;
+        Ok(Indexed {
+            rows,
+            names,
+            signs,
+            left,
+        })
     }
 
     /// The row with the name, whether it is gone or not.
@@ -151,6 +167,23 @@ impl Indexed {
         let serial = kept.row().serial;
         self.make_room(room, serial);
         self.left = left_behind(self.left, serial);
+        self.push(kept, name);
+    }
+
+    /// Adds a row and its name at the end, where there is room.
+    pub fn push(&mut self, kept: Kept, name: Vec<u8>)
+        requires kept { IsIndexed self.old }
+        requires new_serial { row_with self.old.rows.list kept.serial ≡ None }
+        requires new_name { row_named self.old.rows.list kept.name ≡ None }
+        requires rising { IsRising (self.old.rows.list ++ kept ∷ []) }
+        requires name { name.items ≡ kept.name }
+        requires room { HasRoom self.old 1 }
+        ensures kept { IsIndexed self.new }
+        ensures rows { self.new.rows.list ≡ self.old.rows.list ++ kept ∷ [] }
+        ensures left { self.new.left ≡ self.old.left }
+        ensures room { (count : ℕ) → HasRoom self.old (suc count) → HasRoom self.new count }
+    {
+        let serial = kept.row().serial;
         self.signs.add(&self.rows, kept.row());
         self.names.add(name, serial);
         self.rows.add(kept);
@@ -314,7 +347,7 @@ fn behind(serial: u64) -> u64
 }
 
 /// For how many more rows there is room behind the one with this serial, where there was room for so many.
-fn left_behind(left: u64, serial: u64) -> u64
+pub fn left_behind(left: u64, serial: u64) -> u64
     ensures { result ≡ (if nat_eq left 0 then behind serial else left - 1) }
 {
     if left == 0 { behind(serial) } else { left - 1 }

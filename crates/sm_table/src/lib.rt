@@ -4,10 +4,12 @@
 
 pub mod dates;
 pub mod deletion;
+pub mod gathered;
 pub mod indexed;
 pub mod jobs;
 pub mod kept;
 pub mod name_map;
+pub mod room;
 pub mod row_map;
 pub mod search;
 pub mod signs;

@@ -11,8 +11,10 @@ ghost use Rattle.sm_table.specs.Sound.{Sound, ChangeSound};
 ghost use Rattle.sm_versions.specs.Find.{looked_up, lookup};
 ghost use Rattle.sm_versions.specs.Sound.{RowSound};
 
+use crate::gathered::gathered;
 use crate::indexed::{Indexed, Step};
 use crate::kept::Kept;
+use crate::room::room_left;
 use crate::search;
 use sm_model::{
     Arn, Change, Label, List, Moment, Name, NoMemory, RowList, Rows, SecretId, SecretRow, Token,
@@ -81,6 +83,19 @@ impl Table {
             next: 0,
             secrets: Indexed::new(alloc),
         }
+    }
+
+    /// The table of sound rows, with the room that a table has which made so many.
+    pub fn of(alloc: Global, rows: &Rows) -> Result<Table, NoMemory>
+        requires { Sound rows.now }
+        ensures { IfOk result (λ table. table ≡ rows.now) }
+    {
+        let secrets = gathered(alloc, rows.secrets.as_slice(), room_left(rows.next))?;
+        Ok(Table {
+            alloc,
+            next: rows.next,
+            secrets,
+        })
     }
 
     /// The serial of the next secret. It takes no memory.
