@@ -1,0 +1,4 @@
+pub mod TypedLemmas
+pub mod BodySizes
+pub mod SnapshotSizes
+pub mod MeasureLemmas

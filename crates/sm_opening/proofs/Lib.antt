@@ -1,0 +1,5 @@
+pub mod KeepingLaws
+pub mod LawfulLaws
+pub mod PlaceLemmas
+pub mod JudgedLemmas
+pub mod TakingLemmas

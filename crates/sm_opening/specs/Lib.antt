@@ -1,0 +1,5 @@
+pub mod Lawful
+pub mod Keeping
+pub mod Replacing
+pub mod Unlawful
+pub mod Openings

@@ -1,0 +1,137 @@
+//! Opening a disk that has a base and entries.
+ghost use Rattle.std.specs.Prelude.{◌≡◌, ◌≤◌, None, IfOk, IfErr};
+ghost use Rattle.sm_base.specs.declared.limits.TheConstants.{JOURNAL_LIMIT};
+ghost use Rattle.sm_journal.specs.Records.{place_behind};
+ghost use Rattle.sm_store.specs.BaseOpenings.{held_of};
+ghost use Rattle.sm_store.specs.BaseStores.{disk_of, format_of, bodies_edition, disk_in, IsOpened, IsStopped};
+ghost use Rattle.sm_store.specs.Held.{Held, base_bodies};
+ghost use Rattle.sm_opening.specs.Keeping.{StateStays};
+ghost use Rattle.sm_opening.specs.Lawful.{made_of, IsLawful};
+ghost use Rattle.sm_opening.specs.Openings.{Opens, TakesOver, IsUntaken, IsRefused};
+ghost use Rattle.sm_opening.specs.Unlawful.{IsUnlawful, OnDamaged};
+
+use crate::lawful::{Unlawful, lawful};
+use crate::opened::{Opened, Taken};
+use crate::replacing::{new_base, replace};
+use sm_disk::Disk;
+use sm_journal::Format;
+use sm_model::NoMemory;
+use sm_record::Edition;
+use sm_replay::Standing;
+use sm_store::{BaseStore, Loaded, OpenRefused};
+use std::alloc::Global;
+
+/// Opens a disk, under a limit on the length of its file in bytes. It takes what the file holds that the root names: a
+/// base, or none, and the entries behind it, each judged again at the rows of those before it. It is damaged at its
+/// first gate where the base is not sound, and at its gate where an entry is not legal; the number is that of the
+/// records before it. Where the file is of the first format and longer than nine bytes, or more than 1,000 entries
+/// stand behind its base and the new file is not too long, it puts what they make as a base in the place of all that.
+/// An error hands the disk back.
+pub fn open<D: Disk>(alloc: Global, disk: D, limit: u64) -> Result<Opened<D>, OpenRefused<D>>
+    requires { (9 ≤ limit) × (limit ≤ JOURNAL_LIMIT) }
+    ensures opened { IfOk result (Opens disk limit) }
+    ensures lawful { IfOk result (λ opened. IsLawful opened.taken) }
+    ensures made { IfOk result (λ opened. opened.standing ≡ made_of opened.taken) }
+
+    // A crash at any moment of the call leaves each image with the state that it had.
+    ensures any_moment { IfOk result (λ opened. StateStays (D.sight disk) (D.sight (disk_of opened.store))) }
+
+    ensures later { IfOk result (λ opened. D.faults disk ≤ D.faults (disk_of opened.store)) }
+    ensures refused { IfErr result (IsRefused D.Disk disk) }
+{
+    match BaseStore::open(alloc, disk, limit) {
+        Ok((store, loaded)) => take_over(alloc, store, loaded, limit),
+        Err(refused) => Err(refused),
+    }
+}
+
+/// Takes over what a store was opened with, where it is lawful. An error hands the disk back.
+fn take_over<D: Disk>(
+    alloc: Global,
+    store: BaseStore<D>,
+    loaded: Loaded,
+    limit: u64,
+) -> Result<Opened<D>, OpenRefused<D>>
+    requires limit { limit ≤ JOURNAL_LIMIT }
+    requires opened { IsOpened limit (held_of loaded) store }
+    requires gate { loaded.gate ≡ place_behind (base_bodies (bodies_edition store) loaded.base) }
+    ensures lawful { IfOk result (λ opened. IsLawful (held_of loaded)) }
+    ensures takes { IfOk result (TakesOver (format_of store) (held_of loaded) limit) }
+    ensures any_moment { IfOk result (λ opened.
+        StateStays (D.sight (disk_of store)) (D.sight (disk_of opened.store))) }
+    ensures later { IfOk result (λ opened. D.faults (disk_of store) ≤ D.faults (disk_of opened.store)) }
+    ensures refused { IfErr result (IsUntaken store (held_of loaded)) }
+{
+    match lawful(alloc, edition_in(&store), &loaded) {
+        Ok(standing) => go_over(alloc, store, loaded, standing, limit),
+        Err(why) => Err(untaken(store, why)),
+    }
+}
+
+/// Takes over what a store was opened with, which is lawful and makes this. An error hands the disk back.
+fn go_over<D: Disk>(
+    alloc: Global,
+    store: BaseStore<D>,
+    loaded: Loaded,
+    standing: Standing,
+    limit: u64,
+) -> Result<Opened<D>, OpenRefused<D>>
+    requires limit { limit ≤ JOURNAL_LIMIT }
+    requires opened { IsOpened limit (held_of loaded) store }
+    requires made { standing ≡ made_of (held_of loaded) }
+    ensures takes { IfOk result (TakesOver (format_of store) (held_of loaded) limit) }
+    ensures any_moment { IfOk result (λ opened.
+        StateStays (D.sight (disk_of store)) (D.sight (disk_of opened.store))) }
+    ensures later { IfOk result (λ opened. D.faults (disk_of store) ≤ D.faults (disk_of opened.store)) }
+    ensures stopped { IfErr result (IsStopped D.Disk (disk_of store)) }
+    ensures stays { IfErr result (λ refused.
+        StateStays (D.sight (disk_of store)) (D.sight (disk_in refused))) }
+{
+    match new_base(
+        alloc,
+        store.format(),
+        limit,
+        loaded.entries.len(),
+        &standing,
+    ) {
+        Ok(Some(base)) => replace(alloc, store, standing, base),
+        Ok(None) => Ok(opened_with(store, loaded, standing)),
+        Err(NoMemory) => Err(OpenRefused::Memory(store.close())),
+    }
+}
+
+/// The store with what it was opened with.
+fn opened_with<D: Disk>(store: BaseStore<D>, loaded: Loaded, standing: Standing) -> Opened<D>
+    ensures store { result.store ≡ store }
+    ensures taken { result.taken ≡ held_of loaded }
+    ensures standing { result.standing ≡ standing }
+    ensures replaced { result.replaced ≡ None }
+{
+    let Loaded { base, entries, .. } = loaded;
+    Opened {
+        store,
+        taken: Taken { base, entries },
+        standing,
+        replaced: None,
+    }
+}
+
+/// Why what a store holds is not taken over.
+fn untaken<D: Disk>(store: BaseStore<D>, why: Unlawful) -> OpenRefused<D>
+    ensures { (h : Held) → OnDamaged (IsUnlawful (bodies_edition store) h) why → IsUntaken store h result }
+{
+    match why {
+        Unlawful::Damaged(damage) => OpenRefused::Damaged(store.close(), damage),
+        Unlawful::Memory => OpenRefused::Memory(store.close()),
+    }
+}
+
+/// The format of the bodies in the store's file.
+fn edition_in<D: Disk>(store: &BaseStore<D>) -> Edition
+    ensures { result ≡ bodies_edition store.now }
+{
+    match store.format() {
+        Format::First => Edition::First,
+        Format::Second => Edition::Second,
+    }
+}

@@ -1,0 +1,8 @@
+//! Entries that are made again behind a base, one after the other: whether each is legal where it stands, and what they
+//! make. An account is opened so.
+#![tactic(auto)]
+
+pub mod laws;
+pub mod standing;
+
+pub use standing::{Refusal, Standing, Stopped};
