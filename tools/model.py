@@ -879,10 +879,10 @@ class Secret:
 
     def is_due(self):
         """A rotation may start by itself, with a token that no version has."""
+        if not self.is_rotated or self.next_rotation is None or self.next_rotation > self.account.moment:
+            return False
         current, pending = self.holder("AWSCURRENT"), self.holder("AWSPENDING")
-        is_reached = self.is_rotated and self.next_rotation is not None and self.next_rotation <= self.account.moment
-        is_free = current is not None and pending in (None, current) and not self.is_full()
-        return is_reached and is_free and self.deletion is None
+        return current is not None and pending in (None, current) and not self.is_full() and self.deletion is None
 
     def start(self, token):
         """Makes the version that a rotation fills, and the job that does it."""
@@ -1534,6 +1534,13 @@ def reply(account, message):
         return framed("400 Bad Request", {"Message": refused.message, "__type": refused.error})
 
 
+def take_turns(account):
+    """The steps of rotations behind a message."""
+    turns = 0
+    while turns < TURN_LIMIT and account.turn():
+        turns += 1
+
+
 def run(stream, account):
     """The exit code and the output of a run over this input, on this account."""
     output, at, is_closed = b"", 0, False
@@ -1548,9 +1555,7 @@ def run(stream, account):
             account.reached[None, bad.kind] += 1
             return 11, output + framed(bad.status, {"Message": bad.kind, "__type": "SerializationException"})
         output += reply(account, message)
-        turns = 0
-        while turns < TURN_LIMIT and account.turn():
-            turns += 1
+        take_turns(account)
         at, is_closed = message.behind, message.is_closing
     return 12, output
 

@@ -1,0 +1,5 @@
+mod TextLemmas
+mod BodyLemmas
+mod AskedLemmas
+mod WordVectors
+pub mod ReplyLemmas
