@@ -1,15 +1,22 @@
 //! Claims of steps (AWS Secrets Manager User Guide, "Lambda rotation functions").
-ghost use Rattle.std.specs.Prelude.{◌≡◌};
+ghost use Rattle.std.specs.Prelude.{◌≡◌, ◌<◌};
 ghost use Rattle.std.specs.List.{list_any};
 ghost use Rattle.sm_base.specs.Texts.{same_text};
 ghost use Rattle.sm_claims.specs.Claims.{is_open, is_claim_of, is_claimed};
 ghost use Rattle.sm_claims.specs.Standing.{claim_mark, claim_marks};
+ghost use Rattle.sm_claims.specs.declared.claims.TheConstants.{CLAIM_SECONDS};
+ghost use Rattle.sm_rotator.specs.declared.link.TheConstants.{STEP_SECONDS};
 
 use sm_model::{Arn, At, Job, Moment};
 use sm_rotation::stepping::is_at;
 
 /// After how many seconds a claim ends.
 pub const CLAIM_SECONDS: u64 = 30;
+
+/// A rotator behind an address is asked for a step no longer than the claim of the step stands.
+pub fn a_step_ends_before_its_claim()
+    ensures { STEP_SECONDS < CLAIM_SECONDS }
+{}
 
 /// That somebody took up a step of the rotation of the secret with this ARN, and when.
 #[derive(Drop)]

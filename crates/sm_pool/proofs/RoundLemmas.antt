@@ -12,10 +12,9 @@ use Rattle.sm_account.specs.States.{Base}
 use Rattle.sm_spells.specs.Spells.{History, Spell, marks_in}
 use Rattle.sm_pool.specs.declared.done.Done.{Done}
 use Rattle.sm_pool.specs.declared.done.Done.TheVariants as ends
-use Rattle.sm_pool.specs.declared.rounds.TheConstants.{TURN_LIMIT}
 use Rattle.sm_pool.specs.Alone.{IsStale, NoGap, OnDisk}
 use Rattle.sm_pool.specs.Holds.{Hold, hold_shape}
-use Rattle.sm_pool.specs.Rounds.{ComesToRest, Counts, EndsRound, NoneFell, Point, Rotated, Round, Turned, TurnedOn, asks_in, courses_in, drawn_in, goes_on, holds_in, last_in, marks_of, readings_in}
+use Rattle.sm_pool.specs.Rounds.{ComesToRest, Counts, EndsRound, NoneFell, Point, Rotated, Round, Turned, TurnedOn, asks_in, courses_in, drawn_in, goes_on, holds_in, last_in, marks_of, readings_in, turn_limit}
 use Rattle.sm_pool.specs.Turns.{Course, HasRisen, Passing, RotatorFailed, TurnDone, WordsFailed, asks_of, done_of, drawn_of, holds_of, readings_of}
 use Rattle.sm_pool.proofs.AskingLemmas.{append_told-nil, asked_more}
 use Rattle.sm_spells.proofs.KnownLemmas.{append_known-nil, told_more}
@@ -109,7 +108,7 @@ module _ (replies : Replies) (base : Base) (seat : ℕ) where
         × (after.rotator ≡ append_told before.rotator (asks_in (courses_in round)))
 
     -- as many turns were taken as are taken at most
-    pub round_full : number ≡ TURN_LIMIT → RoundFrom at now
+    pub round_full : number ≡ turn_limit → RoundFrom at now
     round_full full =
         let round : Round = record { on = progress.on; last = None } in
         let whole : progress.on ≡ courses_in round = sym (append-nil progress.on) in (
@@ -151,7 +150,7 @@ module _ (replies : Replies) (base : Base) (seat : ℕ) where
       }
 
       -- the turn came to rest
-      pub round_rests : number < TURN_LIMIT → goes_on (done_of course) ≡ false → (IsStale (done_of course) → ⊥)
+      pub round_rests : number < turn_limit → goes_on (done_of course) ≡ false → (IsStale (done_of course) → ⊥)
           → RoundFrom to after
       round_rests few stops not_stale = (
         record { on = progress.on; last = Some course },

@@ -10,7 +10,6 @@ use Rattle.sm_account.specs.States.{Base}
 use Rattle.sm_spells.specs.Spells.{History, Spell, marks_in}
 use Rattle.sm_pool.specs.declared.done.Done.{Done}
 use Rattle.sm_pool.specs.declared.done.Done.TheVariants as ends
-use Rattle.sm_pool.specs.declared.rounds.TheConstants.{TURN_LIMIT}
 use Rattle.sm_pool.specs.Alone.{NoGap, OnDisk}
 use Rattle.sm_pool.specs.Holds.{Hold, hold_shape}
 use Rattle.sm_pool.specs.Turns.{Course, IsCourse, RotatorFailed, WordsFailed, asks_of, done_of, drawn_of, holds_of, readings_of}
@@ -57,6 +56,10 @@ abbrev pub asks_in : List Course → List Told
 asks_in [] = []
 asks_in (course ∷ courses) = asks_of course ++ asks_in courses
 
+-- how many turns are taken in a round at most
+abbrev pub turn_limit : ℕ
+turn_limit = 100
+
 -- no count fell
 pub record NoneFell (from to : Counts) : Type 0 where
   pub disk : from.disk ≤ to.disk
@@ -81,8 +84,8 @@ module _ (replies : Replies) (base : Base) (seat : ℕ) where
 
   -- the end of so many such turns: as many as are taken at most, or one more that came to rest
   abbrev pub EndsRound : ℕ → Point → Option Course → Point → Type 0
-  EndsRound turned at None to = (turned ≡ TURN_LIMIT) × (to ≡ at)
-  EndsRound turned at (Some last) to = (turned < TURN_LIMIT) × Turned at last to × ComesToRest (done_of last)
+  EndsRound turned at None to = (turned ≡ turn_limit) × (to ≡ at)
+  EndsRound turned at (Some last) to = (turned < turn_limit) × Turned at last to × ComesToRest (done_of last)
 
 -- the turns that each made an entry, and the one that came to rest, if there is one
 pub record Round : Type 0 where

@@ -14,7 +14,7 @@ pub mod verdict;
 pub mod work;
 
 pub use absent::NoRotator;
-pub use link::LinkRotator;
+pub use link::{LinkRotator, STEP_SECONDS};
 pub use local::LocalRotator;
 pub use rotator::{Asked, Rotator};
 pub use script::ScriptRotator;

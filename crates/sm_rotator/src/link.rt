@@ -15,8 +15,8 @@ use std::io::{Read, Write};
 use std::net::{Net, OpenStream, TcpStream, ToSocketAddrs};
 use std::time::{Clock, Duration, Instant};
 
-/// How many seconds a step may take in all, which is less than a claim of the step lasts.
-const SECONDS: u64 = 20;
+/// How many seconds a step may take in all.
+pub const STEP_SECONDS: u64 = 20;
 
 /// The greatest length of a line that is read.
 const LINE_LIMIT: usize = 524_288;
@@ -57,7 +57,7 @@ impl<R> LinkRotator<R> {
 /// What is left of a step's time.
 fn time_left<C: Clock>(clock: &C, start: Instant) -> Result<Duration, Trouble> {
     match start.elapsed(clock) {
-        Ok(spent) => Duration::from_secs(SECONDS)
+        Ok(spent) => Duration::from_secs(STEP_SECONDS)
             .checked_sub(spent)
             .ok_or(Trouble::Failed),
         Err(_) => Err(Trouble::Failed),
