@@ -15,8 +15,8 @@ use sm_versions::{Found, find};
 use std::alloc::Global;
 use std::test::Fail;
 
-/// How many names there are.
-const NAMES: u64 = 100;
+/// How many names there are: more than rows at a time, so that most additions are new ones.
+const NAMES: u64 = 2_500;
 
 /// A table, and a list of the same rows.
 #[derive(Drop)]
@@ -203,12 +203,12 @@ fn sweep_both(twins: &mut Twins, moment: Moment) -> Result<(), Fail> {
     Ok(())
 }
 
-/// What a number changes in a row, around a moment.
+/// What a number changes in a row, around a moment. Secrets are deleted at each 32nd moment, several at once.
 fn edit_of(number: u64, moment: Moment) -> Edit {
     let soon = Moment(moment.0.saturating_add(below(after(number), 300)));
     Edit {
         deletion: if below(number, 4) == 0 {
-            Some(soon)
+            Some(Moment(soon.0 | 31))
         } else {
             None
         },
@@ -224,9 +224,15 @@ fn edit_of(number: u64, moment: Moment) -> Edit {
     }
 }
 
+/// The serial of a row that is there, by a number, or one that no row has where there is none.
+fn serial_by(list: &ListTable, number: u64) -> u64 {
+    let place = below(number, list.rows.len() as u64) as usize;
+    serial_of(list.rows.get(place))
+}
+
 /// Changes both by a number.
 fn change_both(alloc: Global, twins: &mut Twins, number: u64, moment: Moment) -> Result<(), Fail> {
-    let serial = below(after(number), twins.table.next());
+    let serial = serial_by(&twins.list, after(number));
     match below(number, 8) {
         0 | 1 | 2 | 3 => add(alloc, twins, below(after(number), NAMES), moment),
         4 | 5 => {
