@@ -1,8 +1,9 @@
 -- Streams of requests to one caching reader, one after the other.
-use Rattle.std.proofs.Common.{◌≡◌, List, [], ◌∷◌, ◌++◌, subst}
-use Rattle.sm_agent.specs.Agents.{AgentState}
-use Rattle.sm_agent.specs.Turns.{Turn, Turns}
-use Rattle.sm_agent_stream.specs.Connections.{InTurn, StreamsAreOneRun, turns_of}
+use Rattle.std.proofs.Common.{◌≡◌, List, [], ◌∷◌, ◌++◌, Some, refl, subst}
+use Rattle.sm_agent.specs.Agents.{AgentState, empty_agent}
+use Rattle.sm_agent.specs.Turns.{Came, Turn, Turns}
+use Rattle.sm_agent.proofs.TurnLemmas.{replies_are_given}
+use Rattle.sm_agent_stream.specs.Connections.{EachReplyIsGiven, InTurn, StreamsAreOneRun, turns_of}
 
 turns_joined : (old : AgentState) (turns more : List Turn) (mid new : AgentState) → Turns old turns mid
     → Turns mid more new → Turns old (turns ++ more) new
@@ -14,3 +15,24 @@ pub streams_joined : StreamsAreOneRun
 streams_joined [] old new same = same
 streams_joined (turns ∷ streams) old new run =
     turns_joined old turns (turns_of streams) run.0 new run.1 (streams_joined streams run.0 new run.2)
+
+-- a turn of a run, with the requests before it
+record TurnIn (old : AgentState) (front : List Turn) (turn : Turn) : Type 0 where
+  mid : AgentState
+  next : AgentState
+  before : Turns old front mid
+  came : Came turn.method turn.path turn.call turn.answer mid next
+
+turn_in : (old : AgentState) (front : List Turn) (turn : Turn) (behind : List Turn) (new : AgentState)
+    → Turns old (front ++ turn ∷ behind) new → TurnIn old front turn
+turn_in old [] turn behind new run = record { mid = old; next = run.0; before = refl; came = run.1 }
+turn_in old (first ∷ front) turn behind new run =
+    let found = turn_in run.0 front turn behind new run.2 in
+    record { mid = found.mid; next = found.next; before = (run.0, run.1, found.before); came = found.came }
+
+pub each_reply_given : EachReplyIsGiven
+each_reply_given size ttl front turn behind new call answer run called answered =
+    let found = turn_in (empty_agent size ttl) front turn behind new run in
+    replies_are_given size ttl front found.mid found.next turn.method turn.path call answer found.before
+    (subst (λ given. Came turn.method turn.path (Some call) given found.mid found.next) answered
+    (subst (λ made. Came turn.method turn.path made turn.answer found.mid found.next) called found.came))
