@@ -6,10 +6,12 @@ Each case is a function that takes the program, and gives what is wrong, or noth
 import contextlib
 import ctypes
 import http.client
+import importlib.util
 import json
 import multiprocessing
 import os
 import select
+import shutil
 import socket
 import subprocess
 import tempfile
@@ -19,12 +21,28 @@ import time
 # A body is refused that is longer than 524,288 bytes, and read to its end if it has 16 MiB at most.
 LONG_BODY = 600_000
 CALLS = 2_010
+# After so many replies the server ends a connection.
+MESSAGES = 1_000
 SLOW_CLIENTS = 10
 BUSY_CLIENTS = 10
 BUSY_CALLS = 500
 # Of what the client takes itself, on a machine with other work.
 ALLOWANCE = 5
 PIDFD_GETFD = 438
+DOORS = 3
+ACCEPTS = "accept,accept4"
+# What an accept is told of a peer or a network (accept(2)), and what the system may lack.
+OF_PEERS = ["ECONNABORTED", "ENETDOWN", "EPROTO", "ENOPROTOOPT", "EHOSTDOWN", "ENONET", "EHOSTUNREACH", "EOPNOTSUPP"]
+OF_PEERS += ["ENETUNREACH", "EPERM", "ECONNRESET", "ETIMEDOUT"]
+OF_WANT = ["EMFILE", "ENFILE", "ENOBUFS", "ENOMEM"]
+# The error, how many accepts in a row fail by it, and the seconds that this takes: 100 milliseconds each where the
+# system lacks something, and behind the 1,000th else.
+FAILED_ACCEPTS = [(error, 5, 0) for error in OF_PEERS] + [(error, 20, 2) for error in OF_WANT]
+FAILED_ACCEPTS.append(("ECONNABORTED", 1_020, 2))
+
+
+class NotTried(Exception):
+    """What a case wants, and is not there."""
 
 
 class Serving:
@@ -64,17 +82,21 @@ class Client:
     """A client that keeps its connection, and opens another where that was closed, as those of the SDKs do."""
 
     def __init__(self, port):
-        self.port, self.connections, self.connection = port, 0, None
+        self.port, self.connections, self.connection, self.replies = port, 0, None, 0
 
     def ask(self, operation="ListSecrets", **members):
         """The status of a reply. It is asked once: where the connection ends before the reply, that is a fault."""
-        if self.connection is None or is_dropped(self.connection):
+        # The last reply of a connection and its end are two: on a busy machine the end comes a moment later.
+        patience = 1 if self.replies == MESSAGES else 0
+        if self.connection is None or is_dropped(self.connection, patience):
             self.close()
             self.connection = http.client.HTTPConnection("127.0.0.1", self.port, timeout=60)
             self.connections += 1
+            self.replies = 0
         self.connection.request("POST", "/", json.dumps(members), {"X-Amz-Target": f"secretsmanager.{operation}"})
         reply = self.connection.getresponse()
         reply.read()
+        self.replies += 1
         return reply.status
 
     def close(self):
@@ -83,9 +105,9 @@ class Client:
             self.connection = None
 
 
-def is_dropped(connection):
-    """Whether the other side closed a connection on which nothing is awaited."""
-    return connection.sock is None or bool(select.select([connection.sock], [], [], 0)[0])
+def is_dropped(connection, patience):
+    """Whether the other side closes a connection on which nothing is awaited, within so many seconds."""
+    return connection.sock is None or bool(select.select([connection.sock], [], [], patience)[0])
 
 
 def raw(port, sent=b""):
@@ -142,8 +164,28 @@ def fault_of_many_calls(program):
             return f"call {call} was not answered: {error!r}"
         finally:
             client.close()
-        if client.connections < CALLS / 1_000:
+        if client.connections < CALLS / MESSAGES:
             return f"{CALLS} calls came over {client.connections} connections"
+    return None
+
+
+def fault_of_boto3(program):
+    """boto3 over one connection at a time is answered each call, of which it sends none again here."""
+    if importlib.util.find_spec("boto3") is None:
+        raise NotTried("boto3")
+    import boto3
+    from botocore.config import Config
+
+    session = boto3.Session(aws_access_key_id="any", aws_secret_access_key="any", region_name="us-east-1")
+    once = Config(retries={"max_attempts": 0}, max_pool_connections=1)
+    with Serving(program) as server:
+        client = session.client("secretsmanager", endpoint_url=f"http://127.0.0.1:{server.port}", config=once)
+        for call in range(1, CALLS + 1):
+            try:
+                client.get_random_password()
+            except Exception as refused:
+                return f"call {call} of boto3 was not answered: {refused}"
+        client.close()
     return None
 
 
@@ -296,10 +338,56 @@ def shut_listener(process, port):
     os.close(other)
 
 
+def fault_of_failed_accepts(program):
+    """An accept that fails for its peer, its network or a lack of the system's is tried again, and each door answers."""
+    want_strace()
+    for error, times, seconds in FAILED_ACCEPTS:
+        with Serving(program, "--connections", str(DOORS), before=traced(ACCEPTS, error, times)) as server:
+            start = time.monotonic()
+            try:
+                fault = fault_of_doors(server.port)
+            except (OSError, http.client.HTTPException) as refused:
+                fault = repr(refused)
+            passed = time.monotonic() - start
+            server.kill()
+        # The first of them fail while the line is read that it listens.
+        fault = fault or (passed < seconds / 2 and f"that took {passed:.1f} seconds")
+        if fault or not any(line.startswith("secretsd: a connection can't be accepted: ") for line in server.said):
+            return f"where {times} accepts in a row fail by {error}: {fault}, and it said {server.said}"
+    return None
+
+
+def traced(calls, error, times):
+    """The command that starts another, in each thread of which the first so many of these system calls fail so."""
+    failing = ["-e", f"trace={calls}", "-e", f"inject={calls}:error={error}:when=1..{times}"]
+    return ["strace", "-D", "-f", "-qq", "-o", os.devnull, *failing]
+
+
+def want_strace():
+    """Ends a case where there is no strace, or the system lets it trace nothing."""
+    traces = shutil.which("strace") and subprocess.run([*traced(ACCEPTS, "EPERM", 1), "true"], capture_output=True)
+    if not traces or traces.returncode:
+        raise NotTried("strace, where it may trace")
+
+
+def fault_of_doors(port):
+    """Each door has a part of a message, and the last one a whole one: then the others get the rest."""
+    part, rest = message("ListSecrets")[:-1], message("ListSecrets")[-1:]
+    begun = [raw(port, part) for _ in range(DOORS - 1)]
+    answered = [Client(port).ask() == 200]
+    for connection in begun:
+        connection.sendall(rest)
+        answered.append(connection.recv(65_536).startswith(b"HTTP/1.1 200 "))
+        connection.close()
+    return None if all(answered) else f"{answered.count(True)} of {DOORS} doors answer"
+
+
 def fault_of_few_threads(program):
     """Where the system has too few threads, the program says so, ends with code 9 and does not listen."""
     with Serving(program, "--connections", "64", "--workers", "16", limit="-s 8192 && ulimit -v 262144") as server:
         code = server.end()
+        if any("AddressSanitizer" in line for line in server.said):
+            raise NotTried("a program without checks of memory")
         said = [line for line in server.said if "threads" in line]
         if code != 9 or len(said) != 1 or any("listening" in line for line in server.said):
             return f"where threads are few, it ended with {code} and said {server.said}"
@@ -310,7 +398,9 @@ def fault_of_few_threads(program):
 CASES = [
     {"long bodies": fault_of_long_bodies},
     {"many calls": fault_of_many_calls},
+    {"calls of boto3": fault_of_boto3},
     {"few files": fault_of_few_files},
+    {"failed accepts": fault_of_failed_accepts},
     {"failed listener": fault_of_failed_listener},
     {"few threads": fault_of_few_threads},
     {"busy clients": fault_of_busy_clients},
@@ -319,14 +409,16 @@ CASES = [
 ]
 
 
-def fault_of_row(program, row):
-    """What is wrong with the cases of a row."""
-    faults = {}
+def faults_of_row(program, row):
+    """What is wrong with the cases of a row, and what those want that can't be tried here."""
+    faults, wanted = {}, {}
 
     def note(name, case):
         try:
             faults[name] = case(program)
-        except (OSError, ValueError, LookupError, http.client.HTTPException, subprocess.TimeoutExpired) as error:
+        except NotTried as thing:
+            wanted[name] = thing
+        except Exception as error:
             faults[name] = repr(error)
 
     threads = [threading.Thread(target=note, args=item) for item in row.items()]
@@ -334,13 +426,17 @@ def fault_of_row(program, row):
         thread.start()
     for thread in threads:
         thread.join()
-    return "; ".join(f"{name}: {fault}" for name, fault in faults.items() if fault)
+    return {name: fault for name, fault in faults.items() if fault}, wanted
 
 
 def fault_of_rows(program, what, rows):
     """The first row of cases in which something is wrong, and what."""
     for row in rows:
-        if fault := fault_of_row(program, row):
-            return fault
-        print(f"serves: {what} as they should be: {', '.join(row)}")
+        faults, wanted = faults_of_row(program, row)
+        if faults:
+            return "; ".join(f"{name}: {fault}" for name, fault in faults.items())
+        if tried := [name for name in row if name not in wanted]:
+            print(f"serves: {what} as they should be: {', '.join(tried)}")
+        for name, thing in wanted.items():
+            print(f"serves: NOT TRIED, since it wants {thing}: {name}")
     return None

@@ -22,7 +22,7 @@ import tempfile
 import threading
 import time
 
-from connections import Client, Serving, message, raw
+from connections import Client, Serving, message, raw, traced, want_strace
 
 # What stands in each value, and in no line that a program says.
 MARK = "pa55w0rd"
@@ -77,6 +77,18 @@ def fault_of_opening(program):
         if server.said[0] != cut or not server.said[1].endswith(opened):
             return f"over 4 torn bytes behind 3 entries in {size} bytes it said {server.said}"
     return None
+
+
+def fault_of_folder_sync(program):
+    """A folder is not served that can't be synced itself: the name of a file that was made may be lost there."""
+    want_strace()
+    with tempfile.TemporaryDirectory() as folder:
+        with Serving(program, "--data", folder, before=traced("fsync", "EIO", 1)) as server:
+            if server.port is not None:
+                return "a folder whose own sync failed was served"
+            code = server.end()
+    said = [f"secretsd: the folder {folder} can't be opened: Input/output error (os error 5)", "secretsd: status 4"]
+    return None if (code, server.said) == (4, said) else f"where a folder's sync failed: {code}, {server.said}"
 
 
 def fault_of_long_opening(program):
@@ -365,6 +377,7 @@ CASES = [
         "long opening": fault_of_long_opening,
         "removed folder": fault_of_removed_folder,
         "random source": fault_of_random,
+        "folder's sync": fault_of_folder_sync,
     },
     {
         "log": fault_of_log,
