@@ -2,10 +2,11 @@
 //!
 //! `secretsd --mode serve --data FOLDER` serves at an address. `secretsd --data FOLDER < messages` answers the HTTP
 //! messages of standard input on standard output and ends. `secretsd --mode check --data FOLDER` says what the folder
-//! holds.
+//! holds. `secretsd --mode agent` reads secrets from a server, and keeps each for a while.
 //! `secretsd --help` says which words it takes.
 #![tactic(auto)]
 
+mod accepting;
 mod crew;
 mod deed;
 mod ending;
@@ -22,14 +23,17 @@ mod people_file;
 mod people_line;
 mod porter;
 mod probing;
+mod reader;
 mod reports;
 mod request_line;
 mod request_log;
 mod rotators;
 mod served_stream;
 mod serving;
+mod side;
 mod starting;
 mod timed_stream;
+mod upstreams;
 mod welcome;
 
 ghost use Rattle.sm_words.specs.Reading.{IsInBounds};
@@ -40,6 +44,7 @@ use crate::folder_disk::FolderDisk;
 use crate::opening::Opening;
 use crate::orders::{Orders, empty_disk};
 use crate::people_file::people_text;
+use crate::reader::read_for_others;
 use crate::reports::Reports;
 use crate::rotators::{Linked, Local, MakeRotator};
 use crate::serving::serve;
@@ -88,25 +93,33 @@ fn words(rt: &(impl Env + AllocGlobal), alloc: Global) -> io::Result<Vec<String>
 /// Does what the words ask for. No folder is opened for words that are not followed.
 fn follow<H: Threads + Wait + Sync>(rt: &HostRuntime, threads: &H, words: &[String]) -> Status {
     match read_words(rt.alloc(), words) {
-        Ok(settings) => match unbuilt(rt, settings.mode) {
-            Some(status) => status,
-            None => follow_settings(rt, threads, words, &settings),
-        },
+        Ok(settings) => follow_mode(rt, threads, words, &settings),
         Err(WordsRefused::Refused) => say_refusal(rt, words),
         Err(WordsRefused::Memory) => Status::Memory,
     }
 }
 
-/// How the program ends that has no such mode yet.
-fn unbuilt(rt: &HostRuntime, mode: Mode) -> Option<Status> {
-    match mode {
+/// Does what is to be done in the mode of the settings.
+fn follow_mode<H: Threads + Wait + Sync>(
+    rt: &HostRuntime,
+    threads: &H,
+    words: &[String],
+    settings: &Settings,
+) -> Status
+    requires { IsInBounds settings.now }
+{
+    match settings.mode {
+        Mode::Exec => follow_settings(rt, threads, words, settings),
+        Mode::Serve => follow_settings(rt, threads, words, settings),
+        Mode::Check => follow_settings(rt, threads, words, settings),
         Mode::Drill => {
             let _ = eprintln!(rt; "secretsd: --mode drill is not built yet");
-            Some(Status::NotBuilt)
+            Status::NotBuilt
         }
-        Mode::Exec => None,
-        Mode::Serve => None,
-        Mode::Check => None,
+        Mode::Agent => {
+            say_start(rt, settings);
+            read_for_others(rt, threads, words, settings)
+        }
     }
 }
 

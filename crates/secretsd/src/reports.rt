@@ -15,6 +15,7 @@ pub enum Kind {
     Disk,
     Random,
     Rotation,
+    Server,
 }
 
 /// How many lines were said in this minute, and how many were left out since the last that was said.
@@ -57,6 +58,7 @@ pub struct Reports<'a> {
     disk: Budget,
     random: Budget,
     rotation: Budget,
+    server: Budget,
 }
 
 impl<'a> Reports<'a> {
@@ -67,6 +69,7 @@ impl<'a> Reports<'a> {
             disk: Budget::new(),
             random: Budget::new(),
             rotation: Budget::new(),
+            server: Budget::new(),
         }
     }
 
@@ -76,6 +79,7 @@ impl<'a> Reports<'a> {
             Kind::Disk => &self.disk,
             Kind::Random => &self.random,
             Kind::Rotation => &self.rotation,
+            Kind::Server => &self.server,
         }
     }
 

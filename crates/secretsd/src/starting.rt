@@ -3,7 +3,7 @@ use sm_words::{Mode, Settings};
 use std::io::IsTerminal;
 use std::net::ToSocketAddrs;
 
-/// Says on standard error that a rotator can't be asked, and that messages are waited for.
+/// Says on standard error that a rotator or a server can't be asked, and that messages are waited for.
 pub fn say_start(rt: &HostRuntime, settings: &Settings) {
     match settings.mode {
         Mode::Exec => {
@@ -13,6 +13,7 @@ pub fn say_start(rt: &HostRuntime, settings: &Settings) {
         Mode::Serve => say_address(rt, settings.rotator.as_str()),
         Mode::Check => {}
         Mode::Drill => {}
+        Mode::Agent => say_server(rt, settings.listen.as_str()),
     }
 }
 
@@ -47,6 +48,17 @@ fn say_address(rt: &HostRuntime, rotator: &str) {
     }
     if let Err(error) = rotator.to_socket_addrs(rt) {
         let _ = eprintln!(rt; "secretsd: the rotator {rotator} is not found now: {error}");
+    }
+}
+
+/// Says that the server to ask is no address, or that its name can't be found now.
+fn say_server(rt: &HostRuntime, server: &str) {
+    if !is_address(server) {
+        let _ = eprintln!(rt;
+            "secretsd: the server {server} is not a host, a colon and a port: each question to it fails"
+        );
+    } else if let Err(error) = server.to_socket_addrs(rt) {
+        let _ = eprintln!(rt; "secretsd: the server {server} is not found now: {error}");
     }
 }
 

@@ -6,3 +6,4 @@ pub mod StoredLemmas
 pub mod UnopenedLemmas
 pub mod CheckLemmas
 pub mod ServedLemmas
+pub mod ReaderLemmas

@@ -22,7 +22,7 @@ use Rattle.sm_account.specs.Openings.{IsOpenedOver, IsRefused}
 use Rattle.sm_account.specs.States.{Base, base_of}
 use Rattle.sm_spells.specs.Spells.{History}
 use Rattle.sm_words.specs.declared.settings.Mode.{Mode}
-use Rattle.sm_words.specs.declared.settings.Mode.TheVariants.{Exec, Serve, Check, Drill}
+use Rattle.sm_words.specs.declared.settings.Mode.TheVariants.{Exec, Serve, Check, Drill, Agent}
 use Rattle.sm_words.specs.declared.settings.Settings.{Settings}
 use Rattle.sm_workers.specs.declared.worker.WorkerBy.{WorkerBy}
 use Rattle.sm_workers.specs.Closed.{Closed}
@@ -42,6 +42,7 @@ at_mode Exec status is = let h : Some status ≡ Some statuses.Words = is in cc
 at_mode Serve status is = absurd (let h : Some status ≡ None = is in cc)
 at_mode Check status is = let h : Some status ≡ Some statuses.Words = is in cc
 at_mode Drill status is = let h : Some status ≡ Some statuses.Words = is in cc
+at_mode Agent status is = let h : Some status ≡ Some statuses.Words = is in cc
 
 at_words : (asked : Option Settings) (status : Status) → Some status ≡ end_of_server asked → status ≡ statuses.Words
 at_words None status is = let h : Some status ≡ Some statuses.Words = is in cc

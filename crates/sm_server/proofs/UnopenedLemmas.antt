@@ -8,7 +8,7 @@ use Rattle.sm_journal.specs.declared.answers.OpenRefused.TheVariants.{Damaged, F
 use Rattle.sm_account.specs.Openings.{IsRefused}
 use Rattle.sm_rotation.specs.Vouched.{Replies}
 use Rattle.sm_words.specs.declared.settings.Mode.{Mode}
-use Rattle.sm_words.specs.declared.settings.Mode.TheVariants.{Exec, Serve, Check, Drill}
+use Rattle.sm_words.specs.declared.settings.Mode.TheVariants.{Exec, Serve, Check, Drill, Agent}
 use Rattle.sm_words.specs.declared.settings.Settings.{Settings}
 use Rattle.sm_server.specs.declared.status.Status.{Status}
 use Rattle.sm_server.specs.declared.status.Status.TheVariants as statuses
@@ -141,6 +141,7 @@ at_mode Exec status is = absurd (let h : Err status ≡ Ok Answer = is in cc)
 at_mode Serve status is = inl (let h : Err status ≡ Err statuses.Words = is in cc)
 at_mode Check status is = absurd (let h : Err status ≡ Ok Summarize = is in cc)
 at_mode Drill status is = inr (let h : Err status ≡ Err statuses.NotBuilt = is in cc)
+at_mode Agent status is = inl (let h : Err status ≡ Err statuses.Words = is in cc)
 
 at_words : (asked : Option Settings) (status : Status) → Err status ≡ task_of_words asked
     → (status ≡ statuses.Words) ⊎ (status ≡ statuses.NotBuilt)

@@ -4,7 +4,7 @@ use Rattle.sm_principal.specs.declared.people.People.{People as Persons}
 use Rattle.sm_principal.specs.declared.people.PeopleRefused.{PeopleRefused}
 use Rattle.sm_principal.specs.declared.people.PeopleRefused.TheVariants as refusals
 use Rattle.sm_words.specs.declared.settings.Mode.{Mode}
-use Rattle.sm_words.specs.declared.settings.Mode.TheVariants.{Exec, Serve, Check, Drill}
+use Rattle.sm_words.specs.declared.settings.Mode.TheVariants.{Exec, Serve, Check, Drill, Agent}
 use Rattle.sm_words.specs.declared.settings.Settings.{Settings}
 use Rattle.sm_server.specs.declared.asked.Task.{Task}
 use Rattle.sm_server.specs.declared.asked.Task.TheVariants.{Answer, Summarize}
@@ -17,6 +17,7 @@ task_of_mode Exec = Ok Answer
 task_of_mode Serve = Err Words
 task_of_mode Check = Ok Summarize
 task_of_mode Drill = Err NotBuilt
+task_of_mode Agent = Err Words
 
 -- what a run does by its words, or how it ends that cannot follow them; words that are refused ask for nothing
 abbrev pub task_of_words : Option Settings → Result Task Status

@@ -8,3 +8,4 @@ pub mod Complete
 pub mod Stored
 pub mod Served
 pub mod JustOpened
+pub mod Readers

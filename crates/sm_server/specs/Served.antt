@@ -21,7 +21,7 @@ use Rattle.sm_account.specs.Openings.{IsRefused}
 use Rattle.sm_account.specs.States.{base_of}
 use Rattle.sm_core.specs.Histories.{InTime}
 use Rattle.sm_words.specs.declared.settings.Mode.{Mode}
-use Rattle.sm_words.specs.declared.settings.Mode.TheVariants.{Exec, Serve, Check, Drill}
+use Rattle.sm_words.specs.declared.settings.Mode.TheVariants.{Exec, Serve, Check, Drill, Agent}
 use Rattle.sm_words.specs.declared.settings.Settings.{Settings}
 use Rattle.sm_workers.specs.declared.worker.Task.{Task}
 use Rattle.sm_workers.specs.declared.worker.Task.TheVariants.{Door, Turner}
@@ -40,6 +40,7 @@ end_of_serving Exec = Some Words
 end_of_serving Serve = None
 end_of_serving Check = Some Words
 end_of_serving Drill = Some Words
+end_of_serving Agent = Some Words
 
 -- words that are refused ask for nothing
 abbrev pub end_of_server : Option Settings → Option Status

@@ -30,7 +30,7 @@ pub fn task_of_words(alloc: Global, words: &[String]) -> Result<Task, Status>
 }
 
 /// What a run over one stream does in a mode, or how it ends that cannot follow it: serving is another top call's, and
-/// what is not built yet is `NotBuilt`.
+/// so is reading from a server; what is not built yet is `NotBuilt`.
 pub fn task_of_mode(mode: Mode) -> Result<Task, Status>
     ensures { result ≡ task_of_mode mode }
 {
@@ -39,6 +39,7 @@ pub fn task_of_mode(mode: Mode) -> Result<Task, Status>
         Mode::Serve => Err(Status::Words),
         Mode::Check => Ok(Task::Summarize),
         Mode::Drill => Err(Status::NotBuilt),
+        Mode::Agent => Err(Status::Words),
     }
 }
 

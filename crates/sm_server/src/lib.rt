@@ -5,6 +5,7 @@ mod answering;
 mod asked;
 mod checking;
 pub mod laws;
+mod reader;
 mod run;
 pub mod serving;
 mod status;
@@ -12,6 +13,7 @@ mod turn;
 mod witness;
 
 pub use asked::{Task, task_of_mode};
+pub use reader::{agent_of_words, answer_connection, run_agent};
 pub use run::run_once;
 pub use serving::{Ran, RanBy, run_server};
 pub use status::Status;

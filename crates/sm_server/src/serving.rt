@@ -99,6 +99,7 @@ fn end_of_serving(mode: Mode) -> Option<Status>
         Mode::Serve => None,
         Mode::Check => Some(Status::Words),
         Mode::Drill => Some(Status::Words),
+        Mode::Agent => Some(Status::Words),
     }
 }
 

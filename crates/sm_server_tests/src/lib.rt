@@ -10,6 +10,8 @@ mod outside;
 #[cfg(test)]
 mod people;
 #[cfg(test)]
+mod readers;
+#[cfg(test)]
 mod streams;
 #[cfg(test)]
 mod words;

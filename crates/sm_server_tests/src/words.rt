@@ -6,13 +6,14 @@ use std::alloc::Global;
 use std::test::Fail;
 
 /// The words of a line, and how a run with them ends over no input.
-const LINES: [(&str, Status); 12] = [
+const LINES: [(&str, Status); 13] = [
     ("", Status::Done),
     ("--mode exec --number 0", Status::Done),
     ("--data ignored --rotator local", Status::Done),
     ("--mode nonsense", Status::Words),
     ("--mode serve", Status::Words),
     ("--mode serve --people p", Status::Words),
+    ("--mode agent", Status::Words),
     ("--number -1", Status::Words),
     ("--help", Status::Words),
     ("--mode drill --number 1", Status::NotBuilt),

@@ -28,7 +28,7 @@ mode_rule names =
     with_default (codes "exec") (record (option_rule (codes "mode")) { parser = Some (values.Names names) })
 
 abbrev pub mode_names : List Text
-mode_names = codes "exec" ∷ codes "serve" ∷ codes "check" ∷ codes "drill" ∷ []
+mode_names = codes "exec" ∷ codes "serve" ∷ codes "check" ∷ codes "drill" ∷ codes "agent" ∷ []
 
 abbrev pub AreModeNames : Names → Type 0
 AreModeNames names = map (λ name. name.now) names.now ≡ mode_names

@@ -7,7 +7,7 @@ use Rattle.clap.specs.Words.{Kinds, Row, Text, first_of, one_of}
 use Rattle.clap.specs.ValueTests.{is_numeral}
 use Rattle.sm_base.specs.declared.limits.TheConstants.{DOORS_LIMIT, TURNERS_LIMIT}
 use Rattle.sm_words.specs.declared.settings.Mode.{Mode}
-use Rattle.sm_words.specs.declared.settings.Mode.TheVariants.{Exec, Serve, Check, Drill}
+use Rattle.sm_words.specs.declared.settings.Mode.TheVariants.{Exec, Serve, Check, Drill, Agent}
 use Rattle.sm_words.specs.declared.settings.Settings.{Settings}
 use Rattle.sm_words.specs.declared.settings.WordsRefused.{WordsRefused}
 use Rattle.sm_words.specs.declared.settings.WordsRefused.TheVariants.{Refused, Memory}
@@ -15,7 +15,7 @@ use Rattle.sm_words.specs.Command.{faults, found}
 
 abbrev pub mode_named : Text → Mode
 mode_named name = if bytes_eq name (codes "serve") then Serve else (if bytes_eq name (codes "check") then Check
-    else (if bytes_eq name (codes "drill") then Drill else Exec))
+    else (if bytes_eq name (codes "drill") then Drill else (if bytes_eq name (codes "agent") then Agent else Exec)))
 
 abbrev pub mode_of : Option Text → Mode
 mode_of None = Exec

@@ -9,13 +9,13 @@ use clap::{Arg, ArgAction};
 use sm_base::limits::{DOORS_LIMIT, TURNERS_LIMIT};
 use std::alloc::Global;
 
-/// The address that is listened on without `--listen`.
+/// The address of the server without `--listen`.
 pub const LISTEN: &str = "127.0.0.1:7777";
 
 /// The rotator without `--rotator`.
 pub const ROTATOR: &str = "local";
 
-static MODES: [&str; 4] = ["exec", "serve", "check", "drill"];
+static MODES: [&str; 5] = ["exec", "serve", "check", "drill", "agent"];
 
 /// An option that takes one value.
 fn option<'a>(
@@ -44,10 +44,10 @@ pub fn mode<'a>(alloc: Global) -> Arg<'a>
         alloc,
         "mode",
         "MODE",
-        "What the run does: exec, serve or check",
+        "What the run does: exec, serve, check or agent",
         "What the run does: exec answers the messages of standard input and ends, serve answers at an address until it \
-         is stopped, and check says what a folder holds; drill is to make messages of its own and answer them, and is \
-         not built yet.\n\
+         is stopped, check says what a folder holds, and agent answers at 127.0.0.1:2773 what it reads from a server \
+         and keeps for a while; drill is to make messages of its own and answer them, and is not built yet.\n\
          Example: --mode serve",
     )
     .value_parser(ValueParser::Names(MODES.as_slice()))
@@ -85,7 +85,7 @@ pub fn people<'a>(alloc: Global) -> Arg<'a>
     )
 }
 
-/// `--listen`: the address of `--mode serve`.
+/// `--listen`: the address of the server, which `--mode serve` is and `--mode agent` asks.
 pub fn listen<'a>(alloc: Global) -> Arg<'a>
     ensures rule { rule_of result ≡ listen_rule }
     ensures global { result.global ≡ false }
@@ -94,8 +94,9 @@ pub fn listen<'a>(alloc: Global) -> Arg<'a>
         alloc,
         "listen",
         "ADDRESS",
-        "The address to listen on, in mode serve",
-        "The address to listen on, in mode serve: a host, a colon and a port.\n\
+        "The address to listen on, in mode serve, and the server that is asked, in mode agent",
+        "The address to listen on, in mode serve, and that of the server that is asked, in mode agent: a host, a colon \
+         and a port.\n\
          Example: --listen 127.0.0.1:8080",
     )
     .default_value(LISTEN)

@@ -20,6 +20,8 @@ fn bare<'a>(alloc: Global) -> Command<'a>
              serves at 127.0.0.1:7777 until it is stopped, and keeps the secrets in a folder\n  \
              secretsd --data secrets < messages\n      \
              answers the HTTP messages of a file on standard output, and keeps the secrets in a folder\n  \
+             secretsd --mode agent --listen 127.0.0.1:7777\n      \
+             reads secrets from that server for others on this machine, and keeps each for five minutes\n  \
              secretsd --number 0 < messages\n      \
              answers them the same way in each run, and forgets the secrets at its end",
         )

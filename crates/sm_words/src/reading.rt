@@ -61,6 +61,7 @@ fn mode_of(name: Option<&str>) -> Mode
         Some("serve") => Mode::Serve,
         Some("check") => Mode::Check,
         Some("drill") => Mode::Drill,
+        Some("agent") => Mode::Agent,
         _ => Mode::Exec,
     }
 }

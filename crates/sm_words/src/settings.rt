@@ -13,6 +13,8 @@ pub enum Mode {
     Check,
     /// It makes messages of its own and answers them.
     Drill,
+    /// It answers at an address what it reads from a server and keeps for a while.
+    Agent,
 }
 
 /// What the words ask for.
@@ -23,7 +25,7 @@ pub struct Settings {
     pub folder: Option<Text>,
     /// The file that says who may call.
     pub people: Option<Text>,
-    /// The address to listen on.
+    /// The address of the server: to listen on, or to ask.
     pub listen: Text,
     /// `local`, or the address of the one who makes new values.
     pub rotator: Text,

@@ -5,13 +5,18 @@ use std::alloc::{AllocError, Global};
 use std::test::Fail;
 
 /// Words, and the settings that are wanted of them, in the order of the fields.
-static READ: [(&str, &str); 52] = [
+static READ: [(&str, &str); 55] = [
     ("", "Exec - - 127.0.0.1:7777 local 4 2 None -"),
     ("--", "Exec - - 127.0.0.1:7777 local 4 2 None -"),
     ("--mode exec", "Exec - - 127.0.0.1:7777 local 4 2 None -"),
     ("--mode serve", "Serve - - 127.0.0.1:7777 local 4 2 None -"),
     ("--mode check", "Check - - 127.0.0.1:7777 local 4 2 None -"),
     ("--mode=drill", "Drill - - 127.0.0.1:7777 local 4 2 None -"),
+    ("--mode agent", "Agent - - 127.0.0.1:7777 local 4 2 None -"),
+    (
+        "--mode agent --listen 127.0.0.1:8080",
+        "Agent - - 127.0.0.1:8080 local 4 2 None -",
+    ),
     (
         "--data /var/lib",
         "Exec /var/lib - 127.0.0.1:7777 local 4 2 None -",
@@ -58,6 +63,7 @@ static READ: [(&str, &str); 52] = [
     ),
     ("--mode nonsense", "refused"),
     ("--mode Exec", "refused"),
+    ("--mode agents", "refused"),
     ("--mode", "refused"),
     ("--mode --number 0", "refused"),
     ("--mod exec", "refused"),
@@ -97,7 +103,7 @@ static SAID: [(&str, bool, &str); 9] = [
     (
         "--mode nonsense",
         false,
-        "[possible values: exec, serve, check, drill]",
+        "[possible values: exec, serve, check, drill, agent]",
     ),
     ("--workers 17", false, "17 is not in 0..=16"),
     (
