@@ -1,15 +1,17 @@
 //! Work to be timed from outside: `benchmarks table 100` makes so many secrets in a table, and says how many there are;
 //! `benchmarks pieces 100` reads a message with a body of so many bytes, which come one by one, and says how many;
 //! `benchmarks open FOLDER` opens the store of a folder, `benchmarks copy FROM TO` adds its entries to another folder's
-//! store, and both say how many entries there are; `benchmarks account FOLDER` opens the account of a folder, and says
-//! how many entries that has; `benchmarks faults FOLDER 100` asks that account for so many secrets, where its disk
-//! fails, and `benchmarks looks FOLDER 100` looks so often for the step of a rotation there that never goes on: both
-//! say how many marks the history has of it; `benchmarks dues FOLDER 100` asks so often whether a rotation is due
-//! there, and says how often one is; `benchmarks run FOLDER` answers the messages of standard input on that
-//! account, and then says with which code the run ended.
+//! store, and both say how many entries there are; `benchmarks checkpoint FOLDER` puts the base that the store of a
+//! folder has in the place of all that it has, and says how many secrets that is; `benchmarks account FOLDER` opens the
+//! account of a folder, and says how many entries that has; `benchmarks faults FOLDER 100` asks that account for so
+//! many secrets, where its disk fails, and `benchmarks looks FOLDER 100` looks so often for the step of a rotation
+//! there that never goes on: both say how many marks the history has of it; `benchmarks dues FOLDER 100` asks so often
+//! whether a rotation is due there, and says how often one is; `benchmarks run FOLDER` answers the messages of standard
+//! input on that account, and then says with which code the run ended.
 #![tactic(auto)]
 
 mod accounts;
+mod bases;
 mod pieces;
 mod runs;
 mod stores;
@@ -44,7 +46,7 @@ fn main(rt: HostRuntime) -> ExitCode {
         }
         None => {
             let _ = eprintln!(rt;
-                "benchmarks: table|pieces <count>, open|account|run|faults|looks|dues <folder> .. or copy <from> <to>"
+                "benchmarks: table|pieces N, copy FROM TO, open|checkpoint|account|run|faults|looks|dues FOLDER .."
             );
             ExitCode::from(2)
         }
@@ -68,6 +70,9 @@ fn run(rt: &HostRuntime, words: &[String]) -> Option<(usize, &'static str)> {
         [work, folder] if work.as_str() == "open" => entries(count(rt, folder.as_str())),
         [work, from, to] if work.as_str() == "copy" => {
             entries(copy(rt, from.as_str(), to.as_str()))
+        }
+        [work, folder] if work.as_str() == "checkpoint" => {
+            secrets(bases::renew(rt, folder.as_str()))
         }
         [work, folder] if work.as_str() == "account" => {
             entries(accounts::count(rt, folder.as_str()))

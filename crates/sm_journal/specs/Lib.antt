@@ -1,4 +1,5 @@
 pub mod Records
+pub mod Places
 pub mod Lengths
 pub mod Tails
 pub mod Journals

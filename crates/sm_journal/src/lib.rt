@@ -10,6 +10,7 @@ mod laws;
 mod lengths;
 mod open;
 mod parse;
+mod records;
 mod root;
 mod tail;
 
@@ -19,5 +20,6 @@ pub use fresh::Fresh;
 pub use journal::Journal;
 pub use laws::{a_file_has_one_list, each_has_one_proof};
 pub use lengths::{HEADER_SIZE, record_size};
-pub use parse::Damage;
+pub use parse::{Damage, format_at};
+pub use records::Records;
 pub use root::{ROOT, named_file};

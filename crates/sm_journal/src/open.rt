@@ -8,6 +8,7 @@ ghost use Rattle.sm_journal.specs.Records.{Loose, AtRest, Short, Whole, Recovers
 ghost use Rattle.sm_journal.specs.Lengths.{ReadsLength};
 ghost use Rattle.sm_journal.specs.Journals.{disk_of, format_of, HoldsJust, IsOpened};
 ghost use Rattle.sm_journal.specs.Openings.{ReadsAs, FailsFrom, IsRefusedAs, IsRefused};
+ghost use Rattle.sm_journal.specs.Places.{bodies_at, AreInside};
 
 use crate::answers::OpenRefused;
 use crate::device::{LoadRefused, cut_behind, load, make};
@@ -15,7 +16,7 @@ use crate::format::Format;
 use crate::journal::Journal;
 use crate::lengths::HEADER_SIZE;
 use crate::parse::{ParseRefused, Parsed, parse};
-use sm_base::{Bytes, List};
+use crate::records::{Place, Records};
 use sm_disk::Disk;
 use std::alloc::Global;
 
@@ -72,7 +73,7 @@ fn open_new<D: Disk>(
     file: u8,
     limit: u64,
     format: Format,
-) -> Result<(Journal<D>, List<Bytes>), OpenRefused<D>>
+) -> Result<(Journal<D>, Records), OpenRefused<D>>
     requires file { file < 3 }
     requires limit { limit < 2 ^ 62 }
     ensures opened { IfOk result (λ opened. IsOpened file limit opened.1 opened.0) }
@@ -87,28 +88,30 @@ fn open_new<D: Disk>(
     match emptied(disk, file, format) {
         Ok(disk) => {
             let journal = Journal::at_rest(disk, file, format, limit, HEADER_SIZE);
-            Ok((journal, List::empty(alloc)))
+            Ok((journal, Records::empty(alloc)))
         }
         Err(disk) => Err(OpenRefused::Failed(disk)),
     }
 }
 
-/// The journal of a file of these bytes, of which each image has them.
+/// The journal of a file of these bytes, of which each image has them, and the places of its bodies.
 fn open_old<D: Disk>(
     alloc: Global,
     disk: D,
     file: u8,
     limit: u64,
     bytes: &[u8],
-) -> Result<(Journal<D>, List<Bytes>), OpenRefused<D>>
+) -> Result<(Journal<D>, Vec<Place>), OpenRefused<D>>
     requires file { file < 3 }
     requires limit { limit < 2 ^ 62 }
     requires long { 9 < length bytes.now }
     requires fits { length bytes.now < 2 ^ 63 }
     requires place { ReadsLength file (length bytes.now) (D.sight disk) }
+    ensures inside { IfOk result (λ opened. AreInside bytes.now opened.1.items) }
     ensures opened { IfOk result (λ opened. EachHas file (λ b. b ≡ bytes.now) (D.sight disk).images →
-        IsOpened file limit opened.1 opened.0) }
-    ensures list { IfOk result (λ opened. Recovers bytes.now (format_of opened.0) opened.1) }
+        IsOpened file limit (bodies_at bytes.now opened.1.items) opened.0) }
+    ensures list { IfOk result (λ opened.
+        Recovers bytes.now (format_of opened.0) (bodies_at bytes.now opened.1.items)) }
     ensures run { IfOk result (λ opened. EachHas file (λ b. b ≡ bytes.now) (D.sight disk).images →
         Leaves file SameList SameList (D.sight disk) (D.sight (disk_of opened.0))) }
     ensures later { IfOk result (λ opened. D.faults disk ≤ D.faults (disk_of opened.0)) }
@@ -118,15 +121,42 @@ fn open_old<D: Disk>(
         Ok(
             Parsed {
                 format,
-                bodies,
+                places,
                 gate,
             },
         ) => match settle(disk, file, gate, bytes) {
-            Ok(disk) => Ok((Journal::at_rest(disk, file, format, limit, gate), bodies)),
+            Ok(disk) => Ok((Journal::at_rest(disk, file, format, limit, gate), places)),
             Err(disk) => Err(OpenRefused::Failed(disk)),
         },
         Err(ParseRefused::Damaged(damage)) => Err(OpenRefused::Damaged(disk, damage)),
         Err(ParseRefused::Memory) => Err(OpenRefused::Memory(disk)),
+    }
+}
+
+/// The journal of a file of these bytes, of which each image has them, and its bodies in them.
+fn open_kept<D: Disk>(
+    alloc: Global,
+    disk: D,
+    file: u8,
+    limit: u64,
+    bytes: Vec<u8>,
+) -> Result<(Journal<D>, Records), OpenRefused<D>>
+    requires file { file < 3 }
+    requires limit { limit < 2 ^ 62 }
+    requires long { 9 < length bytes.items }
+    requires fits { length bytes.items < 2 ^ 63 }
+    requires place { ReadsLength file (length bytes.items) (D.sight disk) }
+    ensures opened { IfOk result (λ opened. EachHas file (λ b. b ≡ bytes.items) (D.sight disk).images →
+        IsOpened file limit opened.1 opened.0) }
+    ensures list { IfOk result (λ opened. Recovers bytes.items (format_of opened.0) opened.1) }
+    ensures run { IfOk result (λ opened. EachHas file (λ b. b ≡ bytes.items) (D.sight disk).images →
+        Leaves file SameList SameList (D.sight disk) (D.sight (disk_of opened.0))) }
+    ensures later { IfOk result (λ opened. D.faults disk ≤ D.faults (disk_of opened.0)) }
+    ensures refused { IfErr result (IsRefusedAs D.Disk file bytes.items disk) }
+{
+    match open_old(alloc, disk, file, limit, bytes.as_slice()) {
+        Ok((journal, places)) => Ok((journal, Records::over(bytes, places))),
+        Err(refused) => Err(refused),
     }
 }
 
@@ -137,25 +167,25 @@ fn open_loaded<D: Disk>(
     file: u8,
     limit: u64,
     format: Format,
-    bytes: &[u8],
-) -> Result<(Journal<D>, List<Bytes>), OpenRefused<D>>
+    bytes: Vec<u8>,
+) -> Result<(Journal<D>, Records), OpenRefused<D>>
     requires file { file < 3 }
     requires limit { limit < 2 ^ 62 }
-    requires fits { length bytes.now < 2 ^ 63 }
-    requires place { ReadsLength file (length bytes.now) (D.sight disk) }
-    ensures opened { IfOk result (λ opened. EachHas file (λ b. b ≡ bytes.now) (D.sight disk).images →
+    requires fits { length bytes.items < 2 ^ 63 }
+    requires place { ReadsLength file (length bytes.items) (D.sight disk) }
+    ensures opened { IfOk result (λ opened. EachHas file (λ b. b ≡ bytes.items) (D.sight disk).images →
         IsOpened file limit opened.1 opened.0) }
-    ensures whole { IfOk result (λ opened. Short bytes.now → HoldsJust opened.0 [] × (format_of opened.0 ≡ format)) }
-    ensures list { IfOk result (λ opened. Recovers bytes.now (format_of opened.0) opened.1) }
-    ensures run { IfOk result (λ opened. EachHas file (λ b. b ≡ bytes.now) (D.sight disk).images →
+    ensures whole { IfOk result (λ opened. Short bytes.items → HoldsJust opened.0 [] × (format_of opened.0 ≡ format)) }
+    ensures list { IfOk result (λ opened. Recovers bytes.items (format_of opened.0) opened.1) }
+    ensures run { IfOk result (λ opened. EachHas file (λ b. b ≡ bytes.items) (D.sight disk).images →
         Leaves file SameList SameList (D.sight disk) (D.sight (disk_of opened.0))) }
     ensures later { IfOk result (λ opened. D.faults disk ≤ D.faults (disk_of opened.0)) }
-    ensures refused { IfErr result (IsRefusedAs D.Disk file bytes.now disk) }
+    ensures refused { IfErr result (IsRefusedAs D.Disk file bytes.items disk) }
 {
     if bytes.len() <= 9 {
         open_new(alloc, disk, file, limit, format)
     } else {
-        open_old(alloc, disk, file, limit, bytes)
+        open_kept(alloc, disk, file, limit, bytes)
     }
 }
 
@@ -163,14 +193,14 @@ impl<D: Disk> Journal<D> {
     /// Opens the journal in a file of the disk, and gives the bodies of its records. It syncs the file first, mends
     /// what follows the records, and makes a file of at most nine bytes new, in the format that is asked for. A file
     /// that is longer has the format of its header, and is damaged where it is outside the grammar. An error hands the
-    /// disk back.
+    /// disk back. It takes memory for the file's bytes once, and for two machine words a record.
     pub fn open(
         alloc: Global,
         mut disk: D,
         file: u8,
         limit: u64,
         new: Format,
-    ) -> Result<(Journal<D>, List<Bytes>), OpenRefused<D>>
+    ) -> Result<(Journal<D>, Records), OpenRefused<D>>
         requires file { file < 3 }
         requires limit { (9 ≤ limit) × (limit ≤ JOURNAL_LIMIT) }
         ensures opened { IfOk result (λ opened. IsOpened file limit opened.1 opened.0) }
@@ -189,7 +219,7 @@ impl<D: Disk> Journal<D> {
         ensures refused { IfErr result (IsRefused D.Disk file disk) }
     {
         match load(alloc, &mut disk, file) {
-            Ok(bytes) => open_loaded(alloc, disk, file, limit, new, bytes.as_slice()),
+            Ok(bytes) => open_loaded(alloc, disk, file, limit, new, bytes),
             Err(LoadRefused::Failed) => Err(OpenRefused::Failed(disk)),
             Err(LoadRefused::Memory) => Err(OpenRefused::Memory(disk)),
         }

@@ -1,12 +1,13 @@
 //! What the bytes of a journal's file say, without the disk.
 ghost use Rattle.std.specs.Prelude.{◌≡◌, ◌≢◌, ◌<◌, ◌≤◌, ◌+◌, ◌∷◌, ◌++◌, ℕ, List, length, take, IfSome, IfNone, IfOk, Err};
 ghost use Rattle.sm_journal.specs.Records.{header, entry_of, body_limit, front, place_behind, AreWithin, Loose, IsBroken, IsDamaged};
+ghost use Rattle.sm_journal.specs.Places.{bodies_at, AreInside};
 ghost use Rattle.sm_journal.specs.declared.parse.Damage.{Damage};
 ghost use Rattle.sm_journal.specs.declared.parse.ParseRefused.TheVariants.{Memory};
 
 use crate::format::Format;
 use crate::lengths::HEADER_SIZE;
-use sm_base::{Bytes, List, NoMemory};
+use crate::records::Place;
 use std::alloc::{AllocFailed, Global};
 
 /// The greatest length of a body.
@@ -26,11 +27,11 @@ pub struct Damage {
     pub entry: u64,
 }
 
-/// A file's format, the bodies of its records, and the place of the gate behind them.
+/// A file's format, the places of its records' bodies, and that of the gate behind them.
 #[derive(Drop)]
 pub struct Parsed {
     pub format: Format,
-    pub bodies: List<Bytes>,
+    pub places: Vec<Place>,
     pub gate: u64,
 }
 
@@ -41,8 +42,8 @@ pub enum ParseRefused {
     Memory,
 }
 
-/// The format whose header stands at the beginning.
-fn format_at(bytes: &[u8]) -> Option<Format>
+/// The format whose header stands at the beginning. It takes no memory.
+pub fn format_at(bytes: &[u8]) -> Option<Format>
     requires { 8 ≤ length bytes.now }
     ensures found { IfSome result (λ format. take 8 bytes.now ≡ header format) }
     ensures none { IfNone result
@@ -88,14 +89,6 @@ fn split_record(rest: &[u8]) -> Option<(&[u8], &[u8])>
     Some(behind.split_at(length))
 }
 
-impl From<NoMemory> for ParseRefused {
-    ghost from_gives = { λ _ refused. refused ≡ Memory };
-
-    fn from(_error: NoMemory) -> ParseRefused {
-        ParseRefused::Memory
-    }
-}
-
 impl<T: Drop> From<AllocFailed<T>> for ParseRefused {
     ghost from_gives = { λ _ refused. refused ≡ Memory };
 
@@ -104,12 +97,25 @@ impl<T: Drop> From<AllocFailed<T>> for ParseRefused {
     }
 }
 
-/// The records of a file of more than nine bytes.
+/// Where a body stands in a file that has these bytes behind it.
+fn place_before(bytes: &[u8], body: &[u8], behind: &[u8]) -> Place
+    requires { length body.now + length behind.now ≤ length bytes.now }
+    ensures start { result.start + (length body.now + length behind.now) ≡ length bytes.now }
+    ensures length { result.length ≡ length body.now }
+{
+    Place {
+        start: bytes.len() - behind.len() - body.len(),
+        length: body.len(),
+    }
+}
+
+/// The records of a file of more than nine bytes. It takes memory for their places alone.
 pub fn parse(alloc: Global, bytes: &[u8]) -> Result<Parsed, ParseRefused>
     requires { 9 < length bytes.now }
-    ensures list { IfOk result (λ parsed. AreWithin parsed.bodies
-        × Loose (front parsed.format parsed.bodies) bytes.now) }
-    ensures gate { IfOk result (λ parsed. parsed.gate ≡ place_behind parsed.bodies) }
+    ensures inside { IfOk result (λ parsed. AreInside bytes.now parsed.places.items) }
+    ensures list { IfOk result (λ parsed. AreWithin (bodies_at bytes.now parsed.places.items)
+        × Loose (front parsed.format (bodies_at bytes.now parsed.places.items)) bytes.now) }
+    ensures gate { IfOk result (λ parsed. parsed.gate ≡ place_behind (bodies_at bytes.now parsed.places.items)) }
     ensures within { IfOk result (λ parsed. parsed.gate + 1 ≤ length bytes.now) }
     ensures damaged { (damage : Damage) → result ≡ Err (ParseRefused.Damaged damage) →
         IsDamaged bytes.now damage.at damage.entry }
@@ -124,29 +130,29 @@ pub fn parse(alloc: Global, bytes: &[u8]) -> Result<Parsed, ParseRefused>
 fn records(alloc: Global, format: Format, bytes: &[u8]) -> Result<Parsed, ParseRefused>
     requires long { 9 < length bytes.now }
     requires header { take 8 bytes.now ≡ header format }
-    ensures list { IfOk result (λ parsed. AreWithin parsed.bodies
-        × Loose (front parsed.format parsed.bodies) bytes.now) }
-    ensures gate { IfOk result (λ parsed. parsed.gate ≡ place_behind parsed.bodies) }
+    ensures inside { IfOk result (λ parsed. AreInside bytes.now parsed.places.items) }
+    ensures list { IfOk result (λ parsed. AreWithin (bodies_at bytes.now parsed.places.items)
+        × Loose (front parsed.format (bodies_at bytes.now parsed.places.items)) bytes.now) }
+    ensures gate { IfOk result (λ parsed. parsed.gate ≡ place_behind (bodies_at bytes.now parsed.places.items)) }
     ensures within { IfOk result (λ parsed. parsed.gate + 1 ≤ length bytes.now) }
     ensures damaged { (damage : Damage) → result ≡ Err (ParseRefused.Damaged damage) →
         IsDamaged bytes.now damage.at damage.entry }
 {
-    let mut bodies = Vec::new(alloc);
+    let mut places = Vec::new(alloc);
     let mut rest = &bytes[HEADER_SIZE as usize..];
     while let Some(behind) = behind_open(rest) {
         let Some((body, next)) = split_record(behind) else {
             let at = (bytes.len() - rest.len()) as u64;
-            let entry = bodies.len() as u64;
+            let entry = places.len() as u64;
             return Err(ParseRefused::Damaged(Damage { at, entry }));
         };
-        bodies.push(Bytes::from_slice(alloc, body)?)?;
+        places.push(place_before(bytes, body, next))?;
         rest = next;
     }
     let gate = (bytes.len() - rest.len()) as u64;
-    let bodies = List::new(bodies);
     Ok(Parsed {
         format,
-        bodies,
+        places,
         gate,
     })
 }

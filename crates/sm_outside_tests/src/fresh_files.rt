@@ -7,7 +7,7 @@ use crate::disks::content;
 use crate::rows::compare;
 use sm_base::{Bytes, Fails, List, NoMemory};
 use sm_disk::{DiskFailed, MemoryDisk};
-use sm_journal::{Damage, Format, Fresh, Journal, OpenRefused, named_file};
+use sm_journal::{Damage, Format, Fresh, Journal, OpenRefused, Records, named_file};
 use std::alloc::Global;
 use std::test::Fail;
 
@@ -91,8 +91,8 @@ fn switch(disk: MemoryDisk) -> Left {
 }
 
 /// Which records these are.
-fn came_of(format: Format, bodies: &[Bytes]) -> Came {
-    if format == Format::First && bodies.len() == 1 && bodies[0].as_slice() == OLD {
+fn came_of(format: Format, bodies: &Records) -> Came {
+    if format == Format::First && bodies.len() == 1 && bodies.body(0) == OLD {
         return Came::Old;
     }
     if format == Format::Second && are_new(bodies) {
@@ -101,19 +101,15 @@ fn came_of(format: Format, bodies: &[Bytes]) -> Came {
     Came::Other
 }
 
-fn are_new(bodies: &[Bytes]) -> bool {
-    bodies.len() == NEW.len()
-        && bodies
-            .iter()
-            .zip(&NEW)
-            .all(|(body, new)| body.as_slice() == *new)
+fn are_new(bodies: &Records) -> bool {
+    bodies.len() == 2 && bodies.body(0) == NEW[0] && bodies.body(1) == NEW[1]
 }
 
 /// What a disk recovers to.
 fn recovered(alloc: Global, mut disk: MemoryDisk) -> Came {
     match named_file(&mut disk) {
         Ok(file) => match Journal::open(alloc, disk, file, 1000, Format::Second) {
-            Ok((journal, bodies)) => came_of(journal.format(), bodies.as_slice()),
+            Ok((journal, bodies)) => came_of(journal.format(), &bodies),
             Err(_refused) => Came::Other,
         },
         Err(_) => Came::Other,

@@ -3,7 +3,7 @@ use crate::disks::content;
 use crate::rows::compare;
 use sm_base::{Bytes, Fails, List, NoMemory};
 use sm_disk::{Disk, MemoryDisk};
-use sm_journal::{Appended, Damage, Format, Journal, OpenRefused};
+use sm_journal::{Appended, Damage, Format, Journal, OpenRefused, Records};
 use std::alloc::{AllocError, Global};
 use std::test::Fail;
 
@@ -355,9 +355,9 @@ fn run(alloc: Global, disk: MemoryDisk) -> Left {
 }
 
 /// How many bodies there are, if they are just the first ones of a run.
-fn count_first(bodies: &[Bytes]) -> Option<usize> {
-    for (body, wanted) in bodies.iter().zip(&BODIES) {
-        if body.as_slice() != *wanted {
+fn count_first(bodies: &Records) -> Option<usize> {
+    for (index, wanted) in BODIES.iter().enumerate() {
+        if index < bodies.len() && bodies.body(index) != *wanted {
             return None;
         }
     }
@@ -367,7 +367,7 @@ fn count_first(bodies: &[Bytes]) -> Option<usize> {
 /// How many of the bodies stand on the disk, if it holds just the first ones.
 fn count(alloc: Global, disk: MemoryDisk) -> Option<usize> {
     match Journal::open(alloc, disk, 0, 1000, Format::First) {
-        Ok((_journal, bodies)) => count_first(bodies.as_slice()),
+        Ok((_journal, bodies)) => count_first(&bodies),
         Err(_refused) => None,
     }
 }

@@ -1,9 +1,16 @@
 -- Reading of things from bodies as a loop does it, and how much is left behind a field.
-use Rattle.std.proofs.Common.{◌≡◌, ℕ, zero, suc, ◌+◌, ◌-◌, ◌<◌, ◌≤◌, List, [], ◌∷◌, ◌++◌, length, take, get_or, Result, Ok, Err, refl, sym, ap, subst, ◌∙◌, append_assoc, append-nil, arith}
+use Rattle.std.proofs.Common.{◌≡◌, ℕ, zero, suc, ◌+◌, ◌-◌, ◌<◌, ◌≤◌, List, [], ◌∷◌, ◌++◌, length, take, drop, get_or, Result, Ok, Err, refl, sym, ap, subst, ◌∙◌, append_assoc, append-nil, length-drop, drop-drop, arith}
 use Rattle.std.specs.Prelude.{IfOk}
 use Rattle.std.proofs.lemmas.List.{take_more, take_all}
+use Rattle.sm_model.specs.declared.rows.SecretRow.{SecretRow}
+use Rattle.sm_model.specs.declared.rows.VersionRow.{VersionRow}
 use Rattle.sm_record.specs.Codec.{IsBytes, Codec}
-use Rattle.sm_record.specs.Series.{Series, AreBytes, total, then_bodies, read_times}
+use Rattle.sm_record.specs.Rows.{rows, secret, start, row_head, version, row_of, head_of_row, base_of_start, start_of_base}
+use Rattle.sm_record.specs.Series.{Series, AreBytes, total, one, then_bodies, then_times, renamed, read_body, read_times}
+use Rattle.sm_record.specs.declared.base.Base.{Base}
+use Rattle.sm_record.specs.declared.edition.Edition.{Edition}
+use Rattle.sm_record.specs.declared.row_parts.RowHead.{RowHead}
+use Rattle.sm_record.specs.declared.row_parts.Start.{Start}
 use Rattle.sm_record.specs.Reading.{Gives, Fails, LeftWithin}
 use Rattle.sm_record.specs.declared.unread.Unread.{Unread}
 use Rattle.sm_record.specs.declared.unread.Unread.TheVariants.{Left, Memory}
@@ -49,6 +56,67 @@ module _ {A : Type 0} (s : Series A) (front : List A) (count i : ℕ) (bodies : 
       let once : with_first front (read_times s (count - i) bodies) ≡ Ok (front, bodies) =
       rw k (ap (λ (items : List A). Ok (items, bodies)) (append-nil front)) in
       sym so_far ∙ once
+
+-- ---- bodies behind others
+
+-- a slice from a place on is what stands behind so many
+cut_is : (n : ℕ) (bodies : List (List ℕ)) → take (length bodies - n) (drop n bodies) ≡ drop n bodies
+cut_is n bodies = take_all (length bodies - n) (drop n bodies) (omega (arith, length-drop n bodies))
+
+module _ {A : Type 0} (s : Series A) (bodies : List (List ℕ)) (at : ℕ) where
+  -- what is read behind others ends where both end
+  pub read_behind : (a : A) (taken : ℕ)
+      → s.read (take (length bodies - at) (drop at bodies))
+      ≡ Ok (a, drop taken (take (length bodies - at) (drop at bodies)))
+      → s.read (drop at bodies) ≡ Ok (a, drop (at + taken) bodies)
+  read_behind a taken is =
+      subst (λ (l : List (List ℕ)). s.read l ≡ Ok (a, drop taken l)) (cut_is at bodies) is
+      ∙ ap (λ (rest : List (List ℕ)). Ok (a, rest)) (drop-drop taken at bodies)
+
+  pub fails_behind : (e : Unread) → Fails e (s.read (take (length bodies - at) (drop at bodies)))
+      → Fails e (s.read (drop at bodies))
+  fails_behind e fails = subst (λ (l : List (List ℕ)). Fails e (s.read l)) (cut_is at bodies) fails
+
+-- the others behind a thing are not read
+then_fails : {A B C : Type 0} (count : A → ℕ) (s : Series A) (t : Series B) (into : A × List B → C)
+    (out : C → A × List B) (bodies : List (List ℕ)) (first : ℕ) (a : A) (e : Unread)
+    → s.read bodies ≡ Ok (a, drop first bodies)
+    → Fails e (read_times t (count a) (take (length bodies - first) (drop first bodies)))
+    → Fails e ((renamed (then_times count s t) into out).read bodies)
+then_fails count s t into out bodies first a Memory is fails = tt
+then_fails count s t into out bodies first a (Left left) is fails =
+    let others : read_times t (count a) (drop first bodies) ≡ Err left =
+    subst (λ (l : List (List ℕ)). read_times t (count a) l ≡ Err left) (cut_is first bodies) fails in
+    rw (is, others) refl
+
+-- a secret whose versions are not read, and rows whose secrets are not
+pub secret_fails : (edition : Edition) (bodies : List (List ℕ)) (first : ℕ) (head : RowHead) (e : Unread)
+    → read_body (row_head edition) bodies ≡ Ok (head, drop first bodies)
+    → Fails e (read_times (one version) head.counted.versions (take (length bodies - first) (drop first bodies)))
+    → Fails e ((secret edition).read bodies)
+unfolding secret
+secret_fails edition bodies first head e is fails =
+    then_fails (λ (h : RowHead). h.counted.versions) (one (row_head edition)) (one version)
+    (λ (x : RowHead × List VersionRow). row_of x.0 x.1) (λ (row : SecretRow). (head_of_row row, row.versions)) bodies
+    first head e is fails
+
+pub rows_fail : (edition : Edition) (bodies : List (List ℕ)) (first : ℕ) (s : Start) (e : Unread)
+    → read_body start bodies ≡ Ok (s, drop first bodies)
+    → Fails e (read_times (secret edition) s.secrets (take (length bodies - first) (drop first bodies)))
+    → Fails e ((rows edition).read bodies)
+unfolding rows
+rows_fail edition bodies first s e is fails =
+    then_fails (λ (t : Start). t.secrets) (one start) (secret edition)
+    (λ (x : Start × List SecretRow). base_of_start x.0 x.1)
+    (λ (base : Base). (start_of_base base, base.rows.secrets)) bodies first s e is fails
+
+total_drop : (n : ℕ) (bodies : List (List ℕ)) → total (drop n bodies) ≤ total bodies
+total_drop zero bodies = omega arith
+total_drop (suc n) [] = omega arith
+total_drop (suc n) (body ∷ bodies) = omega (arith, total_drop n bodies)
+
+pub total_cut : (n : ℕ) (bodies : List (List ℕ)) → total (take (length bodies - n) (drop n bodies)) ≤ total bodies
+total_cut n bodies = omega (arith, total_drop n bodies, ap total (cut_is n bodies))
 
 -- ---- how much is left
 

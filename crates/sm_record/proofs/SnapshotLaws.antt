@@ -14,7 +14,7 @@ use Rattle.sm_record.specs.declared.edition.Edition.{Edition}
 use Rattle.sm_record.specs.declared.unread.DecodeRefused.{DecodeRefused}
 use Rattle.sm_record.specs.declared.unread.DecodeRefused.TheVariants.{NoEntry}
 use Rattle.sm_record.proofs.Bytes.{chosen}
-use Rattle.sm_record.proofs.SeriesLaws.{BeginsWith, brings, no_more}
+use Rattle.sm_record.proofs.SeriesLaws.{BeginsWith, brings}
 use Rattle.sm_record.proofs.RowLaws.{rows_orderly}
 
 abbrev whole_base : Base → Result Base ℕ
@@ -95,13 +95,6 @@ no_rows edition bodies result place exact is base fits same =
     base_no_place base place (told ∙ ap (decoded_rows edition) (sym same) ∙ snapshot_is_decoded edition base fits)
 
 -- what is left behind rows, and from a field on that is not spelled, is no more than all bodies
-pub rest_within_all : (edition : Edition) (bodies : List (List ℕ)) (base : Base) (rest : List (List ℕ)) → AreBytes
-    bodies
-    → (rows edition).read bodies ≡ Ok (base, rest) → total rest ≤ total bodies
-rest_within_all edition bodies base rest bytes h =
-    let p : BeginsWith (rows edition) bodies base rest = (rows_orderly edition).takes bodies base rest bytes h in
-    no_more bodies ((rows edition).spell base) rest p.parts
-
 pub left_within_all : (edition : Edition) (bodies : List (List ℕ)) (left : ℕ) → AreBytes bodies
     → (rows edition).read bodies ≡ Err left → left ≤ total bodies
 left_within_all edition bodies left bytes h = (rows_orderly edition).within bodies left bytes h

@@ -1,5 +1,5 @@
 //! Rows that are read from bodies.
-ghost use Rattle.std.specs.Prelude.{◌≡◌, ◌<◌, ◌≤◌, ◌^◌, ℕ, List, length, IfOk};
+ghost use Rattle.std.specs.Prelude.{◌≡◌, ◌<◌, ◌≤◌, ◌^◌, ℕ, List, length, drop, IfOk};
 ghost use Rattle.sm_record.specs.Codec.{Codec};
 ghost use Rattle.sm_record.specs.Reading.{Gives, LeftWithin};
 ghost use Rattle.sm_record.specs.Rows as rows;
@@ -7,12 +7,13 @@ ghost use Rattle.sm_record.specs.Series.{Series, one, total, read_body, read_tim
 ghost use Rattle.sm_record.specs.declared.edition.Edition.{Edition};
 
 use crate::base::Base;
+use crate::body_slice::BodySlice;
 use crate::edition::Edition;
 use crate::field::Field;
 use crate::heads::{row_head_at, start_at};
 use crate::row_parts::{RowHead, Start};
 use crate::unread::Unread;
-use sm_model::{Bytes, List, SecretRow, SharedList, VersionRow};
+use sm_model::{List, SecretRow, SharedList, VersionRow};
 use std::alloc::Global;
 
 /// What is spelled as one body.
@@ -60,7 +61,7 @@ impl Body for VersionRow {
 }
 
 /// How many bytes bodies have together.
-pub fn total(bodies: &[Bytes]) -> usize
+pub fn total(bodies: &[BodySlice<'_>]) -> usize
     requires { total bodies.now < 2 ^ 64 }
     ensures { result ≡ total bodies.now }
 {
@@ -71,22 +72,22 @@ pub fn total(bodies: &[Bytes]) -> usize
     sum
 }
 
-/// The thing of the first body, all of the body, and the bodies behind it.
-fn body_at<'a, A: Body>(
+/// The thing of the first body, all of the body, and how many bodies it has, which is one.
+fn body_at<A: Body>(
     alloc: Global,
     edition: Edition,
-    bodies: &'a [Bytes],
-) -> Result<(A, &'a [Bytes]), Unread>
+    bodies: &[BodySlice<'_>],
+) -> Result<(A, usize), Unread>
     requires { total bodies.now < 2 ^ 64 }
-    ensures exact { Gives (λ x. (x.0, x.1.now)) result (read_body (A.codec edition) bodies.now) }
-    ensures fewer { IfOk result (λ x. total x.1.now ≤ total bodies.now) }
+    ensures exact { Gives (λ x. (x.0, drop x.1 bodies.now)) result (read_body (A.codec edition) bodies.now) }
+    ensures within { IfOk result (λ x. x.1 ≤ length bodies.now) }
 {
     match bodies {
         [] => Err(Unread::Left(0)),
         [body, behind @ ..] => match A::read_body(alloc, edition, body.as_slice()) {
             Ok((thing, rest)) => {
                 if rest.is_empty() {
-                    Ok((thing, behind))
+                    Ok((thing, 1))
                 } else {
                     drop(thing);
                     Err(Unread::Left(rest.len() + total(behind)))
@@ -103,46 +104,47 @@ pub trait Sequel: Drop {
     /// How it is spelled in a format.
     ghost series: { Edition → Series Self };
 
-    /// Reads one at the front of bodies, and gives the bodies behind it too.
-    fn read_bodies<'a>(
+    /// Reads one at the front of bodies, and gives how many bodies it has too.
+    fn read_bodies(
         alloc: Global,
         edition: Edition,
-        bodies: &'a [Bytes],
-    ) -> Result<(Self, &'a [Bytes]), Unread>
+        bodies: &[BodySlice<'_>],
+    ) -> Result<(Self, usize), Unread>
         requires { total bodies.now < 2 ^ 64 }
-        ensures exact { Gives (λ x. (x.0, x.1.now)) result ((series edition).read bodies.now) }
-        ensures fewer { IfOk result (λ x. total x.1.now ≤ total bodies.now) };
+        ensures exact { Gives (λ x. (x.0, drop x.1 bodies.now)) result ((series edition).read bodies.now) }
+        ensures within { IfOk result (λ x. x.1 ≤ length bodies.now) };
 }
 
-/// So many things. Memory is taken for those that are there alone.
-fn times_at<'a, A: Sequel>(
+/// So many things, and how many bodies they have. Memory is taken for those that are there alone.
+fn times_at<A: Sequel>(
     alloc: Global,
     edition: Edition,
     count: u64,
-    bodies: &'a [Bytes],
-) -> Result<(Vec<A>, &'a [Bytes]), Unread>
+    bodies: &[BodySlice<'_>],
+) -> Result<(Vec<A>, usize), Unread>
     requires { total bodies.now < 2 ^ 64 }
-    ensures exact { Gives (λ x. (x.0.items, x.1.now)) result (read_times (A.series edition) count bodies.now) }
-    ensures fewer { IfOk result (λ x. total x.1.now ≤ total bodies.now) }
+    ensures exact { Gives (λ x. (x.0.items, drop x.1 bodies.now)) result
+        (read_times (A.series edition) count bodies.now) }
+    ensures within { IfOk result (λ x. x.1 ≤ length bodies.now) }
 {
     let mut items = Vec::new(alloc);
-    let mut rest = bodies;
+    let mut at = 0;
     for _ in 0..count {
-        let (item, behind) = A::read_bodies(alloc, edition, rest)?;
+        let (item, taken) = A::read_bodies(alloc, edition, &bodies[at..])?;
         items.push(item)?;
-        rest = behind;
+        at += taken;
     }
-    Ok((items, rest))
+    Ok((items, at))
 }
 
 impl Sequel for VersionRow {
     ghost series = { λ _. one rows.version };
 
-    fn read_bodies<'a>(
+    fn read_bodies(
         alloc: Global,
         edition: Edition,
-        bodies: &'a [Bytes],
-    ) -> Result<(VersionRow, &'a [Bytes]), Unread> {
+        bodies: &[BodySlice<'_>],
+    ) -> Result<(VersionRow, usize), Unread> {
         body_at::<VersionRow>(alloc, edition, bodies)
     }
 }
@@ -151,34 +153,35 @@ impl Sequel for SecretRow {
     ghost series = { rows.secret };
 
     #[tactic(auto, unfolding(crate::specs::Rows::secret))]
-    fn read_bodies<'a>(
+    fn read_bodies(
         alloc: Global,
         edition: Edition,
-        bodies: &'a [Bytes],
-    ) -> Result<(SecretRow, &'a [Bytes]), Unread> {
-        let (head, rest) = body_at::<RowHead>(alloc, edition, bodies)?;
-        let (versions, behind) = times_at::<VersionRow>(
+        bodies: &[BodySlice<'_>],
+    ) -> Result<(SecretRow, usize), Unread> {
+        let (head, first) = body_at::<RowHead>(alloc, edition, bodies)?;
+        let (versions, others) = times_at::<VersionRow>(
             alloc,
             edition,
             head.counted.versions,
-            rest,
+            &bodies[first..],
         )?;
         let versions = SharedList::from_vec(alloc, versions)?;
-        Ok((head.row(versions), behind))
+        Ok((head.row(versions), first + others))
     }
 }
 
-/// All rows, and the bodies behind them.
+/// All rows, and how many bodies they have.
 #[tactic(auto, unfolding(crate::specs::Rows::rows))]
-pub fn base_at<'a>(
+pub fn base_at(
     alloc: Global,
     edition: Edition,
-    bodies: &'a [Bytes],
-) -> Result<(Base, &'a [Bytes]), Unread>
+    bodies: &[BodySlice<'_>],
+) -> Result<(Base, usize), Unread>
     requires { total bodies.now < 2 ^ 64 }
-    ensures { Gives (λ x. (x.0, x.1.now)) result ((rows.rows edition).read bodies.now) }
+    ensures exact { Gives (λ x. (x.0, drop x.1 bodies.now)) result ((rows.rows edition).read bodies.now) }
+    ensures within { IfOk result (λ x. x.1 ≤ length bodies.now) }
 {
-    let (start, rest) = body_at::<Start>(alloc, edition, bodies)?;
-    let (secrets, behind) = times_at::<SecretRow>(alloc, edition, start.secrets, rest)?;
-    Ok((start.base(List::new(secrets)), behind))
+    let (start, first) = body_at::<Start>(alloc, edition, bodies)?;
+    let (secrets, others) = times_at::<SecretRow>(alloc, edition, start.secrets, &bodies[first..])?;
+    Ok((start.base(List::new(secrets)), first + others))
 }

@@ -17,6 +17,7 @@
 mod acts;
 mod base;
 mod bodies;
+mod body_slice;
 pub mod edition;
 mod entries;
 mod field;
@@ -37,6 +38,7 @@ mod unread;
 mod values;
 
 pub use base::Base;
+pub use body_slice::BodySlice;
 pub use edition::Edition;
 pub use snapshot::{decode_rows, encode_row, encode_start, encode_version, one_snapshot};
 pub use spelling::{decode, encode, encode_first, has_spelling, one_spelling};

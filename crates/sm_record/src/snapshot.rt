@@ -10,6 +10,7 @@ ghost use Rattle.sm_record.specs.declared.base.Base.{Base};
 
 use crate::base::Base;
 use crate::bodies::{base_at, total};
+use crate::body_slice::BodySlice;
 use crate::edition::Edition;
 use crate::field::Field;
 use crate::heads::{put_row_head, put_start};
@@ -63,8 +64,12 @@ pub fn encode_version(
 
 /// The rows that bodies spell in this format, all of them. Bodies that are no spelling of rows are told by the place
 /// among all their bytes of the first field that is not spelled, of the first byte behind what a body has, or of the
-/// first body behind the rows.
-pub fn decode_rows(alloc: Global, edition: Edition, bodies: &[Bytes]) -> Result<Base, DecodeRefused>
+/// first body behind the rows. It takes memory for the rows alone.
+pub fn decode_rows(
+    alloc: Global,
+    edition: Edition,
+    bodies: &[BodySlice<'_>],
+) -> Result<Base, DecodeRefused>
     // What is decoded has a spelling, and the bodies are it.
     ensures found { IfOk result (λ base. HasSnapshot edition base × (snapshot edition base ≡ bodies.now)) }
     // A spelling is decoded, unless there is no memory.
@@ -89,7 +94,7 @@ fn note_bytes(bytes: &[u8])
 {}
 
 /// Each number of each body is a byte.
-fn note_all(bodies: &[Bytes])
+fn note_all(bodies: &[BodySlice<'_>])
     ensures { AreBytes bodies.now }
 {
     for body in bodies {
@@ -98,7 +103,7 @@ fn note_all(bodies: &[Bytes])
 }
 
 /// How many bytes bodies have together, if a machine word says it.
-fn checked_total(bodies: &[Bytes]) -> Option<usize>
+fn checked_total(bodies: &[BodySlice<'_>]) -> Option<usize>
     ensures { IfSome result (λ sum. sum ≡ total bodies.now) }
 {
     let mut sum = 0;
@@ -116,7 +121,7 @@ fn checked_total(bodies: &[Bytes]) -> Option<usize>
 fn decode_all(
     alloc: Global,
     edition: Edition,
-    bodies: &[Bytes],
+    bodies: &[BodySlice<'_>],
     whole: usize,
 ) -> Result<Base, DecodeRefused>
     requires whole { whole ≡ total bodies.now }
@@ -124,12 +129,13 @@ fn decode_all(
     ensures { OrMemory (rows_told result) (decoded_rows edition bodies.now) }
 {
     match base_at(alloc, edition, bodies) {
-        Ok((base, rest)) => {
-            if rest.is_empty() {
+        Ok((base, taken)) => {
+            let behind = &bodies[taken..];
+            if behind.is_empty() {
                 Ok(base)
             } else {
                 drop(base);
-                Err(DecodeRefused::NoEntry(whole - total(rest)))
+                Err(DecodeRefused::NoEntry(whole - total(behind)))
             }
         }
         Err(Unread::Left(left)) => Err(DecodeRefused::NoEntry(whole - left)),

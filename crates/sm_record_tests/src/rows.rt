@@ -1,7 +1,7 @@
 //! Rows that are read from bodies, and bodies that are no rows.
 use crate::spellings::field_at;
 use sm_model::{Bytes, Copied, NoMemory, SecretRow};
-use sm_record::{Base, DecodeRefused, Edition, decode_rows};
+use sm_record::{Base, BodySlice, DecodeRefused, Edition, decode_rows};
 use std::alloc::Global;
 use std::test::Fail;
 
@@ -122,9 +122,19 @@ fn bodies_of(alloc: Global, digits: &[&'static str]) -> Result<Vec<Bytes>, Fail>
     Ok(bodies)
 }
 
+/// The bodies where they stand.
+fn slices_of<'a>(alloc: Global, bodies: &'a [Bytes]) -> Result<Vec<BodySlice<'a>>, NoMemory> {
+    let mut slices = Vec::new(alloc);
+    for body in bodies {
+        slices.push(BodySlice::new(body.as_slice()))?;
+    }
+    Ok(slices)
+}
+
 /// The place of the refusal, or none.
 fn place(alloc: Global, edition: Edition, bodies: &[Bytes]) -> Result<Option<usize>, Fail> {
-    match decode_rows(alloc, edition, bodies) {
+    let slices = slices_of(alloc, bodies)?;
+    match decode_rows(alloc, edition, slices.as_slice()) {
         Ok(_) => Ok(None),
         Err(DecodeRefused::NoEntry(place)) => Ok(Some(place)),
         Err(DecodeRefused::Memory) => Err(Fail::from("no memory")),
@@ -166,7 +176,8 @@ fn are_both(base: &Base, edition: Edition) -> bool {
 /// Whether the two secrets are read from these digits.
 fn is_read(alloc: Global, edition: Edition, digits: &[&'static str]) -> Result<bool, Fail> {
     let bodies = bodies_of(alloc, digits)?;
-    match decode_rows(alloc, edition, bodies.as_slice()) {
+    let slices = slices_of(alloc, bodies.as_slice())?;
+    match decode_rows(alloc, edition, slices.as_slice()) {
         Ok(base) => Ok(are_both(&base, edition)),
         Err(_) => Ok(false),
     }
@@ -292,7 +303,8 @@ fn is_pending(row: &SecretRow) -> bool {
 #[test]
 fn a_version_may_have_no_value(rt: HostRuntime) -> Result<(), Fail> {
     let bodies = bodies_of(rt.alloc(), &PENDING)?;
-    match decode_rows(rt.alloc(), Edition::Second, bodies.as_slice()) {
+    let slices = slices_of(rt.alloc(), bodies.as_slice())?;
+    match decode_rows(rt.alloc(), Edition::Second, slices.as_slice()) {
         Ok(base) => {
             let secrets = base.rows.secrets.as_slice();
             assert!(rt; secrets.len() == 1 && is_pending(&secrets[0]));

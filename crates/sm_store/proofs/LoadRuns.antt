@@ -1,6 +1,8 @@
 -- What a list of bodies holds, from what its parts hold.
-use Rattle.std.proofs.Common.{◌≡◌, ℕ, ◌+◌, ◌<◌, ◌^◌, List, ◌++◌, map, length, take, get_or, Option, Result, Err, ap, ◌∙◌, inl, inr, arith, take-append-drop}
-use Rattle.std.proofs.lemmas.List.{length-take, take_more}
+use Rattle.std.proofs.Common.{◌≡◌, ℕ, ◌+◌, ◌<◌, ◌≤◌, ◌^◌, true, false, List, [], ◌∷◌, ◌++◌, map, length, take, drop, get_or, Option, Result, Err, sym, ap, subst, ◌∙◌, inl, inr, arith, take-append-drop}
+use Rattle.std.proofs.lemmas.List.{length-take, take_more, get_or-drop, get_or_default}
+use Rattle.std.proofs.lemmas.List.Sums.{prefix_len-drop_yes, prefix_len-drop_no, prefix_len-drop_all, prefix_len-le-length}
+use Rattle.std.specs.List.{prefix_len}
 use Rattle.sm_journal.proofs.Front.{size-push}
 use Rattle.sm_journal.specs.Records.{size, place_behind}
 use Rattle.sm_record.specs.declared.base.Base.{Base}
@@ -8,10 +10,48 @@ use Rattle.sm_record.specs.declared.edition.Edition.{Edition}
 use Rattle.sm_record.specs.Spelling.{spelling}
 use Rattle.sm_store.specs.BaseOpenings.{Loads}
 use Rattle.sm_store.specs.Held.{AreEntries, IsSnapshot, base_bodies}
-use Rattle.sm_store.specs.Loading.{marked_count, marked, behind_marked, IsNoSnapshot, IsNoEntryIn, IsUnheld}
+use Rattle.sm_store.specs.Loading.{is_marked, marked_count, IsNoSnapshot, IsNoEntryIn, IsUnheld}
 use Rattle.sm_store.specs.declared.entries.EntriesRefused.{EntriesRefused}
 use Rattle.sm_store.specs.declared.loading.Loaded.{Loaded}
+use Rattle.sm_store.proofs.FillRuns.{size-append}
 use Rattle.sm_store.proofs.ReadingRuns.{size_take}
+
+-- a body that stands in a list stands there whatever is told where the list ends
+pub here_body : (bodies : List (List ℕ)) (i : ℕ) (body : List ℕ) → i < length bodies → body ≡ get_or bodies i []
+    → body ≡ get_or bodies i body
+here_body bodies i body lt is = is ∙ get_or_default bodies i [] body lt
+
+-- and so does one among those behind the first
+pub body_behind : (bodies : List (List ℕ)) (count i : ℕ) (body : List ℕ) → count + i < length bodies
+    → body ≡ get_or bodies (count + i) [] → body ≡ get_or (drop count bodies) i body
+body_behind bodies count i body lt is = here_body bodies (count + i) body lt is ∙ sym (get_or-drop count bodies i body)
+
+-- one of the first bodies more
+pub one_more : (bodies front more : List (List ℕ)) (i : ℕ) (body : List ℕ) → i < length bodies
+    → body ≡ get_or bodies i [] → front ≡ take i bodies → more ≡ front ++ body ∷ [] → more ≡ take (i + 1) bodies
+one_more bodies front more i body lt is so_far pushed = pushed ∙ ap (λ (l : List (List ℕ)). l ++ body ∷ []) so_far
+    ∙ ap (λ (b : List ℕ). take i bodies ++ b ∷ []) is ∙ sym (take_more bodies i [] lt)
+
+-- the count of the first bodies that are of rows goes on, or ends
+module _ (bodies : List (List ℕ)) (i : ℕ)
+    (so_far : marked_count bodies ≡ i + prefix_len is_marked (drop i bodies)) where
+  pub marked_more : (body : List ℕ) → i < length bodies → body ≡ get_or bodies i [] → true ≡ is_marked body
+      → marked_count bodies ≡ (i + 1) + prefix_len is_marked (drop (i + 1) bodies)
+  marked_more body lt is marked =
+      omega (arith, so_far, prefix_len-drop_yes is_marked bodies i [] lt (ap is_marked (sym is) ∙ sym marked))
+
+  pub marked_until : (body : List ℕ) → i < length bodies → body ≡ get_or bodies i [] → false ≡ is_marked body
+      → i ≡ marked_count bodies
+  marked_until body lt is other =
+      omega (arith, so_far, prefix_len-drop_no is_marked bodies i [] lt (ap is_marked (sym is) ∙ sym other))
+
+  pub all_marked : length bodies ≤ i → length bodies ≡ marked_count bodies
+  all_marked le = omega (
+    arith,
+    so_far,
+    prefix_len-drop_all is_marked bodies i le,
+    prefix_len-le-length is_marked bodies,
+  )
 
 -- the place behind one body more
 module _ (bodies : List (List ℕ)) (i place : ℕ) (body : List ℕ) (lt : i < length bodies)
@@ -29,35 +69,47 @@ module _ (bodies : List (List ℕ)) (i place : ℕ) (body : List ℕ) (lt : i < 
   place_fits fits = omega (arith, next_place, size_take (i + 1) bodies)
 
 -- a base, or none, and the entries behind it
-pub loads_both : (edition : Edition) (file : ℕ) (front rest : List (List ℕ)) (loaded : Loaded)
-    → IsSnapshot edition loaded.base → front ≡ base_bodies edition loaded.base → AreEntries edition loaded.entries
-    → rest ≡ map (spelling edition) loaded.entries → loaded.file ≡ file → loaded.gate ≡ place_behind front
-    → Loads edition file (front ++ rest) loaded
-loads_both edition file front rest loaded base front_is entries rest_is file_is gate_is = record {
+pub loads_both : (edition : Edition) (file : ℕ) (bodies : List (List ℕ)) (count : ℕ) (loaded : Loaded)
+    → IsSnapshot edition loaded.base → take count bodies ≡ base_bodies edition loaded.base
+    → AreEntries edition loaded.entries → drop count bodies ≡ map (spelling edition) loaded.entries
+    → loaded.file ≡ file → loaded.gate ≡ place_behind (take count bodies) → Loads edition file bodies loaded
+loads_both edition file bodies count loaded base front_is entries rest_is file_is gate_is = record {
   spelled = record { base = base; entries = entries };
-  bodies_are = ap (λ (l : List (List ℕ)). l ++ rest) front_is
+  bodies_are = sym (take-append-drop count bodies) ∙ ap (λ (l : List (List ℕ)). l ++ drop count bodies) front_is
       ∙ ap (λ (l : List (List ℕ)). base_bodies edition loaded.base ++ l) rest_is;
   file_is = file_is;
   gate = gate_is ∙ ap place_behind front_is;
 }
 
--- the two parts of bodies are all of them
-pub parts_are_all : (bodies : List (List ℕ)) → marked bodies ++ behind_marked bodies ≡ bodies
-parts_are_all bodies = take-append-drop (marked_count bodies) bodies
+-- what stands behind the first bodies has no more bytes than all
+pub size_behind : (count : ℕ) (bodies : List (List ℕ))
+    → size (take count bodies) + size (drop count bodies) ≡ size bodies
+size_behind count bodies = sym (size-append (take count bodies) (drop count bodies))
+    ∙ ap size (take-append-drop count bodies)
 
 -- behind bodies that are a base, or none, stands one that is no entry
-pub no_entry : (edition : Edition) (bodies : List (List ℕ)) (base : Option Base) (at entry : ℕ)
-    → IsSnapshot edition base → marked bodies ≡ base_bodies edition base
-    → IsNoEntryIn edition (behind_marked bodies) (place_behind (marked bodies)) (length (marked bodies)) at entry
+pub no_entry : (edition : Edition) (bodies : List (List ℕ)) (count : ℕ) (base : Option Base) (at entry : ℕ)
+    → count ≡ marked_count bodies → IsSnapshot edition base → take count bodies ≡ base_bodies edition base
+    → IsNoEntryIn edition (drop count bodies) (place_behind (take count bodies)) (length (take count bodies)) at entry
     → IsUnheld edition bodies at entry
-no_entry edition bodies base at entry spelled front behind =
-    inr (record { base = base; spelled = spelled; front = front; behind = behind })
+no_entry edition bodies count base at entry marked spelled front behind =
+    inr (record {
+      base = base;
+      spelled = spelled;
+      front = sym (ap (λ (n : ℕ). take n bodies) marked) ∙ front;
+      behind = subst (λ (n : ℕ). IsNoEntryIn edition (drop n bodies) (place_behind (take n bodies))
+          (length (take n bodies)) at entry) marked behind;
+    })
 
 -- the first bodies are of rows and no base
-pub no_base : (edition : Edition) (bodies : List (List ℕ)) (at entry : ℕ) → 0 < length (marked bodies)
-    → IsNoSnapshot edition (marked bodies) at entry → IsUnheld edition bodies at entry
-no_base edition bodies at entry some none =
-    inl (omega (arith, some, length-take (marked_count bodies) bodies), none)
+pub no_base : (edition : Edition) (bodies : List (List ℕ)) (count at entry : ℕ) → count ≡ marked_count bodies
+    → 0 < length (take count bodies) → IsNoSnapshot edition (take count bodies) at entry
+    → IsUnheld edition bodies at entry
+no_base edition bodies count at entry marked some none =
+    inl (
+      omega (arith, some, marked, length-take count bodies),
+      subst (λ (n : ℕ). IsNoSnapshot edition (take n bodies) at entry) marked none,
+    )
 
 -- one refusal, whatever was wanted
 pub same_refusal : {A B : Type 0} (x y : EntriesRefused) → ◌≡◌ {A = Result A EntriesRefused} (Err x) (Err y)

@@ -18,9 +18,8 @@ ghost use Rattle.sm_store.specs.Held.{base_bodies};
 use crate::base_store::BaseStore;
 use crate::entries::EntriesRefused;
 use crate::loading::{Loaded, load};
-use sm_base::{Bytes, List};
 use sm_disk::Disk;
-use sm_journal::{Format, Journal, OpenRefused, named_file};
+use sm_journal::{Format, Journal, OpenRefused, Records, named_file};
 use sm_record::Edition;
 use std::alloc::Global;
 
@@ -40,14 +39,14 @@ fn open_over<D: Disk>(
     journal: Journal<D>,
     file: u8,
     limit: u64,
-    bodies: &List<Bytes>,
+    bodies: &Records,
 ) -> Result<(BaseStore<D>, Loaded), OpenRefused<D>>
     requires two { file < 2 }
     requires opened { journals.IsOpened file limit bodies.now journal }
     ensures opened { IfOk result (OpensOver journal file bodies.now) }
     ensures refused { IfErr result (IsUnloaded journal bodies.now) }
 {
-    match load(alloc, edition_of(journal.format()), file, bodies.as_slice()) {
+    match load(alloc, edition_of(journal.format()), file, bodies) {
         Ok(loaded) => Ok((BaseStore::over(journal, file, limit), loaded)),
         Err(EntriesRefused::Damaged(damage)) => Err(OpenRefused::Damaged(journal.close(), damage)),
         Err(EntriesRefused::Memory) => Err(OpenRefused::Memory(journal.close())),
@@ -90,7 +89,7 @@ impl<D: Disk> BaseStore<D> {
     /// none, and entries. It is damaged where it is outside the grammar; or at its first gate, where its first bodies
     /// are of rows and no base's spelling; or where a body behind them is no entry's: the place is the byte of the
     /// record's gate, or 0 for the header, and the number is that of the records before it. An error hands the disk
-    /// back.
+    /// back. The file's bytes are kept once until the base and the entries are read from them.
     pub fn open(
         alloc: Global,
         mut disk: D,

@@ -6,8 +6,8 @@ ghost use Rattle.sm_record.specs.Spelling.{spelling};
 ghost use Rattle.sm_store.specs.Entries.{AreSpelled, IsUnspelledIn};
 ghost use Rattle.sm_store.specs.declared.entries.EntriesRefused.TheVariants.{Memory};
 
-use sm_base::{Bytes, List};
-use sm_journal::{Damage, HEADER_SIZE, record_size};
+use sm_base::List;
+use sm_journal::{Damage, HEADER_SIZE, Records, record_size};
 use sm_model::Entry;
 use sm_record::{DecodeRefused, Edition, decode};
 use std::alloc::{AllocFailed, Global};
@@ -29,7 +29,7 @@ impl<T: Drop> From<AllocFailed<T>> for EntriesRefused {
 }
 
 /// The entries that these bodies spell.
-pub fn entries(alloc: Global, bodies: &[Bytes]) -> Result<List<Entry>, EntriesRefused>
+pub fn entries(alloc: Global, bodies: &Records) -> Result<List<Entry>, EntriesRefused>
     requires { place_behind bodies.now < 2 ^ 64 }
     ensures list { IfOk result (λ list. AreSpelled list × (bodies.now ≡ map (spelling Edition.First) list)) }
     ensures damaged { (damage : Damage) → result ≡ Err (EntriesRefused.Damaged damage) →
@@ -37,8 +37,8 @@ pub fn entries(alloc: Global, bodies: &[Bytes]) -> Result<List<Entry>, EntriesRe
 {
     let mut list = Vec::new(alloc);
     let mut at = HEADER_SIZE;
-    for body in bodies {
-        let bytes = body.as_slice();
+    for index in 0..bodies.len() {
+        let bytes = bodies.body(index);
         match decode(alloc, Edition::First, bytes) {
             Ok(entry) => list.push(entry)?,
             Err(DecodeRefused::NoEntry(_)) => {

@@ -17,6 +17,6 @@ pub use base_laws::{a_file_holds_one_thing, a_kept_list_holds_the_same, what_a_b
 pub use base_store::BaseStore;
 pub use files::JOURNAL;
 pub use laws::{a_file_has_one_list, what_stands};
-pub use loading::Loaded;
+pub use loading::{Loaded, is_marked};
 pub use sm_journal::{Appended, Damage, OpenRefused};
 pub use store::Store;

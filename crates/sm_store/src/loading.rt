@@ -1,5 +1,5 @@
 //! What a list of bodies holds, without the disk.
-ghost use Rattle.std.specs.Prelude.{◌≡◌, ◌≤◌, ◌<◌, ◌+◌, ◌^◌, ◌++◌, ℕ, map, length, IfOk, Err};
+ghost use Rattle.std.specs.Prelude.{◌≡◌, ◌≤◌, ◌<◌, ◌+◌, ◌^◌, ℕ, map, length, take, drop, IfOk, Err};
 ghost use Rattle.sm_journal.specs.Records.{size, place_behind};
 ghost use Rattle.sm_journal.specs.declared.parse.Damage.{Damage};
 ghost use Rattle.sm_record.specs.Spelling.{spelling};
@@ -8,10 +8,10 @@ ghost use Rattle.sm_store.specs.BaseOpenings.{Loads};
 ghost use Rattle.sm_store.specs.Loading as loading;
 
 use crate::entries::EntriesRefused;
-use sm_base::{Bytes, List};
-use sm_journal::{Damage, HEADER_SIZE, record_size};
+use sm_base::{List, NoMemory};
+use sm_journal::{Damage, HEADER_SIZE, Records, record_size};
 use sm_model::Entry;
-use sm_record::{Base, DecodeRefused, Edition, decode, decode_rows};
+use sm_record::{Base, BodySlice, DecodeRefused, Edition, decode, decode_rows};
 use std::alloc::Global;
 
 /// The least of the bytes that a body of rows begins with.
@@ -32,8 +32,8 @@ pub struct Loaded {
     pub gate: u64,
 }
 
-/// Whether a body begins with one of the bytes of rows.
-fn is_marked(body: &[u8]) -> bool
+/// Whether a body begins with one of the bytes of rows: it is one of a base, and no entry's. It takes no memory.
+pub fn is_marked(body: &[u8]) -> bool
     ensures { result ≡ loading.is_marked body.now }
 {
     match body {
@@ -43,32 +43,51 @@ fn is_marked(body: &[u8]) -> bool
 }
 
 /// How many of the first bodies are of rows.
-fn marked_count(bodies: &[Bytes]) -> usize
+fn marked_count(bodies: &Records) -> usize
     ensures { result ≡ loading.marked_count bodies.now }
 {
-    bodies
-        .iter()
-        .take_while(|body| is_marked(body.as_slice()))
-        .count()
+    for index in 0..bodies.len() {
+        if !is_marked(bodies.body(index)) {
+            return index;
+        }
+    }
+    bodies.len()
 }
 
-/// The place of the gate behind the records of these bodies.
-fn place_behind(bodies: &[Bytes]) -> u64
-    requires { place_behind bodies.now < 2 ^ 64 }
-    ensures { result ≡ place_behind bodies.now }
+/// The place of the gate behind the records of the first bodies, so many.
+fn place_behind(bodies: &Records, count: usize) -> u64
+    requires within { count ≤ length bodies.now }
+    requires fits { place_behind bodies.now < 2 ^ 64 }
+    ensures { result ≡ place_behind (take count bodies.now) }
 {
     let mut place = HEADER_SIZE;
-    for body in bodies {
-        place += record_size(body.as_slice());
+    for index in 0..count {
+        place += record_size(bodies.body(index));
     }
     place
+}
+
+/// The first bodies, so many. It takes memory for their places alone.
+fn first_bodies<'a>(
+    alloc: Global,
+    bodies: &'a Records,
+    count: usize,
+) -> Result<Vec<BodySlice<'a>>, NoMemory>
+    requires { count ≤ length bodies.now }
+    ensures { IfOk result (λ front. front.items ≡ take count bodies.now) }
+{
+    let mut front = Vec::new(alloc);
+    for index in 0..count {
+        front.push(BodySlice::new(bodies.body(index)))?;
+    }
+    Ok(front)
 }
 
 /// The base that these bodies spell, all of them, or none where there are none.
 fn base_in(
     alloc: Global,
     edition: Edition,
-    bodies: &[Bytes],
+    bodies: &[BodySlice<'_>],
 ) -> Result<Option<Base>, EntriesRefused>
     ensures base { IfOk result (λ base. IsSnapshot edition base × (bodies.now ≡ base_bodies edition base)) }
     ensures damaged { (damage : Damage) → result ≡ Err (EntriesRefused.Damaged damage) →
@@ -88,28 +107,50 @@ fn base_in(
     }
 }
 
-/// The entries that these bodies spell, of which the first has its gate at this place behind so many others.
-fn entries_in(
+/// The base that the first bodies spell, so many, or none where it is none of them.
+fn base_before(
     alloc: Global,
     edition: Edition,
-    bodies: &[Bytes],
-    gate: u64,
-    before: usize,
-) -> Result<List<Entry>, EntriesRefused>
-    requires place { gate + size bodies.now < 2 ^ 64 }
-    requires number { before + length bodies.now < 2 ^ 64 }
-    ensures list { IfOk result (λ list. AreEntries edition list × (bodies.now ≡ map (spelling edition) list)) }
+    bodies: &Records,
+    count: usize,
+) -> Result<Option<Base>, EntriesRefused>
+    requires { count ≤ length bodies.now }
+    ensures base { IfOk result (λ base. IsSnapshot edition base
+        × (take count bodies.now ≡ base_bodies edition base)) }
     ensures damaged { (damage : Damage) → result ≡ Err (EntriesRefused.Damaged damage) →
-        loading.IsNoEntryIn edition bodies.now gate before damage.at damage.entry }
+        loading.IsNoSnapshot edition (take count bodies.now) damage.at damage.entry }
+    ensures some { (damage : Damage) → result ≡ Err (EntriesRefused.Damaged damage) →
+        0 < length (take count bodies.now) }
+{
+    match first_bodies(alloc, bodies, count) {
+        Ok(front) => base_in(alloc, edition, front.as_slice()),
+        Err(_) => Err(EntriesRefused::Memory),
+    }
+}
+
+/// The entries that the bodies behind the first spell, so many, of which the first has its gate at this place.
+fn entries_behind(
+    alloc: Global,
+    edition: Edition,
+    bodies: &Records,
+    count: usize,
+    gate: u64,
+) -> Result<List<Entry>, EntriesRefused>
+    requires within { count ≤ length bodies.now }
+    requires place { gate + size (drop count bodies.now) < 2 ^ 64 }
+    ensures list { IfOk result (λ list. AreEntries edition list
+        × (drop count bodies.now ≡ map (spelling edition) list)) }
+    ensures damaged { (damage : Damage) → result ≡ Err (EntriesRefused.Damaged damage) →
+        loading.IsNoEntryIn edition (drop count bodies.now) gate count damage.at damage.entry }
 {
     let mut list = Vec::new(alloc);
     let mut at = gate;
-    for body in bodies {
-        let bytes = body.as_slice();
+    for number in 0..bodies.len() - count {
+        let bytes = bodies.body(count + number);
         match decode(alloc, edition, bytes) {
             Ok(entry) => list.push(entry)?,
             Err(DecodeRefused::NoEntry(_)) => {
-                let entry = (before + list.len()) as u64;
+                let entry = (count + number) as u64;
                 return Err(EntriesRefused::Damaged(Damage { at, entry }));
             }
             Err(DecodeRefused::Memory) => return Err(EntriesRefused::Memory),
@@ -124,37 +165,39 @@ pub fn load(
     alloc: Global,
     edition: Edition,
     file: u8,
-    bodies: &[Bytes],
+    bodies: &Records,
 ) -> Result<Loaded, EntriesRefused>
     requires { place_behind bodies.now < 2 ^ 64 }
     ensures loaded { IfOk result (Loads edition file bodies.now) }
     ensures damaged { (damage : Damage) → result ≡ Err (EntriesRefused.Damaged damage) →
         loading.IsUnheld edition bodies.now damage.at damage.entry }
 {
-    let (front, rest) = bodies.split_at(marked_count(bodies));
-    match base_in(alloc, edition, front) {
-        Ok(base) => load_behind(alloc, edition, file, base, front, rest),
+    let count = marked_count(bodies);
+    match base_before(alloc, edition, bodies, count) {
+        Ok(base) => load_behind(alloc, edition, file, base, bodies, count),
         Err(refused) => Err(refused),
     }
 }
 
-/// What bodies hold of which the front is a base, or none.
+/// What bodies hold of which the first, so many, are a base, or none.
 fn load_behind(
     alloc: Global,
     edition: Edition,
     file: u8,
     base: Option<Base>,
-    front: &[Bytes],
-    rest: &[Bytes],
+    bodies: &Records,
+    count: usize,
 ) -> Result<Loaded, EntriesRefused>
-    requires place { place_behind (front.now ++ rest.now) < 2 ^ 64 }
-    requires base { IsSnapshot edition base × (front.now ≡ base_bodies edition base) }
-    ensures loaded { IfOk result (Loads edition file (front.now ++ rest.now)) }
+    requires within { count ≤ length bodies.now }
+    requires place { place_behind bodies.now < 2 ^ 64 }
+    requires base { IsSnapshot edition base × (take count bodies.now ≡ base_bodies edition base) }
+    ensures loaded { IfOk result (Loads edition file bodies.now) }
     ensures damaged { (damage : Damage) → result ≡ Err (EntriesRefused.Damaged damage) →
-        loading.IsNoEntryIn edition rest.now (place_behind front.now) (length front.now) damage.at damage.entry }
+        loading.IsNoEntryIn edition (drop count bodies.now) (place_behind (take count bodies.now))
+        (length (take count bodies.now)) damage.at damage.entry }
 {
-    let gate = place_behind(front);
-    match entries_in(alloc, edition, rest, gate, front.len()) {
+    let gate = place_behind(bodies, count);
+    match entries_behind(alloc, edition, bodies, count, gate) {
         Ok(entries) => Ok(Loaded {
             base,
             entries,

@@ -24,7 +24,7 @@ impl<D: Disk> Store<D> {
     /// makes a file of at most nine bytes new. A file that is longer is damaged where it is outside the grammar, or
     /// where a body is no entry's spelling, or where it is of the second format, which isn't read here: the place is
     /// the byte of the record's gate, or 0 for the header, and the number is that of the records before it. An error
-    /// hands the disk back.
+    /// hands the disk back. The file's bytes are kept once until the entries are read from them.
     pub fn open(
         alloc: Global,
         disk: D,
@@ -48,7 +48,7 @@ impl<D: Disk> Store<D> {
     {
         match Journal::open(alloc, disk, JOURNAL, limit, Format::First) {
             Ok((journal, bodies)) => match journal.format() {
-                Format::First => match entries(alloc, bodies.as_slice()) {
+                Format::First => match entries(alloc, &bodies) {
                     Ok(list) => Ok((Store::over(journal), list)),
                     Err(EntriesRefused::Damaged(damage)) => {
                         Err(OpenRefused::Damaged(journal.close(), damage))

@@ -14,7 +14,7 @@ use crate::letters::{bodies_of, body_of, disk_of, fails_at, file_of, is_file};
 use sm_base::Bytes;
 use sm_disk::{Disk, MemoryDisk};
 use sm_journal::Format;
-use sm_record::{Base, Edition, decode, decode_rows, encode};
+use sm_record::{Base, BodySlice, Edition, decode, decode_rows, encode};
 use sm_store::{Appended, BaseStore, OpenRefused};
 use std::alloc::Global;
 use std::test::Fail;
@@ -83,8 +83,17 @@ fn add_twice<D: Disk>(alloc: Global, store: &mut BaseStore<D>, letter: char) -> 
     Ok(add(store, &ready) == Appended::Ok || add(store, &ready) == Appended::Ok)
 }
 
+/// The bodies where they stand.
+fn slices_of<'a>(alloc: Global, bodies: &'a [Bytes]) -> Result<Vec<BodySlice<'a>>, Fail> {
+    let mut slices = Vec::new(alloc);
+    for body in bodies {
+        slices.push(BodySlice::new(body.as_slice()))?;
+    }
+    Ok(slices)
+}
+
 /// Whether the bodies are few and short.
-fn are_small(bodies: &[Bytes]) -> bool
+fn are_small(bodies: &[BodySlice<'_>]) -> bool
     ensures { result ≡ true → AreWithin bodies.now × (size bodies.now < 2 ^ 62) }
 {
     if bodies.len() > 10 {
@@ -105,10 +114,11 @@ pub fn base(alloc: Global) -> Result<Base, Fail>
     ensures short { IfOk result (λ base. size (snapshot Second base) < 2 ^ 62) }
 {
     let bodies = bodies_of(alloc, "srvq")?;
-    if !are_small(bodies.as_slice()) {
+    let slices = slices_of(alloc, bodies.as_slice())?;
+    if !are_small(slices.as_slice()) {
         return Err("not small".into());
     }
-    match decode_rows(alloc, Edition::Second, bodies.as_slice()) {
+    match decode_rows(alloc, Edition::Second, slices.as_slice()) {
         Ok(base) => Ok(base),
         Err(_) => Err("no base".into()),
     }

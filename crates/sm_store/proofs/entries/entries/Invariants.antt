@@ -5,6 +5,6 @@ use Rattle.sm_record.specs.Spelling.{spelling}
 use Rattle.sm_store.specs.Entries.{AreSpelled}
 use Rattle.sm_store.proofs.entries.entries.Given as goal
 
-abbrev pub invariant-loop-body : goal.invariant-loop-body
-invariant-loop-body l = AreSpelled l.list.items × (map (spelling First) l.list.items ≡ take l.body-index l.bodies)
+abbrev pub invariant-loop-index : goal.invariant-loop-index
+invariant-loop-index l = AreSpelled l.list.items × (map (spelling First) l.list.items ≡ take l.index l.bodies)
     × (l.at ≡ 8 + size (map (spelling First) l.list.items))

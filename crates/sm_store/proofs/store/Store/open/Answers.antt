@@ -18,8 +18,8 @@ returns-in-Err-Damaged-clause-refused g c =
         subst (λ disk. Leaves JOURNAL SameList SameList (g.D.Disk.sight c.args.disk) (g.D.Disk.sight disk))
             (sym c.close.ensures.disk) c.in-Ok.ensures.any_moment,
         λ s reads. (
-          c.as_slice.result.now,
-          first_list (s JOURNAL) (format_of c.in-Ok.journal) _ c.as_slice.result.now first c.as_slice.ensures
+          c.in-Ok.bodies,
+          first_list (s JOURNAL) (format_of c.in-Ok.journal) c.in-Ok.bodies c.in-Ok.bodies first refl
               (c.in-Ok.ensures.list s reads),
           c.in-Err-Damaged.ensures.damaged damage (ap Err c.in-Err-Damaged.field-0-is),
         ),
