@@ -12,6 +12,7 @@ import os
 import subprocess
 import tempfile
 
+import crons
 import formats
 import model
 import sound
@@ -21,6 +22,8 @@ from formats import Damaged, Entry
 
 # Somebody forces the deletion of a secret that is not there: an entry that is legal and changes nothing.
 DELETION_OF_NOBODY = ("opened", "the deletion of nobody")
+# The same where an entry dropped old versions.
+OLD_VERSIONS = ("opened", "old versions")
 
 DAY = 86400
 # What a line begins with that says which step of a rotation failed, as the local rotator's may.
@@ -49,6 +52,10 @@ EDGE_MEMBERS = {
 }
 # Acts whose one field is the SecretId.
 OF_A_SECRET = ["RestoreSecret", "DeleteResourcePolicy", "CancelRotateSecret"]
+# How many values one secret is given one after the other, how far they are apart, and which of their entries prune.
+PUTS = [60, 101, 150, 300]
+APART = [[0], [0, 1, 60], [0, 0, 0, DAY - 1], [DAY, DAY - 1], [60, 30 * DAY]]
+PRUNING = [[True], [True], [True, False], [False]]
 # How many versions of a secret are read.
 READ_VERSIONS = 5
 # Numbers of rows, dates and attempts among them.
@@ -186,7 +193,11 @@ class Forger:
     def rules(self):
         rules = model.Rules(self.random.choice([None, 1, 30, 1000, 0, 1001, -(2**63)]))
         has_schedule = self.edition == 2 and self.random.random() < 0.3
-        return rules._replace(schedule="rate(1 day)") if has_schedule else rules
+        return rules._replace(schedule=self.schedule()) if has_schedule else rules
+
+    def schedule(self):
+        odd = ["rate(1 day)", "rate(3 hours)", "cron(0 24 * * ? *)", "cron(0 0 30 2 ? *)", ""]
+        return self.random.choice([*odd, crons.some_schedule(self.random), crons.some_schedule(self.random)])
 
     def value_of_a_row(self, kind, before):
         """Another value of a field of a row."""
@@ -260,11 +271,11 @@ class Forger:
         return self.with_another(bodies, change)
 
     def act(self, bodies):
-        """Another act with the same fields, or the bit that stands for dropped versions."""
+        """Another act with the same fields, or the other bit that says whether versions are dropped."""
 
         def change(entry):
             if entry.act not in OF_A_SECRET:
-                return entry._replace(prunes=True)
+                return entry._replace(prunes=not entry.prunes)
             return entry._replace(act=self.random.choice(OF_A_SECRET))
 
         return self.with_another(bodies, change)
@@ -370,8 +381,29 @@ class Forger:
         account.moment = account.last + DAY * (1 if acts[0] == "RotateSecret" else 7) - self.random.choice([0, 1])
         return bodies + made + [self.start_of(secret) if acts[0] == "RotateSecret" else self.request_for(secret)]
 
+    def aged(self, bodies):
+        """Behind all others some hundred new values for one secret, at moments that may be days apart. Some of the entries
+        drop the old versions, and some versions have a label. Now and then a token comes again."""
+        account = stores.account_of(bodies, self.edition)
+        live = [secret for secret in account.secrets if secret.deletion is None]
+        if not live:
+            return bodies
+        secret, moment, made = self.random.choice(live), account.last, []
+        apart, pruning = self.random.choice(APART), self.random.choice(PRUNING)
+        for number in range(self.random.choice(PUTS)):
+            moment = min(moment + self.random.choice(apart), formats.LAST_MOMENT)
+            again = self.random.random() < 0.003
+            token = f"{self.random.randrange(number + 1) if again else number:032}"
+            fields = {"ClientRequestToken": token, "SecretId": secret.arn, "SecretString": str(number)}
+            if self.random.random() < 0.05:
+                fields["VersionStages"] = [self.random.choice(["aged", "old", "AWSPREVIOUS"])]
+            entry = Entry(moment, "ADA", b"", self.random.choice(pruning), "PutSecretValue", fields)
+            made.append(self.body(entry))
+        return bodies + made
+
     def entry_at(self, moment, act, drawn=b"", **fields):
-        return self.body(Entry(moment, "ADA", drawn, False, act, model.as_counted(act, fields)))
+        prunes = self.random.random() < 0.5
+        return self.body(Entry(moment, "ADA", drawn, prunes, act, model.as_counted(act, fields)))
 
     def too_long(self, account):
         """An answer, if there is a step, whose record is as long as one may be, or a byte longer."""
@@ -426,7 +458,7 @@ class Forger:
 OF_ENTRIES = ["field", "field", "field", "head", "head", "act", "moment", "later"]
 OF_ROWS = ["row"]
 OF_RECORDS = ["dropped", "doubled", "swapped", "put_in", "put_in"]
-OF_MOMENTS = ["edge"]
+OF_MOMENTS = ["edge", "edge", "aged"]
 OF_BYTES = ["flipped", "flipped", "high_bit", "high_bit", "header", "another_gate_or_length", "cut", "added"]
 
 
@@ -514,5 +546,5 @@ def lacking(reached, bases=None):
     bases = stores.BASES if bases is None else bases
     acts, places = formats.acts_of(1), ["the header", "a record", "an entry"] + (["a snapshot"] if bases else [])
     wanted = [("opened", act) for act in acts] + [("damaged", why) for why in acts + places]
-    wanted.append(DELETION_OF_NOBODY)
+    wanted += [DELETION_OF_NOBODY, OLD_VERSIONS]
     return [" ".join(it) for it in wanted if not reached[it]]

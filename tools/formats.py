@@ -60,7 +60,7 @@ UNASKED = {"Begun": 16, "Reported": 0}
 # What an entry says: when it was made, the key of who asked, the drawn bytes, whether it drops versions, its act and
 # the act's fields that are there, and the ARN of who asked.
 Entry = collections.namedtuple("Entry", "moment caller drawn prunes act fields by", defaults=[""])
-Rules = collections.namedtuple("Rules", "days schedule", defaults=[None])
+Rules = collections.namedtuple("Rules", "days schedule", defaults=(None, None))
 Job = collections.namedtuple("Job", "token stage attempt retry_at tested", defaults=[None])
 Start = collections.namedtuple("Start", "next last entries secrets")
 Row = collections.namedtuple(

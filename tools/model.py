@@ -18,6 +18,7 @@ import re
 import string
 import uuid
 
+import crons
 import entries
 import formats
 
@@ -192,6 +193,12 @@ def is_truth(value):
     return True
 
 
+def are_rules(rules):
+    if rules.schedule is None:
+        return rules.days is None or 1 <= rules.days <= 1000
+    return rules.days is None and crons.is_expression(rules.schedule)
+
+
 FORMS = {
     "ClientRequestToken": is_token,
     "Description": is_description,
@@ -216,7 +223,7 @@ FORMS = {
     "ResourcePolicy": lambda text: 1 <= len(text) <= 20480,
     "RotateImmediately": is_truth,
     "RotationLambdaARN": is_description,
-    "RotationRules": lambda rules: rules.days is None or 1 <= rules.days <= 1000,
+    "RotationRules": are_rules,
     "SecretBinary": is_value,
     "SecretId": is_secret_id,
     "SecretIdList": lambda ids: 1 <= len(ids) <= 20,
@@ -329,9 +336,10 @@ def read_filter(value):
 
 def read_rules(value):
     days = inner(value, "AutomaticallyAfterDays", lambda days: [read_integer(days)], [])
-    if value.get("Duration") is not None or value.get("ScheduleExpression") is not None:
+    if value.get("Duration") is not None:
         raise LeftOut
-    return Rules(*days or [None])
+    schedule = inner(value, "ScheduleExpression", lambda schedule: [of_type(str)(schedule)], [])
+    return Rules(*days or [None], *schedule or [None])
 
 
 def read_regions(value):
@@ -824,7 +832,7 @@ class Secret:
         self.deletion = None
         self.policy = None
         self.is_rotated = False
-        self.days = None
+        self.rules = Rules()
         self.next_rotation = None
         self.job = None
 
@@ -835,9 +843,26 @@ class Secret:
             self.given += 1
         self.versions[version] = value
 
+    def old_versions(self):
+        """Those that need not be kept: they have no label, were made a day ago or earlier, and a hundred others are newer."""
+        newest = sorted(self.numbers.values())[-100:]
+        labelled = {version for _, version in self.labels}
+        return [
+            version for version in self.versions
+            if version not in labelled and self.dates[version] + 86400 <= self.account.moment and self.numbers[version] not in newest
+        ]
+
     def is_full(self):
-        """No version may be added."""
-        return len(self.versions) >= VERSIONS_LIMIT or self.given == NO_NUMBER
+        """No version may be added. Those don't count that are dropped with what is done."""
+        counted = len(self.versions) - (len(self.old_versions()) if self.account.prunes else 0)
+        return counted >= VERSIONS_LIMIT or self.given == NO_NUMBER
+
+    def prune(self):
+        """Drops the versions that need not be kept. Their tokens may be used again."""
+        for version in self.old_versions():
+            del self.versions[version], self.dates[version], self.numbers[version]
+            self.of_rotation.discard(version)
+            self.tested.pop(version, None)
 
     def holder(self, label):
         return next((version for held, version in self.labels if held == label), None)
@@ -855,9 +880,9 @@ class Secret:
             self.labels = self.without("AWSPREVIOUS") + [("AWSPREVIOUS", before)]
 
     def place_all(self, labels, version):
-        """Places the labels, AWSCURRENT last, unless there are too many then."""
+        """Places the labels in the order of their first occurrence, AWSCURRENT last, unless there are too many then."""
         before = self.labels
-        for label in sorted(labels, key=lambda label: label == "AWSCURRENT"):
+        for label in sorted(dict.fromkeys(labels), key=lambda label: label == "AWSCURRENT"):
             self.place(label, version)
         if len([label for label, _ in self.labels if label not in AWS_LABELS]) > 20:
             self.labels = before
@@ -912,7 +937,10 @@ class Secret:
             self.job = Job(job.token, STAGES[STAGES.index(job.stage) + 1], 1, moment, tested)
 
     def following_rotation(self):
-        return None if self.days is None else self.account.moment + 86400 * self.days
+        days, schedule = self.rules
+        if schedule is not None:
+            return crons.next_of(self.account.moment, schedule)
+        return None if days is None else self.account.moment + 86400 * days
 
     def say(self, members):
         """Keeps what is given of a description and a KMS key id."""
@@ -941,10 +969,10 @@ class Account:
         # How many entries are not kept, and those behind them, as they stand in a journal.
         self.before = 0
         self.entries = []
-        # Whether old versions are dropped with what is done, and from which secret.
-        self.prunes, self.changed = False, None
         # What the clock reads, the moment of the last entry, and that of what is done now.
         self.clock, self.last, self.moment = NOW, 0, NOW
+        # Whether old versions are dropped with what is done, as with all that this program does, and from which secret.
+        self.prunes, self.changed = True, None
 
     def restart(self):
         """The random bytes of a run begin anew, and the steps of rotations that were under way may be asked again."""
@@ -977,8 +1005,9 @@ class Account:
         """What every change ends with: all secrets are settled, and then the one that was changed loses its old versions."""
         for secret in self.secrets:
             secret.settle()
-        if self.prunes:
-            pruned(self.changed, self.moment)
+        if self.prunes and self.changed is not None and self.changed.old_versions():
+            self.changed.prune()
+            self.reached["opened", "old versions"] += 1
         self.changed = None
 
     def draw(self, count):
@@ -1035,7 +1064,7 @@ class Account:
 
     def again(self, entry):
         """Does once more what an entry of a journal did, if it is legal there: it would be accepted, and is no repeat."""
-        if entry.moment < self.last or self.count() == NO_NUMBER or has_later_parts(entry):
+        if entry.moment < self.last or self.count() == NO_NUMBER or speaks_of_regions(entry):
             raise Illegal
         self.begin(entry.moment)
         self.prunes = entry.prunes
@@ -1046,7 +1075,7 @@ class Account:
         else:
             self.ask_again(entry)
         self.finish()
-        self.prunes = False
+        self.prunes = True
 
     def start_again(self, entry):
         """A start is legal where the secret with exactly this ARN is due for the token."""
@@ -1221,16 +1250,9 @@ def as_counted(act, fields):
     return {name: name in TRUE_IF_ABSENT for name in truths} | fields
 
 
-def has_later_parts(entry):
-    """Whether an entry speaks of regions or of a schedule, which nothing makes yet."""
-    rules = entry.fields.get("RotationRules")
-    has_schedule = rules is not None and rules.schedule is not None
-    return entry.act in formats.OF_THE_SECOND or bool(entry.fields.get("AddReplicaRegions")) or has_schedule
-
-
-def pruned(secret, moment):
-    """Drops the versions of a secret, if one is named, that need not be kept at a moment. No entry does that yet."""
-    raise Illegal
+def speaks_of_regions(entry):
+    """Whether an entry speaks of regions, which nothing makes yet."""
+    return entry.act in formats.OF_THE_SECOND or bool(entry.fields.get("AddReplicaRegions"))
 
 
 def get(secret, members):
@@ -1258,8 +1280,9 @@ def describe(secret, members):
         shown["DeletedDate"] = secret.deletion
     if secret.next_rotation is not None:
         shown["NextRotationDate"] = secret.next_rotation
-    if secret.days is not None:
-        shown["RotationRules"] = {"AutomaticallyAfterDays": secret.days}
+    rules = {"AutomaticallyAfterDays": secret.rules.days, "ScheduleExpression": secret.rules.schedule}
+    if secret.rules != Rules():
+        shown["RotationRules"] = {name: rule for name, rule in rules.items() if rule is not None}
     return secret.named() | secret.said | shown | {"Tags": [{"Key": key, "Value": value} for key, value in secret.tags]}
 
 
@@ -1385,7 +1408,7 @@ def rotate(secret, members, drawn):
         secret.start(token)
     secret.is_rotated = True
     if "RotationRules" in members:
-        secret.days = members["RotationRules"].days
+        secret.rules = members["RotationRules"]
     secret.said |= {name: members[name] for name in ("RotationLambdaARN",) if name in members}
     if not is_immediate:
         secret.next_rotation = secret.following_rotation()

@@ -4,6 +4,7 @@ A snapshot spells any numbers and dates that its bytes hold. What no run would h
 has a name.
 """
 
+import crons
 import model
 
 from formats import LAST_MOMENT
@@ -102,7 +103,7 @@ OF_A_ROW = {
     "next date": lambda row: may_be(lambda date: date <= LAST_ROTATION_DATE)(row.next_date),
     "last date": lambda row: may_be(is_date)(row.last_date),
     "regions": lambda row: not row.regions,
-    "schedule": lambda row: row.schedule is None,
+    "schedule": lambda row: may_be(crons.is_expression)(row.schedule),
     "number of tags": lambda row: len(row.tags) <= TAGS_LIMIT,
     "keys of tags": lambda row: differ([key for key, _ in row.tags]),
     "tags": lambda row: all(model.are_tags([tag]) for tag in row.tags),

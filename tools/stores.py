@@ -17,7 +17,7 @@ from formats import Damaged
 
 # Whether the programs that are compared know two journals, a root, bases and the second format. One that doesn't has
 # the first journal alone, in the first format.
-BASES = False
+BASES = True
 JOURNAL_LIMIT = 536870912
 # How many entries may stand behind a base before another one takes its place.
 MOST_BEHIND = 1000
@@ -37,7 +37,7 @@ def row_of(secret):
     row = formats.Row(
         secret.number, secret.arn, secret.name, secret.created, secret.changed, said("Description"), said("KmsKeyId"),
         secret.tags, len(secret.versions), secret.given, secret.labels, secret.deletion, secret.is_rotated,
-        said("RotationLambdaARN"), secret.days, None, secret.next_rotation, said("LastRotatedDate"), secret.policy, [],
+        said("RotationLambdaARN"), *secret.rules, secret.next_rotation, said("LastRotatedDate"), secret.policy, [],
         secret.job,
     )
     return formats.Kept(row, [version_of(secret, version) for version in secret.versions])
@@ -60,7 +60,7 @@ def secret_of(account, kept):
     row, versions = kept
     secret = model.Secret(account, row.serial, row.name, row.arn, list(row.tags))
     secret.created, secret.changed, secret.deletion, secret.policy = row.created, row.changed, row.deletion, row.policy
-    secret.is_rotated, secret.days, secret.next_rotation = row.enabled, row.days, row.next_date
+    secret.is_rotated, secret.rules, secret.next_rotation = row.enabled, model.Rules(row.days, row.schedule), row.next_date
     secret.labels, secret.given, secret.job = list(row.labels), row.next_version, row.job
     said = {"Description": row.description, "KmsKeyId": row.kms, "RotationLambdaARN": row.rotator}
     said["LastRotatedDate"] = row.last_date

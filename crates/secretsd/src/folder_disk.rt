@@ -2,7 +2,7 @@
 ghost use Rattle.std.specs.Prelude.{◌≡◌, true, false, Ok, IsErr, IfOk, OnOk, OnErr, MatchResult};
 ghost use Rattle.sm_disk.specs.Faults.{HasCause, faults_after};
 
-use crate::opening::Opening;
+use crate::opening::{Opening, name_of};
 use crate::reports::{Kind, Reports};
 use sm_disk::{Disk, DiskFailed, FolderRefused};
 use std::alloc::Global;
@@ -87,15 +87,6 @@ fn check_lock(locked: Result<(), TryLockError>) -> Result<(), FolderRefused>
         Ok(()) => Ok(()),
         Err(TryLockError::WouldBlock) => Err(FolderRefused::Taken),
         Err(TryLockError::Error(error)) => Err(FolderRefused::Failed(error)),
-    }
-}
-
-/// The name of the file of this number.
-fn name_of(file: u8) -> &'static str {
-    match file {
-        0 => "journal-0",
-        1 => "journal-1",
-        _ => "root",
     }
 }
 
@@ -218,9 +209,8 @@ impl<'a> FolderDisk<'a> {
         ensures counted { Counted file self.old self.new result }
     {
         let opening = self.opening;
-        let name = name_of(file);
         let read = match self.file(file) {
-            Ok(kept) => opening.read(kept, file, name, at, buf),
+            Ok(kept) => opening.read(kept, file, at, buf),
             Err(error) => Err(error),
         };
         self.count_error(file, "read", read)
@@ -231,7 +221,7 @@ impl<'a> FolderDisk<'a> {
         ensures cause { HasCause self.old.faults self.new.faults result }
         ensures counted { Counted file self.old self.new result }
     {
-        self.opening.note_write();
+        self.opening.note_write(file, at, piece);
         let written = match self.file(file) {
             Ok(file) => write_named(file, piece, at),
             Err(error) => Err(error),
@@ -244,7 +234,7 @@ impl<'a> FolderDisk<'a> {
         ensures cause { HasCause self.old.faults self.new.faults result }
         ensures counted { Counted file self.old self.new result }
     {
-        self.opening.note_cut(name_of(file), end);
+        self.opening.note_cut(file, end);
         let cut = match self.file(file) {
             Ok(file) => file.set_len(end),
             Err(error) => Err(error),
@@ -261,6 +251,9 @@ impl<'a> FolderDisk<'a> {
             Ok(file) => sync_named(file),
             Err(error) => Err(error),
         };
+        if synced.is_ok() {
+            self.opening.note_sync(file);
+        }
         let result = self.count_error(file, "sync", synced);
         if result.is_err() {
             self.lose(file);

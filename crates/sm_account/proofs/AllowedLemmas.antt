@@ -5,9 +5,11 @@ use Rattle.sm_model.specs.declared.entry.Entry.{Entry as entries}
 use Rattle.sm_model.specs.declared.entry.Mark.TheVariants.{Entry, Claim, Fault}
 use Rattle.sm_model.specs.declared.rows.Rows.{Rows}
 use Rattle.sm_core.specs.Effects.{effect}
-use Rattle.sm_core.specs.Histories.{no_rows, replay}
+use Rattle.sm_core.specs.Histories.{replay}
 use Rattle.sm_core.specs.Vouching.{EachAllowed}
+use Rattle.sm_opening.specs.Lawful.{made_of}
 use Rattle.sm_rotation.specs.Vouched.{Replies}
+use Rattle.sm_store.specs.Held.{Held}
 use Rattle.sm_account.specs.declared.books.Books.{Books}
 use Rattle.sm_account.specs.Allowed.{DeedAllowed, EntriesAllowed, IsAllowedAt}
 use Rattle.sm_account.specs.Books.{Kept, base_in, history_in, state_in}
@@ -67,7 +69,7 @@ module _ {D : Type 0} {G : Ghosts D} (replies : Replies) (old new : Books D G) (
       → EntriesAllowed replies new
   allowed_after deed leaves is = record {
     made =
-        subst (λ (t : List entries). EachAllowed replies (replay no_rows t) (entries_in (history_in new)))
+        subst (λ (t : Held). EachAllowed replies (made_of t).rows (entries_in (history_in new)))
         (sym leaves.origin.taken)
         (subst (λ h. EachAllowed replies (base_in old).rows (entries_in h)) (sym leaves.history) (made_by deed is));
     next = next_by deed leaves.stays leaves.failed is;

@@ -14,10 +14,12 @@ use Rattle.sm_claims.proofs.StandingLemmas.{ready_alike}
 use Rattle.sm_claims.specs.Works.{AreWorkOf, IsWorkOf, IsWorkOfJob}
 use Rattle.sm_rotation.specs.Step.{at_of}
 use Rattle.sm_rotator.specs.declared.work.Work.{Work}
-use Rattle.sm_store.specs.Stores as stores
+use Rattle.sm_opening.specs.Lawful.{IsLawful, MayFollowIf}
+use Rattle.sm_store.specs.BaseStores as stores
+use Rattle.sm_store.specs.Held.{Held}
 use Rattle.sm_account.specs.declared.books.Books.{Books}
 use Rattle.sm_account.specs.declared.next_work.NextWork.TheVariants as works
-use Rattle.sm_account.specs.Books.{FaultsBound, IsLegal, MayFollowIf, Kept, all_entries, base_in, disk_in, history_in}
+use Rattle.sm_account.specs.Books.{FaultsBound, Kept, all_held, base_in, disk_in, history_in, with_entries}
 use Rattle.sm_account.specs.Claims.{ClaimsReady, ClaimsReadyStep, ClaimsStand, IsAtStep}
 use Rattle.sm_account.specs.History.{entries_in, faults_in}
 use Rattle.sm_account.specs.NextWork.{NextAs, claim_by}
@@ -78,10 +80,10 @@ module _ {D : Type 0} {G : Ghosts D} (old new : Books D G) (seat : ℕ) (work : 
     ≡ standing_with old.claims.items (claim_by work moment) old.last)
     (kept : Kept G old)
     (ready : IsSomeAnd (first_ready (history_in old) moment old.table.secrets) (λ row. IsWorkOf row work)) where
-  all_is : all_entries (record old { claims = new.claims; told = new.told; marks = new.marks }) ≡ all_entries old
+  all_is : all_held (record old { claims = new.claims; told = new.told; marks = new.marks }) ≡ all_held old
   all_is =
-      ap (λ h. old.taken.value ++ entries_in h) history
-      ∙ ap (λ es. old.taken.value ++ es) (entries_more (history_in old) seat (Claim work.arn work.at moment)
+      ap (λ h. with_entries old.taken.value (entries_in h)) history
+      ∙ ap (λ es. with_entries old.taken.value es) (entries_more (history_in old) seat (Claim work.arn work.at moment)
       ∙ append-nil (entries_in (history_in old)))
 
   claims : ∥ ClaimsReady (base_in old) (history_in new) ∥₁
@@ -114,17 +116,19 @@ module _ {D : Type 0} {G : Ghosts D} (old new : Books D G) (seat : ℕ) (work : 
         sound = kept.sound;
         bound = kept.bound;
         within = kept.within;
-        whole = kept.whole ∙ sym all_is;
+        based = kept.based;
+        whole = kept.whole ∙ sym (ap (λ (h : Held). h.entries) all_is);
         counted = counted
             ∙ counted_more (history_in old) seat (Claim work.arn work.at moment) old.marks kept.counted
             ∙ ap length (sym history);
         limit = kept.limit;
         under = kept.under;
+        second = kept.second;
         state = kept.state ∙ sym (state_claimed (base_in old) (history_in old) seat work.arn work.at moment)
             ∙ ap (state_at (base_in old)) (sym history);
         sure = kept.sure;
         holds = subst (λ all. stores.Holds old.store all old.failed.value) (sym all_is) kept.holds;
-        legal = subst (λ all. ∥ IsLegal all ∥₁) (sym all_is) kept.legal;
+        lawful = subst (λ all. ∥ IsLawful all ∥₁) (sym all_is) kept.lawful;
         next = subst (λ all. ∥ MayFollowIf all old.failed.value ∥₁) (sym all_is) kept.next;
         told = omega (arith, no_more, kept.told);
         faults = faults;

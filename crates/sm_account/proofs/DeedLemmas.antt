@@ -7,7 +7,7 @@ use Rattle.sm_model.specs.declared.entry.At.{At}
 use Rattle.sm_model.specs.declared.entry.Entry.{Entry as entries}
 use Rattle.sm_model.specs.declared.entry.Mark.TheVariants.{Entry, Claim, Fault}
 use Rattle.sm_account.specs.declared.books.Books.{Books}
-use Rattle.sm_account.specs.Books.{SameOrigin, all_entries, disk_in, history_in, state_in}
+use Rattle.sm_account.specs.Books.{SameOrigin, all_held, disk_in, history_in, state_in}
 use Rattle.sm_account.specs.Crashes.{Throughout}
 use Rattle.sm_account.specs.Deeds.{Deed, Nothing, Claimed, Made, Failed, FailedBy, IfFailed, Leaves, LeavesTried, StaysBy, tried_by}
 use Rattle.sm_account.specs.Growing.{SameButRoom}
@@ -100,7 +100,7 @@ module _ {D : Type 0} {G : Ghosts D} (old mid new : Books D G) (seat : ℕ) (roo
 
 -- an entry was made, or the disk failed at it
 module _ {D : Type 0} {G : Ghosts D} (old new : Books D G) (seat : ℕ) (entry : entries) (origin : SameOrigin old new)
-    (any_moment : Throughout G (all_entries old) old.failed.value entry (disk_in old) (disk_in new))
+    (any_moment : Throughout G (all_held old) old.failed.value entry (disk_in old) (disk_in new))
     (later : G.faults (disk_in old) ≤ G.faults (disk_in new)) where
   pub entry_made : history_in new ≡ history_in old ++ (seat, Entry entry) ∷ [] → new.failed.value ≡ None
       → Leaves G old new seat (Made entry)

@@ -1,5 +1,8 @@
 -- What becomes of an entry of a rotation that is due.
-use Rattle.std.proofs.Common.{◌≡◌, ℕ, true, false, cond, List, Option, Some, None, option_map, refl, sym, ap, ◌∙◌, subst}
+use Rattle.std.proofs.Common.{◌≡◌, ℕ, ◌+◌, ◌<◌, ◌≤◌, ◌||◌, Bool, true, false, cond, List, Option, Some, None, option_map, refl, sym, ap, ◌∙◌, subst, arith}
+use Rattle.std.specs.Prelude.{nat_le, nat_lt, if◌then◌else◌}
+use Rattle.std.proofs.lemmas.Bool.Decides.{nat_tests}
+use Rattle.sm_base.specs.declared.limits.TheConstants.{ENTRIES_LIMIT}
 use Rattle.sm_base.specs.declared.moment.Moment.{Moment}
 use Rattle.sm_base.specs.Drawn.{drawn_token}
 use Rattle.sm_claims.specs.Due.{first_due}
@@ -10,6 +13,7 @@ use Rattle.sm_model.specs.declared.entry.Answer.{Answer}
 use Rattle.sm_model.specs.declared.entry.At.{At}
 use Rattle.sm_model.specs.declared.entry.Entry.{Entry as entries}
 use Rattle.sm_model.specs.declared.rows.SecretRow.{SecretRow}
+use Rattle.sm_replay.specs.Following.{entries_limit}
 use Rattle.sm_rotator.specs.declared.work.Work.{Work}
 use Rattle.sm_table.specs.Found.{found_arn}
 use Rattle.sm_account.specs.declared.books.Books.{Books}
@@ -28,7 +32,7 @@ use Rattle.sm_account.specs.Growing.{SameButRoom}
 use Rattle.sm_account.specs.Limits.{EntersAs, entered_by, passed_at}
 use Rattle.sm_account.specs.Report.{ReportsAs, report_at, report_of, reported_by, reported_entry, secret_of}
 use Rattle.sm_account.specs.StartDue.{Starts, StartsAs, due_at, start_at, start_for, start_of, started_by}
-use Rattle.sm_account.specs.States.{State}
+use Rattle.sm_account.specs.States.{State, size_of}
 use Rattle.sm_account.proofs.DeedLemmas.{behind_room}
 use Rattle.sm_account.proofs.RoomLemmas.{same_state}
 
@@ -73,6 +77,23 @@ module _ {D : Type 0} {G : Ghosts D} (old new : Books D G) (seat : ℕ) (entry :
       × Leaves G old new seat (reported_by reported.DiskFault (effort_within passed entry))
   report_faulted None is leaves = (tt, leaves)
   report_faulted (Some passed) is leaves = absurd is
+
+-- no limit is passed by an entry that passes none
+no_parts : (made all long : Bool) (first second : Passed)
+    → (if made || all then Some first else (if long then Some second else None)) ≡ None
+    → (made ≡ false) × (all ≡ false) × (long ≡ false)
+no_parts true all long first second e = absurd (cc)
+no_parts false true long first second e = absurd (cc)
+no_parts false false true first second e = absurd (cc)
+no_parts false false false first second e = (refl, refl, refl)
+
+pub within_limits : (state : State) (entry : entries) → passed_at state entry ≡ None
+    → (state.made < ENTRIES_LIMIT) × (state.before + state.made < entries_limit)
+    × (state.bytes + size_of entry ≤ state.limit)
+within_limits state entry none =
+    let no = no_parts (nat_le ENTRIES_LIMIT state.made) (nat_le entries_limit (state.before + state.made))
+    (nat_lt state.limit (state.bytes + size_of entry)) _ _ none in
+    (grind (arith, nat_tests, no.0), grind (arith, nat_tests, no.1), grind (arith, nat_tests, no.2))
 
 -- the limit that an entry passes
 pub over_so : (passed : Option Passed) (over : Passed) → passed ≡ Some over → EntersAs (ends.Over over) passed

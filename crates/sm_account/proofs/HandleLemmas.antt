@@ -1,6 +1,6 @@
 -- How the books go on when a request is handled.
 use Rattle.std.proofs.Common.{◌≡◌, ℕ, Bool, true, false, Option, Some, None, refl, sym, ap, subst}
-use Rattle.std.specs.Prelude.{◌+◌, nat_le, nat_lt, if◌then◌else◌}
+use Rattle.std.specs.Prelude.{◌+◌, nat_lt, if◌then◌else◌}
 use Rattle.sm_base.specs.Outcomes.{OrMemory}
 use Rattle.sm_base.specs.declared.moment.Moment.{Moment}
 use Rattle.sm_disk.specs.declared.disk.Disk.{Ghosts}
@@ -23,7 +23,7 @@ use Rattle.sm_account.specs.Deeds.{Leaves, Nothing, Made, Failed}
 use Rattle.sm_account.specs.Growing.{SameButRoom}
 use Rattle.sm_account.specs.Handling.{Handles, handled_by}
 use Rattle.sm_account.specs.Limits.{EntersAs, passed_at, why_passed}
-use Rattle.sm_account.specs.Outcome.{Outcome, Refuses, Replies, Question, considered, entry_at, moment_at, limit_passed, outcome, outcome_judged, outcome_within}
+use Rattle.sm_account.specs.Outcome.{Outcome, Refuses, Replies, Question, considered, entry_at, is_full, moment_at, limit_passed, outcome, outcome_judged, outcome_within}
 use Rattle.sm_account.specs.States.{State, size_of}
 use Rattle.sm_account.proofs.DeedLemmas.{nothing_done, behind_room}
 
@@ -40,7 +40,7 @@ module _ {D : Type 0} {G : Ghosts D} (books : Books D G) (seat : ℕ) where
 
 -- the limit that is passed is the cause of the refusal
 limits_same : (state : State) (entry : entries) → limit_passed state entry ≡ why_passed (passed_at state entry)
-limits_same state entry = by (nat_le ENTRIES_LIMIT state.made) (nat_lt state.limit (state.bytes + size_of entry))
+limits_same state entry = by (is_full state) (nat_lt state.limit (state.bytes + size_of entry))
   where
     by : (a b : Bool)
         → (if a then Some (Limit ENTRIES_LIMIT Entries)

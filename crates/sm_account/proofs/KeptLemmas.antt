@@ -1,5 +1,5 @@
 -- What always holds of the books goes on to hold.
-use Rattle.std.proofs.Common.{◌≡◌, ℕ, ◌+◌, ◌≤◌, min, List, [], ◌∷◌, ◌++◌, length, Option, None, Some, is_some, sym, ap, ◌∙◌, subst, append_assoc, append-nil, arith}
+use Rattle.std.proofs.Common.{◌≡◌, ℕ, ◌+◌, ◌<◌, ◌≤◌, min, List, [], ◌∷◌, ◌++◌, length, Option, None, Some, is_some, sym, ap, ◌∙◌, subst, append_assoc, append-nil, arith}
 use Rattle.std.proofs.Math.Logic.{∥∥₁_map}
 use Rattle.sm_base.specs.Faults.{Rose}
 use Rattle.sm_base.specs.declared.moment.Moment.{Moment}
@@ -13,41 +13,52 @@ use Rattle.sm_table.specs.Changes.{changed}
 use Rattle.sm_table.specs.Sound.{Sound}
 use Rattle.sm_table.specs.Sweep.{sweep}
 use Rattle.sm_core.specs.Effects.{effect}
-use Rattle.sm_core.specs.Histories.{no_rows, replay, last_moment, LegalEntry}
+use Rattle.sm_core.specs.Histories.{LegalEntry}
 use Rattle.sm_disk.specs.declared.disk.Disk.{Ghosts}
-use Rattle.sm_store.specs.Stores as stores
+use Rattle.sm_opening.specs.Lawful.{IsLawful, MayFollow, MayFollowIf, base_under, made_of}
+use Rattle.sm_replay.specs.Following.{entries_limit}
+use Rattle.sm_replay.proofs.FollowLemmas.{one_comes}
+use Rattle.sm_store.specs.BaseAppends.{SamePlace}
+use Rattle.sm_store.specs.BaseStores as stores
+use Rattle.sm_store.specs.Held.{Held, with_entry}
 use Rattle.sm_account.specs.declared.books.Books.{Books}
 use Rattle.sm_account.specs.declared.writing.Written.TheVariants as written
-use Rattle.sm_account.specs.Books.{count_limit, IsLegal, MayFollow, MayFollowIf, history_in, disk_in, all_entries, base_in, state_in, faults_of, Kept, IsDueAt}
+use Rattle.sm_account.specs.Books.{count_limit, with_entries, history_in, disk_in, all_held, base_in, state_in, faults_of, Kept, IsDueAt}
 use Rattle.sm_account.specs.Claims.{ClaimsReady, ClaimsReadyStep, ClaimsStand}
 use Rattle.sm_account.specs.History.{entries_in, faults_in}
-use Rattle.sm_account.specs.States.{first_moment, base_of, State, state_at, state_with}
+use Rattle.sm_account.specs.States.{base_of, State, state_at, state_with}
 use Rattle.sm_account.specs.Writing.{WritesAs}
 use Rattle.sm_account.proofs.ClaimLaws.{claims_more}
+use Rattle.sm_account.proofs.HeldLemmas.{lawful_more, made_count, made_last, made_rows}
 use Rattle.sm_account.proofs.StandLemmas.{counted_more, stand_entered, stand_failed}
-use Rattle.sm_account.proofs.StateLaws.{entries_more, faults_more, replay_joined, last_joined, state_more, state_faulted, legal_more}
+use Rattle.sm_account.proofs.StateLaws.{entries_more, faults_more, state_more, state_faulted}
 
 module _ {D : Type 0} {G : Ghosts D} (books : Books D G) (kept : Kept G books) where
-  -- the rows are those of all entries
-  pub rows_of_all : books.table ≡ replay no_rows (all_entries books)
+  -- the rows are those that all entries make
+  pub rows_of_all : books.table ≡ (made_of (all_held books)).rows
   rows_of_all = ap (λ (s : State). s.rows) kept.state
-      ∙ sym (replay_joined no_rows books.taken.value (entries_in (history_in books)))
+      ∙ sym (made_rows books.taken.value (entries_in (history_in books)))
 
-  pub last_of_all : books.last ≡ last_moment first_moment (all_entries books)
+  pub last_of_all : books.last ≡ (made_of (all_held books)).last
   last_of_all = ap (λ (s : State). s.last) kept.state
-      ∙ sym (last_joined first_moment books.taken.value (entries_in (history_in books)))
+      ∙ sym (made_last books.taken.value (entries_in (history_in books)))
 
-  -- an entry that is legal at the rows may follow all entries
-  pub may_follow : (entry : entries) → books.last.0 ≤ entry.moment.0
-      → LegalEntry books.table entry → MayFollow (all_entries books) entry
-  may_follow entry later legal = record {
-    later = subst (λ (m : Moment). m.0 ≤ entry.moment.0) last_of_all later;
-    legal = subst (λ rows. LegalEntry rows entry) rows_of_all legal;
-  }
+  pub count_of_all : (made_of (all_held books)).entries ≡ (state_in books).before + books.made
+  count_of_all =
+      omega (
+        arith,
+        made_count books.taken.value (entries_in (history_in books)),
+        ap (λ (s : State). s.made) kept.state,
+      )
 
--- a legal list goes on with an entry that may follow
-pub goes_on : (all : List entries) (entry : entries) → IsLegal all → MayFollow all entry → IsLegal (all ++ entry ∷ [])
-goes_on all entry legal follows = legal_more no_rows first_moment all entry legal follows.later follows.legal
+  -- an entry that is legal at the rows may follow all entries, where it can be counted
+  pub may_follow : (entry : entries) → books.last.0 ≤ entry.moment.0 → LegalEntry books.table entry
+      → (state_in books).before + books.made < entries_limit → MayFollow (all_held books) entry
+  may_follow entry later legal countable =
+      one_comes (made_of (all_held books)) entry
+      (subst (λ (m : Moment). m.0 ≤ entry.moment.0) last_of_all later)
+      (subst (λ rows. LegalEntry rows entry) rows_of_all legal)
+      (omega (arith, countable, count_of_all))
 
 -- a write that failed stands for one fault
 at_most_one : (failed : Option entries) → faults_of failed ≤ 1
@@ -59,7 +70,8 @@ pub record Continues {D : Type 0} {G : Ghosts D} (old new : Books D G) (seat : �
   pub taken : new.taken.value ≡ old.taken.value
   pub began : new.began.value ≡ old.began.value
   pub limit : new.limit ≡ old.limit
-  pub under : stores.limit_of new.store ≡ stores.limit_of old.store
+  pub base : new.base ≡ old.base
+  pub place : SamePlace old.store new.store
   pub history : history_in new ≡ history_in old ++ (seat, mark) ∷ []
   pub counted : new.marks ≡ old.marks + 1
   pub claims : new.claims.items ≡ old.claims.items
@@ -74,6 +86,13 @@ module _ {D : Type 0} {G : Ghosts D} (old new : Books D G) (seat : ℕ) (kept : 
       subst (λ b. ∥ ClaimsReady b (history_in new) ∥₁) (sym base)
       (subst (λ h. ∥ ClaimsReady (base_in old) h ∥₁) (sym goes.history)
       (∥∥₁_map kept.claims (λ claims. claims_more (base_in old) [] (history_in old) seat mark claims ready)))
+
+  -- what the entries are counted from stays
+  based_on : (mark : Mark) → Continues old new seat mark → new.base ≡ base_under new.taken.value.base
+  based_on mark goes = goes.base ∙ kept.based ∙ ap (λ (t : Held). base_under t.base) (sym goes.taken)
+
+  before_stays : (mark : Mark) → Continues old new seat mark → (base_in new).entries ≡ (base_in old).entries
+  before_stays mark goes = ap (λ (t : Held). (made_of t).entries) goes.taken
 
   -- its mark is counted
   marks_count : (mark : Mark) → Continues old new seat mark → new.marks ≡ length (history_in new)
@@ -90,11 +109,13 @@ module _ {D : Type 0} {G : Ghosts D} (old new : Books D G) (seat : ℕ) (kept : 
 
   module _ (entry : entries) (ready : List ℕ) (change : Change) (due : IsDueAt old entry ready change)
       (goes : Continues old new seat (Entry entry)) where
-    all_more : all_entries new ≡ all_entries old ++ entry ∷ []
-    all_more = ap (λ (t : List entries). t ++ entries_in (history_in new)) goes.taken
-        ∙ ap (λ h. old.taken.value ++ entries_in h) goes.history
-        ∙ ap (λ es. old.taken.value ++ es) (entries_more (history_in old) seat (Entry entry))
-        ∙ sym (append_assoc old.taken.value (entries_in (history_in old)) (entry ∷ []))
+    all_more : all_held new ≡ with_entry (all_held old) entry
+    all_more =
+        let of : List entries → Held = λ es. record { base = old.taken.value.base; entries = es } in
+        ap (λ (t : Held). with_entries t (entries_in (history_in new))) goes.taken
+        ∙ ap (λ h. with_entries old.taken.value (entries_in h)) goes.history
+        ∙ ap (λ es. with_entries old.taken.value es) (entries_more (history_in old) seat (Entry entry))
+        ∙ ap of (sym (append_assoc old.taken.value.entries (entries_in (history_in old)) (entry ∷ [])))
 
     module _ (table : new.table ≡ changed (sweep old.table entry.moment) change) (last : new.last ≡ entry.moment)
         (made : new.made ≡ old.made + 1) (none : new.failed.value ≡ None) (sound : Sound new.table)
@@ -105,9 +126,15 @@ module _ {D : Type 0} {G : Ghosts D} (old new : Books D G) (seat : ℕ) (kept : 
         state_new : state_in new ≡ state_at (base_in new) (history_in new)
         state_new =
             let rows : new.table ≡ effect old.table entry = table ∙ due.makes in
-            let limit : new.limit ≡ old.limit = goes.limit in
-            let bytes = wrote.1 in
-            let step : state_in new ≡ state_with (state_in old) entry = cc in
+            let before = before_stays (Entry entry) goes in
+            let step : state_in new ≡ state_with (state_in old) entry = λ i. record {
+              rows = rows i;
+              last = last i;
+              before = before i;
+              made = made i;
+              bytes = wrote.1 i;
+              limit = goes.limit i;
+            } in
             let there : state_at (base_in new) (history_in new)
             ≡ state_at (base_in old) (history_in old ++ (seat, Entry entry) ∷ []) =
             ap (λ t. state_at (base_of t new.limit) (history_in new)) goes.taken
@@ -129,21 +156,24 @@ module _ {D : Type 0} {G : Ghosts D} (old new : Books D G) (seat : ℕ) (kept : 
           sound = sound;
           bound = subst (λ (m : Moment). m.0 ≤ LAST_READING) (sym last) due.bound;
           within = omega (arith, made, due.counted);
-          whole = added ∙ ap (λ (es : List entries). es ++ entry ∷ []) kept.whole ∙ sym all_more;
+          based = based_on (Entry entry) goes;
+          whole = added ∙ ap (λ (es : List entries). es ++ entry ∷ []) kept.whole
+              ∙ sym (ap (λ (h : Held). h.entries) all_more);
           counted = marks_count (Entry entry) goes;
           limit = subst (λ (n : ℕ). (9 ≤ n) × (n ≤ JOURNAL_LIMIT)) (sym goes.limit) kept.limit;
-          under = goes.under ∙ kept.under ∙ sym goes.limit;
+          under = goes.place.limit ∙ kept.under ∙ sym goes.limit;
+          second = goes.place.format ∙ kept.second;
           state = state_new;
           sure = wrote.0 ∙ ap is_some (sym none);
           holds =
-              subst (stores.Holds new.store (all_entries new)) (sym none)
+              subst (stores.Holds new.store (all_held new)) (sym none)
               (subst (λ all. stores.Holds new.store all None) (sym all_more)
-              (wrote.2 (all_entries old) old.failed.value kept.holds));
-          legal =
-              subst (λ all. ∥ IsLegal all ∥₁) (sym all_more)
-              (∥∥₁_map kept.legal (λ legal. goes_on (all_entries old) entry legal
-              (may_follow old kept entry due.later due.legal)));
-          next = subst (λ f. ∥ MayFollowIf (all_entries new) f ∥₁) (sym none) ∣ tt ∣₁;
+              (wrote.2 (all_held old) old.failed.value kept.holds));
+          lawful =
+              subst (λ all. ∥ IsLawful all ∥₁) (sym all_more)
+              (∥∥₁_map kept.lawful (λ lawful. lawful_more (all_held old) entry lawful
+              (may_follow old kept entry due.later due.legal due.countable) due.bound));
+          next = subst (λ f. ∥ MayFollowIf (all_held new) f ∥₁) (sym none) ∣ tt ∣₁;
           told = subst (λ f. faults_of f ≤ faults_in (history_in new)) (sym none) (omega arith);
           faults = faults_new;
           claims = claims_go_on (Entry entry) goes tt;
@@ -155,16 +185,25 @@ module _ {D : Type 0} {G : Ghosts D} (old new : Books D G) (seat : ℕ) (kept : 
 
   -- the disk failed, and the history has one fault more
   module _ (goes : Continues old new seat Fault) where
-    all_same : all_entries new ≡ all_entries old
-    all_same = ap (λ (t : List entries). t ++ entries_in (history_in new)) goes.taken
-        ∙ ap (λ h. old.taken.value ++ entries_in h) goes.history
-        ∙ ap (λ es. old.taken.value ++ es) (entries_more (history_in old) seat Fault
+    all_same : all_held new ≡ all_held old
+    all_same = ap (λ (t : Held). with_entries t (entries_in (history_in new))) goes.taken
+        ∙ ap (λ h. with_entries old.taken.value (entries_in h)) goes.history
+        ∙ ap (λ es. with_entries old.taken.value es) (entries_more (history_in old) seat Fault
         ∙ append-nil (entries_in (history_in old)))
 
     module _ (table : new.table ≡ old.table) (last : new.last ≡ old.last) (made : new.made ≡ old.made)
         (bytes : stores.length_of new.store ≡ stores.length_of old.store) where
       pub state_stays : state_in new ≡ state_in old
-      state_stays = let limit : new.limit ≡ old.limit = goes.limit in cc
+      state_stays =
+          let before = before_stays Fault goes in
+          λ i. record {
+            rows = table i;
+            last = last i;
+            before = before i;
+            made = made i;
+            bytes = bytes i;
+            limit = goes.limit i;
+          }
 
       state_there : state_in new ≡ state_at (base_in new) (history_in new)
       state_there =
@@ -186,20 +225,22 @@ module _ {D : Type 0} {G : Ghosts D} (old new : Books D G) (seat : ℕ) (kept : 
 
         pub kept_faulted : new.entries.items ≡ old.entries.items
             → stores.is_unsure new.store ≡ is_some new.failed.value
-            → stores.Holds new.store (all_entries old) new.failed.value
-            → ∥ MayFollowIf (all_entries old) new.failed.value ∥₁ → Kept G new
+            → stores.Holds new.store (all_held old) new.failed.value
+            → ∥ MayFollowIf (all_held old) new.failed.value ∥₁ → Kept G new
         kept_faulted still sure holds next = record {
           sound = subst Sound (sym table) kept.sound;
           bound = subst (λ (m : Moment). m.0 ≤ LAST_READING) (sym last) kept.bound;
           within = omega (arith, made, kept.within);
-          whole = still ∙ kept.whole ∙ sym all_same;
+          based = based_on Fault goes;
+          whole = still ∙ kept.whole ∙ sym (ap (λ (h : Held). h.entries) all_same);
           counted = marks_count Fault goes;
           limit = subst (λ (n : ℕ). (9 ≤ n) × (n ≤ JOURNAL_LIMIT)) (sym goes.limit) kept.limit;
-          under = goes.under ∙ kept.under ∙ sym goes.limit;
+          under = goes.place.limit ∙ kept.under ∙ sym goes.limit;
+          second = goes.place.format ∙ kept.second;
           state = state_there;
           sure = sure;
           holds = subst (λ all. stores.Holds new.store all new.failed.value) (sym all_same) holds;
-          legal = subst (λ all. ∥ IsLegal all ∥₁) (sym all_same) kept.legal;
+          lawful = subst (λ all. ∥ IsLawful all ∥₁) (sym all_same) kept.lawful;
           next = subst (λ all. ∥ MayFollowIf all new.failed.value ∥₁) (sym all_same) next;
           told = omega (arith, one_more, at_most_one new.failed.value);
           faults = faults_risen;

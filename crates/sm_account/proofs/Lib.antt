@@ -8,7 +8,8 @@ pub mod MomentLemmas
 pub mod DeedLemmas
 pub mod HandleLemmas
 pub mod HandledLaws
-pub mod ReplayLemmas
+pub mod HeldLemmas
+pub mod CountLemmas
 pub mod OpenLemmas
 pub mod RoomLemmas
 pub mod DoorLemmas

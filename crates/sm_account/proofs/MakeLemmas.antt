@@ -8,16 +8,18 @@ use Rattle.sm_model.specs.declared.entry.Mark.TheVariants.{Entry, Fault}
 use Rattle.sm_table.specs.Changes.{changed}
 use Rattle.sm_table.specs.Sound.{Sound}
 use Rattle.sm_table.specs.Sweep.{sweep}
-use Rattle.sm_store.specs.declared.store.Store.{Store}
-use Rattle.sm_store.specs.Stores as stores
+use Rattle.sm_opening.specs.Lawful.{MayFollowIf}
+use Rattle.sm_store.specs.BaseAppends.{SamePlace}
+use Rattle.sm_store.specs.BaseStores as stores
+use Rattle.sm_store.specs.declared.base_store.BaseStore.{BaseStore}
 use Rattle.sm_account.specs.declared.books.Books.{Books}
 use Rattle.sm_account.specs.declared.writing.Written.TheVariants as written
-use Rattle.sm_account.specs.Books.{MayFollowIf, history_in, disk_in, all_entries, state_in, Kept, IsDueAt, SameOrigin}
+use Rattle.sm_account.specs.Books.{history_in, disk_in, all_held, state_in, Kept, IsDueAt, SameOrigin}
 use Rattle.sm_account.specs.Writing.{WritesAs}
 use Rattle.sm_account.proofs.KeptLemmas.{Continues, kept_made, kept_faulted, state_stays, may_follow}
 
-module _ {D : Type 0} {G : Ghosts D} (old new : Books D G) (store : Store D G) (seat : ℕ) (kept : Kept G old)
-    (under : stores.limit_of store ≡ stores.limit_of old.store) where
+module _ {D : Type 0} {G : Ghosts D} (old new : Books D G) (store : BaseStore D G) (seat : ℕ) (kept : Kept G old)
+    (place : SamePlace old.store store) where
   -- the entry was written, its change made, and the mark added
   module _ (entry : entries) (ready : List ℕ) (change : Change) (due : IsDueAt old entry ready change)
       (rest : new ≡ record old {
@@ -46,7 +48,8 @@ module _ {D : Type 0} {G : Ghosts D} (old new : Books D G) (store : Store D G) (
       taken = ap (λ (b : Books D G). b.taken.value) rest;
       began = ap (λ (b : Books D G). b.began.value) rest;
       limit = ap (λ (b : Books D G). b.limit) rest;
-      under = ap stores.limit_of stored ∙ under;
+      base = ap (λ (b : Books D G). b.base) rest;
+      place = subst (SamePlace old.store) (sym stored) place;
       history = history;
       counted = ap (λ (b : Books D G). b.marks) rest;
       claims = ap (λ (b : Books D G). b.claims.items) rest;
@@ -90,7 +93,8 @@ module _ {D : Type 0} {G : Ghosts D} (old new : Books D G) (store : Store D G) (
       taken = ap (λ (b : Books D G). b.taken.value) rest;
       began = ap (λ (b : Books D G). b.began.value) rest;
       limit = ap (λ (b : Books D G). b.limit) rest;
-      under = ap stores.limit_of stored_still ∙ under;
+      base = ap (λ (b : Books D G). b.base) rest;
+      place = subst (SamePlace old.store) (sym stored_still) place;
       history = history;
       counted = ap (λ (b : Books D G). b.marks) rest;
       claims = ap (λ (b : Books D G). b.claims.items) rest;
@@ -105,8 +109,8 @@ module _ {D : Type 0} {G : Ghosts D} (old new : Books D G) (store : Store D G) (
         (ap (λ (b : Books D G). b.last) rest) (ap (λ (b : Books D G). b.made) rest) bytes
 
     faulted_kept : stores.is_unsure store ≡ is_some new.failed.value
-        → stores.Holds store (all_entries old) new.failed.value
-        → ∥ MayFollowIf (all_entries old) new.failed.value ∥₁
+        → stores.Holds store (all_held old) new.failed.value
+        → ∥ MayFollowIf (all_held old) new.failed.value ∥₁
         → Rose (G.faults (disk_in old)) (G.faults (stores.disk_of store)) → Kept G new
     faulted_kept sure holds next rose =
         kept_faulted old new seat kept goes_still (ap (λ (b : Books D G). b.table) rest)
@@ -114,7 +118,7 @@ module _ {D : Type 0} {G : Ghosts D} (old new : Books D G) (store : Store D G) (
         (subst (λ s. Rose (G.faults (disk_in old)) (G.faults (stores.disk_of s))) (sym stored_still) rose)
         (ap (λ (b : Books D G). b.entries.items) rest)
         (ap stores.is_unsure stored_still ∙ sure)
-        (subst (λ s. stores.Holds s (all_entries old) new.failed.value) (sym stored_still) holds) next
+        (subst (λ s. stores.Holds s (all_held old) new.failed.value) (sym stored_still) holds) next
 
     -- where the tail was not mended, the same entry may stand on the disk as before
     pub unmended_kept : (entry : entries) → new.failed ≡ old.failed → WritesAs old.store entry store written.Unmended
@@ -122,9 +126,9 @@ module _ {D : Type 0} {G : Ghosts D} (old new : Books D G) (store : Store D G) (
     unmended_kept entry same wrote rose =
         let failed : new.failed.value ≡ old.failed.value = ap (λ f. f.value) same in
         faulted_kept (wrote.1 ∙ sym wrote.0 ∙ kept.sure ∙ ap is_some (sym failed))
-        (subst (stores.Holds store (all_entries old)) (sym failed)
-        (wrote.3 (all_entries old) old.failed.value kept.holds))
-        (subst (λ f. ∥ MayFollowIf (all_entries old) f ∥₁) (sym failed) kept.next) rose
+        (subst (stores.Holds store (all_held old)) (sym failed)
+        (wrote.3 (all_held old) old.failed.value kept.holds))
+        (subst (λ f. ∥ MayFollowIf (all_held old) f ∥₁) (sym failed) kept.next) rose
 
     -- where the entry's write failed, it may stand there
     pub torn_kept : (entry : entries) (ready : List ℕ) (change : Change) → IsDueAt old entry ready change
@@ -132,10 +136,10 @@ module _ {D : Type 0} {G : Ghosts D} (old new : Books D G) (store : Store D G) (
         → Rose (G.faults (disk_in old)) (G.faults (stores.disk_of store)) → Kept G new
     torn_kept entry ready change due torn wrote rose =
         faulted_kept (wrote.0 ∙ ap is_some (sym torn))
-        (subst (stores.Holds store (all_entries old)) (sym torn)
-        (wrote.2 (all_entries old) old.failed.value kept.holds))
-        (subst (λ f. ∥ MayFollowIf (all_entries old) f ∥₁) (sym torn)
-        ∣ may_follow old kept entry due.later due.legal ∣₁) rose
+        (subst (stores.Holds store (all_held old)) (sym torn)
+        (wrote.2 (all_held old) old.failed.value kept.holds))
+        (subst (λ f. ∥ MayFollowIf (all_held old) f ∥₁) (sym torn)
+        ∣ may_follow old kept entry due.later due.legal due.countable ∣₁) rose
 
 -- what a step leaves behind one that changed the store alone
 module _ {D : Type 0} {G : Ghosts D} (old mid new : Books D G) (wrote : mid ≡ record old { store = mid.store }) where

@@ -77,8 +77,7 @@ module _ {D : Type 0} {G : Ghosts D} (books : Books D G) (kept : Kept G books) (
         );
         later = later;
         bound = bound;
-        key = omega arith;
-        act = record { act = sixteen; whose = refl; by = refl };
+        act = record { act = sixteen; whose = refl; caller = omega arith; by = omega arith };
       }
 
   -- an answer that holds
@@ -88,10 +87,10 @@ module _ {D : Type 0} {G : Ghosts D} (books : Books D G) (kept : Kept G books) (
     legal = (refl, (refl, may_report books.table moment work (found_arn books.table moment work.arn) refl fresh));
     later = later;
     bound = bound;
-    key = omega arith;
     act = record {
       act = step_of books.table moment work answer (found_arn books.table moment work.arn) refl fresh kept.sound;
       whose = refl;
-      by = refl;
+      caller = omega arith;
+      by = omega arith;
     };
   }

@@ -9,7 +9,6 @@ use Rattle.sm_model.specs.declared.reply.Reply.{Reply}
 use Rattle.sm_model.specs.declared.why.Why.{Why}
 use Rattle.sm_judging.specs.Judged.{judged_told, IfChange}
 use Rattle.sm_judging.specs.declared.judged.Judged.TheVariants as judged
-use Rattle.sm_core.specs.Effects.{entry_of}
 use Rattle.sm_account.specs.declared.books.Books.{Books}
 use Rattle.sm_account.specs.declared.due.Due.{Due}
 use Rattle.sm_account.specs.declared.handled.Handled.{Handled}
@@ -17,7 +16,7 @@ use Rattle.sm_account.specs.declared.handled.Handled.TheVariants.{Answered, Refu
 use Rattle.sm_account.specs.Books.{state_in}
 use Rattle.sm_account.specs.Growing.{SameButRoom}
 use Rattle.sm_account.specs.Handling.{Handles}
-use Rattle.sm_account.specs.Outcome.{Outcome, Question, considered, entry_at, limit_passed, moment_at, outcome, outcome_due, outcome_within}
+use Rattle.sm_account.specs.Outcome.{Outcome, Question, asked_entry, considered, entry_at, limit_passed, moment_at, outcome, outcome_due, outcome_within}
 use Rattle.sm_account.specs.States.{State}
 use Rattle.sm_account.proofs.HandleLemmas.{after_room, judged_as, read_as, refused_as}
 use Rattle.sm_account.proofs.RoomLemmas.{same_state}
@@ -59,7 +58,7 @@ module _ {D : Type 0} {G : Ghosts D} (books : Books D G) (seat : ℕ) (q : Quest
       (change : Option Change) (made : Change) → change ≡ Some made
       → OrMemory (judged_told (judged.Accept reply change))
       (considered books.table q.person (record { 0 = n }) q.drawn q.request)
-      → due.entry ≡ entry_of (record { 0 = n }) q.person.key q.drawn q.request → (result : Handled)
+      → due.entry ≡ asked_entry (record { 0 = n }) q.person q.drawn q.request → (result : Handled)
       → Handles G mid new seat result (outcome_within (limit_passed (state_in mid) due.entry) reply due.entry)
       → Handles G books new seat result (outcome (state_in books) q)
   made_so mid new room due reply change made some told entry result handles =
@@ -67,7 +66,7 @@ module _ {D : Type 0} {G : Ghosts D} (books : Books D G) (seat : ℕ) (q : Quest
       let behind : Handles G books new seat result (within (state_in mid) due.entry) =
       after_room books mid new seat room result (within (state_in mid) due.entry) handles in
       let entry_is : due.entry ≡ entry_at (state_in books) q =
-      entry ∙ ap (λ m. entry_of m q.person.key q.drawn q.request) at in
+      entry ∙ ap (λ m. asked_entry m q.person q.drawn q.request) at in
       let stated : Handles G books new seat result (within (state_in books) (entry_at (state_in books) q)) =
       subst (λ e. Handles G books new seat result (within (state_in books) e)) entry_is
       (subst (λ s. Handles G books new seat result (within s due.entry)) (same_state books mid room) behind) in

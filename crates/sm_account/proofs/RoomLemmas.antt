@@ -11,7 +11,7 @@ use Rattle.sm_table.specs.Sound.{ChangeSound}
 use Rattle.sm_table.specs.Sweep.{sweep}
 use Rattle.sm_core.specs.Effects.{Makes}
 use Rattle.sm_core.specs.Histories.{LegalEntry}
-use Rattle.sm_store.specs.Entries.{Spells}
+use Rattle.sm_store.specs.BaseAppends.{IsReady}
 use Rattle.sm_account.specs.declared.books.Books.{Books}
 use Rattle.sm_account.specs.declared.due.Due.{Due}
 use Rattle.sm_account.specs.Books.{Kept, history_in, state_in}
@@ -32,14 +32,16 @@ module _ {D : Type 0} {G : Ghosts D} (old mid : Books D G) (room : SameButRoom o
         sound = kept.sound;
         bound = kept.bound;
         within = kept.within;
+        based = kept.based;
         whole = room.entries ∙ kept.whole;
         counted = kept.counted;
         limit = kept.limit;
         under = kept.under;
+        second = kept.second;
         state = kept.state;
         sure = kept.sure;
         holds = kept.holds;
-        legal = kept.legal;
+        lawful = kept.lawful;
         next = kept.next;
         told = kept.told;
         faults = kept.faults;
@@ -62,7 +64,7 @@ module _ {D : Type 0} {G : Ghosts D} (old mid : Books D G) (room : SameButRoom o
         → entry.moment.0 ≤ LAST_READING
         → LimitsAside mid due
     limits_aside can stands makes sound legal later bound = record {
-      spells = subst (λ e. Spells e due.ready) (sym grown.entry_is) grown.spells;
+      spells = subst (λ e. IsReady e due.ready) (sym grown.entry_is) grown.spells;
       short = grown.short;
       before = grown.before ∙ sym table_is;
       can = at (λ t e c. CanMake t c) can;

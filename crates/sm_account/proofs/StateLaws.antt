@@ -1,5 +1,5 @@
 -- How the state goes on with the history.
-use Rattle.std.proofs.Common.{◌≡◌, ℕ, ◌+◌, ◌≤◌, List, [], ◌∷◌, ◌++◌, length, refl, ap, ◌∙◌, append-nil, length-append, arith}
+use Rattle.std.proofs.Common.{◌≡◌, ℕ, ◌+◌, List, [], ◌∷◌, ◌++◌, length, refl, ap, ◌∙◌, append-nil, length-append, arith}
 use Rattle.sm_base.specs.declared.moment.Moment.{Moment}
 use Rattle.sm_model.specs.declared.entry.At.{At}
 use Rattle.sm_model.specs.declared.entry.Entry.{Entry as entries}
@@ -7,7 +7,7 @@ use Rattle.sm_model.specs.declared.entry.Mark.{Mark}
 use Rattle.sm_model.specs.declared.entry.Mark.TheVariants.{Entry, Claim, Fault}
 use Rattle.sm_model.specs.declared.rows.Rows.{Rows}
 use Rattle.sm_core.specs.Effects.{effect}
-use Rattle.sm_core.specs.Histories.{replay, last_moment, Legal, LegalEntry}
+use Rattle.sm_core.specs.Histories.{replay, last_moment}
 use Rattle.sm_account.specs.History.{entry_then, entries_in, fault_count, faults_in}
 use Rattle.sm_account.specs.States.{size_of, sizes_of, Base, state_after, state_at, state_with}
 
@@ -69,11 +69,3 @@ pub state_claimed : (base : Base) (history : List (ℕ × Mark)) (seat : ℕ) (a
     → state_at base (history ++ (seat, Claim arn at moment) ∷ []) ≡ state_at base history
 state_claimed base history seat arn at moment =
     ap (state_after base) (entries_more history seat (Claim arn at moment) ∙ append-nil (entries_in history))
-
--- a legal list with one entry more that may follow
-pub legal_more : (rows : Rows) (before : Moment) (a : List entries) (entry : entries) → Legal rows before a
-    → (last_moment before a).0 ≤ entry.moment.0 → LegalEntry (replay rows a) entry
-    → Legal rows before (a ++ entry ∷ [])
-legal_more rows before [] entry legal later act = (later, act, tt)
-legal_more rows before (e ∷ a) entry legal later act =
-    (legal.0, legal.1, legal_more (effect rows e) e.moment a entry legal.2 later act)

@@ -5,7 +5,8 @@ use Rattle.sm_model.specs.declared.entry.Entry.{Entry}
 use Rattle.sm_model.specs.declared.entry.Mark.{Mark}
 use Rattle.sm_model.specs.declared.rows.Rows.{Rows}
 use Rattle.sm_rotator.specs.declared.rotator.Rotator.{Ghosts as RotatorGhosts}
-use Rattle.sm_store.specs.Stores as stores
+use Rattle.sm_store.specs.BaseStores as stores
+use Rattle.sm_store.specs.Held.{Held}
 use Rattle.sm_account.specs.Books as books
 use Rattle.sm_account.specs.States.{Base, State, state_at}
 use Rattle.sm_account.specs.declared.account.Account.{Account}
@@ -34,12 +35,12 @@ module _ {D R : Type 0} {G : DiskGhosts D} {V : RotatorGhosts R} where
   abbrev pub began : Account D R G V → D
   began account = account.books.began.value
 
-  -- the entries that were recovered, and these with those that were made since
-  abbrev pub taken : Account D R G V → List Entry
+  -- the base and the entries that were taken from the disk, and these with the entries that were made since
+  abbrev pub taken : Account D R G V → Held
   taken account = account.books.taken.value
 
-  abbrev pub all_of : Account D R G V → List Entry
-  all_of account = books.all_entries account.books
+  abbrev pub all_of : Account D R G V → Held
+  all_of account = books.all_held account.books
 
   -- the entry whose write failed last, while the journal's tail is unsure
   abbrev pub failed : Account D R G V → Option Entry

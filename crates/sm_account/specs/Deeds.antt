@@ -8,7 +8,7 @@ use Rattle.sm_model.specs.declared.entry.Entry.{Entry as entries}
 use Rattle.sm_model.specs.declared.entry.Mark.{Mark}
 use Rattle.sm_model.specs.declared.entry.Mark.TheVariants.{Entry, Claim, Fault}
 use Rattle.sm_account.specs.declared.books.Books.{Books}
-use Rattle.sm_account.specs.Books.{all_entries, disk_in, history_in, state_in, SameOrigin}
+use Rattle.sm_account.specs.Books.{all_held, disk_in, history_in, state_in, SameOrigin}
 use Rattle.sm_account.specs.Crashes.{Throughout}
 use Rattle.sm_account.specs.History.{by_seat}
 
@@ -61,7 +61,7 @@ module _ {D : Type 0} {G : Ghosts D} where
 -- store was not touched.
 abbrev pub LeavesTried : {D : Type 0} (G : Ghosts D) → Option entries → Books D G → Books D G → Type 0
 LeavesTried G None old new = new.store ≡ old.store
-LeavesTried G (Some own) old new = Throughout G (all_entries old) old.failed.value own (disk_in old) (disk_in new)
+LeavesTried G (Some own) old new = Throughout G (all_held old) old.failed.value own (disk_in old) (disk_in new)
 
 -- How the books go on by a deed of a seat: the history grows by its mark, what the books began with stays, and so does
 -- the rest where it is to stay; and what a crash at any moment leaves.

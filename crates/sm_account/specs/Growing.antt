@@ -4,7 +4,7 @@ use Rattle.sm_disk.specs.declared.disk.Disk.{Ghosts}
 use Rattle.sm_journal.specs.Records.{body_limit}
 use Rattle.sm_model.specs.declared.entry.Change.{Change}
 use Rattle.sm_model.specs.declared.entry.Entry.{Entry}
-use Rattle.sm_store.specs.Entries.{Spells}
+use Rattle.sm_store.specs.BaseAppends.{IsReady}
 use Rattle.sm_account.specs.declared.books.Books.{Books}
 use Rattle.sm_account.specs.declared.due.Due.{Due}
 
@@ -12,7 +12,7 @@ use Rattle.sm_account.specs.declared.due.Due.{Due}
 pub record IsGrown {D : Type 0} {G : Ghosts D} (books : Books D G) (entry : Entry) (change : Change) (due : Due)
     : Type 0 where
   pub entry_is : due.entry ≡ entry
-  pub spells : Spells entry due.ready
+  pub spells : IsReady entry due.ready
   pub short : length due.ready ≤ body_limit
   pub before : due.prepared.before ≡ books.table
   pub change_is : due.prepared.change ≡ change

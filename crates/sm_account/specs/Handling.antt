@@ -5,13 +5,14 @@ use Rattle.sm_disk.specs.declared.disk.Disk.{Ghosts}
 use Rattle.sm_journal.specs.Records.{body_limit}
 use Rattle.sm_base.specs.declared.limits.TheConstants.{CALLER_LIMIT}
 use Rattle.sm_model.specs.declared.entry.Entry.{Entry}
+use Rattle.sm_model.specs.declared.person.Person.{Person}
 use Rattle.sm_table.specs.Changes.{CanMake, StandsAt}
 use Rattle.sm_table.specs.Sound.{ChangeSound}
 use Rattle.sm_table.specs.Sweep.{sweep}
 use Rattle.sm_core.specs.Effects.{Makes}
 use Rattle.sm_core.specs.Histories.{LegalEntry}
 use Rattle.sm_sizes.specs.Spellable.{IsSpellable}
-use Rattle.sm_store.specs.Entries.{Spells}
+use Rattle.sm_store.specs.BaseAppends.{IsReady}
 use Rattle.sm_account.specs.declared.books.Books.{Books}
 use Rattle.sm_account.specs.declared.due.Due.{Due}
 use Rattle.sm_account.specs.declared.handled.Handled.{Handled}
@@ -20,17 +21,21 @@ use Rattle.sm_account.specs.Deeds.{Deed, Nothing, Made, Failed, Leaves}
 use Rattle.sm_account.specs.Handled.{HandledAs}
 use Rattle.sm_account.specs.Outcome.{Outcome, Replies}
 
+-- the key and the ARN of a person are not too long to stand with an entry
+pub record HasShortTexts (person : Person) : Type 0 where
+  pub key : length person.key ≤ CALLER_LIMIT
+  pub arn : length person.arn ≤ CALLER_LIMIT
+
 -- An entry that is legal at the books' rows and has a spelling that is not too long for a record.
 pub record MayEnter {D : Type 0} {G : Ghosts D} (books : Books D G) (entry : Entry) : Type 0 where
   pub legal : LegalEntry books.table entry
   pub later : books.last.0 ≤ entry.moment.0
   pub bound : entry.moment.0 ≤ LAST_READING
-  pub key : length entry.caller ≤ CALLER_LIMIT
   pub act : IsSpellable entry
 
 -- An entry is due at the books, limits aside, and all its memory is there.
 pub record LimitsAside {D : Type 0} {G : Ghosts D} (books : Books D G) (due : Due) : Type 0 where
-  pub spells : Spells due.entry due.ready
+  pub spells : IsReady due.entry due.ready
   pub short : length due.ready ≤ body_limit
   pub before : due.prepared.before ≡ books.table
   pub can : CanMake books.table due.prepared.change

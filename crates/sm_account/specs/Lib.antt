@@ -17,7 +17,6 @@ pub mod NextWork
 pub mod StartDue
 pub mod Report
 pub mod Allowed
-pub mod Replaying
 pub mod Values
 pub mod Accounts
 pub mod Openings

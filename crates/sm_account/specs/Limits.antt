@@ -1,6 +1,6 @@
 -- The limits that one entry more would pass.
 -- AWS Secrets Manager User Guide: "AWS Secrets Manager quotas".
-use Rattle.std.specs.Prelude.{◌≡◌, ⊤, ◌+◌, nat_le, nat_lt, if◌then◌else◌, Option, Some, None, Result, Ok, Err}
+use Rattle.std.specs.Prelude.{◌≡◌, ⊤, ◌+◌, nat_lt, if◌then◌else◌, Option, Some, None, Result, Ok, Err}
 use Rattle.sm_base.specs.declared.memory.NoMemory.{NoMemory}
 use Rattle.sm_model.specs.declared.entry.Entry.{Entry}
 use Rattle.sm_base.specs.declared.limits.TheConstants.{ENTRIES_LIMIT}
@@ -11,12 +11,13 @@ use Rattle.sm_account.specs.declared.entering.Entered.{Entered}
 use Rattle.sm_account.specs.declared.entering.Entered.TheVariants as ends
 use Rattle.sm_account.specs.declared.entering.Passed.{Passed}
 use Rattle.sm_account.specs.Deeds.{Deed, Nothing, Made, Failed}
+use Rattle.sm_account.specs.Outcome.{is_full}
 use Rattle.sm_account.specs.States.{State, size_of}
 
--- so many entries since the opening, or else so long a journal
+-- so many entries, or else so long a journal
 abbrev pub passed_at : State → Entry → Option Passed
 passed_at state entry =
-    if nat_le ENTRIES_LIMIT state.made then Some (record { limit = ENTRIES_LIMIT; what = Entries })
+    if is_full state then Some (record { limit = ENTRIES_LIMIT; what = Entries })
     else (if nat_lt state.limit (state.bytes + size_of entry)
     then Some (record { limit = state.limit; what = JournalBytes })
     else None)

@@ -1,6 +1,6 @@
 -- The outcome of a request at a state: its refusal, in the one order of all tests, or its reply and the entry that is
 -- due. AWS Secrets Manager API Reference, Actions; AWS Secrets Manager User Guide, "AWS Secrets Manager quotas".
-use Rattle.std.specs.Prelude.{ℕ, ◌+◌, nat_le, nat_lt, if◌then◌else◌, List, Option, Some, None}
+use Rattle.std.specs.Prelude.{ℕ, ◌+◌, nat_le, nat_lt, Bool, ◌||◌, if◌then◌else◌, List, Option, Some, None}
 use Rattle.sm_base.specs.declared.moment.Moment.{Moment}
 use Rattle.sm_model.specs.declared.entry.Change.{Change}
 use Rattle.sm_model.specs.declared.entry.Entry.{Entry}
@@ -12,6 +12,7 @@ use Rattle.sm_model.specs.declared.rows.Rows.{Rows}
 use Rattle.sm_model.specs.declared.why.What.TheVariants.{Entries, JournalBytes}
 use Rattle.sm_model.specs.declared.why.Why.{Why}
 use Rattle.sm_model.specs.declared.why.Why.TheVariants as whys
+use Rattle.sm_versions.specs.Prune.{pruning}
 use Rattle.sm_forms.specs.Forms.{forms_of}
 use Rattle.sm_access.specs.Admission.{admission}
 use Rattle.sm_judging.specs.declared.judged.Judged.{Judged}
@@ -19,6 +20,7 @@ use Rattle.sm_judging.specs.declared.judged.Judged.TheVariants.{Accept, Refuse, 
 use Rattle.sm_core.specs.Effects.{entry_of}
 use Rattle.sm_core.specs.Histories.{later}
 use Rattle.sm_core.specs.Judging.{judgement_for}
+use Rattle.sm_replay.specs.Following.{entries_limit}
 use Rattle.sm_account.specs.States.{State, size_of}
 
 -- a refusal, or a reply and the entry that is due
@@ -40,12 +42,16 @@ unless_denied None next = next
 abbrev pub considered : Rows → Person → Moment → List ℕ → Request → Judged
 considered rows person moment drawn request =
     unless_malformed (forms_of request)
-    (unless_denied (admission rows person moment request) (judgement_for rows person moment drawn request))
+    (unless_denied (admission rows person moment request) (judgement_for rows person (pruning moment) drawn request))
 
--- The limit that one entry more would pass: so many entries since the opening, or so long a journal.
+-- no entry more may be made: so many were made since the opening, or so many in all
+abbrev pub is_full : State → Bool
+is_full state = nat_le ENTRIES_LIMIT state.made || nat_le entries_limit (state.before + state.made)
+
+-- The limit that one entry more would pass: so many entries, or so long a journal.
 abbrev pub limit_passed : State → Entry → Option Why
 limit_passed state entry =
-    if nat_le ENTRIES_LIMIT state.made then Some (whys.Limit ENTRIES_LIMIT Entries)
+    if is_full state then Some (whys.Limit ENTRIES_LIMIT Entries)
     else (if nat_lt state.limit (state.bytes + size_of entry) then Some (whys.Limit state.limit JournalBytes) else None)
 
 abbrev pub outcome_within : Option Why → Reply → Entry → Outcome
@@ -73,10 +79,14 @@ pub record Question : Type 0 where
 abbrev pub moment_at : State → Question → Moment
 moment_at state question = later state.last question.now
 
+-- the entry of an accepted request of the person, whose ARN stands with the key
+abbrev pub asked_entry : Moment → Person → List ℕ → Request → Entry
+asked_entry moment person drawn request =
+    record (entry_of (pruning moment) person.key drawn request) { by = person.arn }
+
 -- the entry of a question
 abbrev pub entry_at : State → Question → Entry
-entry_at state question =
-    entry_of (moment_at state question) question.person.key question.drawn question.request
+entry_at state question = asked_entry (moment_at state question) question.person question.drawn question.request
 
 abbrev pub outcome : State → Question → Outcome
 outcome state question =

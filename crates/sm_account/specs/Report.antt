@@ -37,7 +37,7 @@ reported_entry moment work answer = record {
   by = [];
   drawn = [];
   act = acts.Reported work.arn work.at (entered_answer answer);
-  prunes = false;
+  prunes = true;
 }
 
 -- whether a verdict on the work holds of the secret that was found

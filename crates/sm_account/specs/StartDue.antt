@@ -1,6 +1,6 @@
 -- The start of a rotation that is due.
 -- AWS Secrets Manager User Guide: "Rotation schedules".
-use Rattle.std.specs.Prelude.{◌≡◌, ⊤, ℕ, false, List, [], Option, Some, None}
+use Rattle.std.specs.Prelude.{◌≡◌, ⊤, ℕ, true, List, [], Option, Some, None}
 use Rattle.sm_base.specs.Drawn.{drawn_token}
 use Rattle.sm_base.specs.declared.moment.Moment.{Moment}
 use Rattle.sm_model.specs.declared.entry.Act.TheVariants.{Begun}
@@ -19,7 +19,7 @@ use Rattle.sm_account.specs.States.{State}
 -- the entry that starts the rotation of the secret with this ARN
 abbrev pub begun_entry : Moment → List ℕ → List ℕ → Entry
 begun_entry moment drawn arn =
-    record { moment = moment; caller = []; by = []; drawn = drawn; act = Begun arn; prunes = false }
+    record { moment = moment; caller = []; by = []; drawn = drawn; act = Begun arn; prunes = true }
 
 -- the start of the rotation of this secret
 abbrev pub start_for : Moment → List ℕ → SecretRow → DueStart

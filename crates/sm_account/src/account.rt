@@ -1,11 +1,11 @@
 //! The account.
 ghost use Rattle.std.specs.Prelude.{◌≡◌, slice_get, option_copied};
 ghost use Rattle.sm_account.specs.Allowed.{EntriesAllowed, StayVouched};
-ghost use Rattle.sm_base.specs.declared.limits.TheConstants.{CALLER_LIMIT};
 ghost use Rattle.sm_account.specs.Books.{Kept};
 ghost use Rattle.sm_account.specs.KeptOnce.{Kept-prop};
 
 use crate::books::Books;
+use crate::counting::entries_count;
 use crate::handled::Handled;
 use crate::handling::handle;
 use crate::next_work::{NextWork, next_work};
@@ -14,6 +14,7 @@ use crate::start_due::{StartedDue, start_due};
 use sm_claims::has_due;
 use sm_disk::Disk;
 use sm_model::{Entry, Label, Moment, Person, Request, SecretId, Value};
+use sm_record::Base;
 use sm_rotator::{Rotator, Verdict};
 use sm_table::Table;
 use sm_versions::Found;
@@ -41,27 +42,27 @@ impl<D: Disk + Drop, R: Rotator> Drop for Account<D, R> {
 }
 
 impl<D: Disk, R: Rotator> Account<D, R> {
-    ghost use Rattle.std.specs.Prelude.{◌≡◌, ◌≤◌, ◌+◌, ◌-◌, ◌++◌, ℕ, length, is_some, option_copied, slice_get};
+    ghost use Rattle.std.specs.Prelude.{◌≡◌, ◌≤◌, ◌-◌, ◌++◌, length, is_some, option_copied, slice_get};
     ghost use Rattle.sm_base.specs.declared.moment.TheConstants.{LAST_READING};
-    ghost use Rattle.sm_disk.specs.OneFile.{EachHas};
     ghost use Rattle.sm_model.specs.Needed.{needed};
-    ghost use Rattle.sm_store.specs.Entries.{HasEither};
-    ghost use Rattle.sm_store.specs.declared.files.TheConstants.{JOURNAL};
+    ghost use Rattle.sm_opening.specs.Lawful.{base_under, made_of};
+    ghost use Rattle.sm_sound.specs.Bases.{IsSound};
     ghost use Rattle.sm_table.specs.Sound.{Sound};
     ghost use Rattle.sm_account.specs.Accounts.{history, base, state, rows, disk, began, taken, all_of, failed, is_unsure, doors, SameOrigin};
-    ghost use Rattle.sm_account.specs.Books.{IsLegal, MayFollowIf, FaultsBound, faults_of};
+    ghost use Rattle.sm_account.specs.Books.{FaultsBound, faults_of};
     ghost use Rattle.sm_account.specs.Claims.{ClaimsReady, ready_at};
+    ghost use Rattle.sm_account.specs.Crashes.{HoldsOnDisk};
     ghost use Rattle.sm_account.specs.Deeds.{Leaves};
     ghost use Rattle.sm_account.specs.Handled.{HandledAs, marks_of};
     ghost use Rattle.sm_account.specs.History.{by_seat, entries_in, faults_in};
-    ghost use Rattle.sm_account.specs.Handling.{handled_by};
+    ghost use Rattle.sm_account.specs.Handling.{handled_by, HasShortTexts};
     ghost use Rattle.sm_account.specs.NextWork.{NextAs, next_by};
     ghost use Rattle.sm_account.specs.Outcome.{outcome};
     ghost use Rattle.sm_account.specs.Report.{ReportsAs, report_at, reported_by};
     ghost use Rattle.sm_account.specs.StartDue.{StartsAs, start_at, started_by};
     ghost use Rattle.sm_account.specs.Values.{value_labelled};
     ghost use Rattle.sm_claims.specs.Due.{has_due};
-    ghost use Rattle.sm_core.specs.Histories.{later, replay, InTime, Legal};
+    ghost use Rattle.sm_core.specs.Histories.{later, replay};
 
     /// An account over books of which all holds that is kept.
     pub(crate) fn over(books: Books<D>, doors: u32) -> Account<D, R>
@@ -96,7 +97,7 @@ impl<D: Disk, R: Rotator> Account<D, R> {
     ) -> Handled
         requires bound { now.0 ≤ LAST_READING }
         requires drawn { length drawn.now ≡ needed request.now }
-        requires key { length person.now.key ≤ CALLER_LIMIT }
+        requires person { HasShortTexts person.now }
 
         // The answer is that at the history, and the history goes on by its mark.
         ensures handled { HandledAs result (outcome (state self.old)
@@ -167,19 +168,15 @@ impl<D: Disk, R: Rotator> Account<D, R> {
 
     /// What always holds of an account. It takes no memory, and does nothing.
     pub fn standing(&self)
-        // Each image of the disk recovers to all entries, or while the tail is unsure to these, or to these and the
-        // entry whose write failed last.
-        ensures images { EachHas JOURNAL (HasEither (all_of self.now) (failed self.now))
-            (D.sight (disk self.now)).images }
+        // Each image of the disk recovers to what was taken at the opening and all entries since, or while the tail is
+        // unsure to these, or to these and the entry whose write failed last. Both are lawful: the base is sound, and
+        // each entry is legal where it stands.
+        ensures on_disk { HoldsOnDisk (all_of self.now) (failed self.now) (D.sight (disk self.now)) }
 
         // The tail is unsure exactly where there is such an entry.
         ensures unsure { is_unsure self.now ≡ is_some (failed self.now) }
 
-        // Both lists are legal, and no entry was made after the last moment; the rows are those that the history makes
-        // of the base, and they are sound.
-        ensures legal { ∥ IsLegal (all_of self.now) ∥₁ }
-        ensures in_time { InTime (all_of self.now) }
-        ensures next { ∥ MayFollowIf (all_of self.now) (failed self.now) ∥₁ }
+        // The rows are those that the history makes of the base, and they are sound.
         ensures rows { rows self.now ≡ replay (base self.now).rows (entries_in (history self.now)) }
         ensures sound { Sound (rows self.now) }
 
@@ -224,17 +221,26 @@ impl<D: Disk, R: Rotator> Account<D, R> {
         &self.books.table
     }
 
-    /// How many entries were recovered and made. It takes no memory.
+    /// How many entries were made in all: before the base, behind it, and since the opening. It takes no memory.
     pub fn entries(&self) -> u64
-        ensures { result ≡ length (all_of self.now) }
+        ensures { result ≡ (made_of (all_of self.now)).entries }
     {
-        self.books.entries.len() as u64
+        entries_count(&self.books)
     }
 
-    /// The entry at a place, counted from 0, of those that were recovered and then those that were made. It takes no
-    /// memory.
+    /// What its entries are counted from: the base that was taken from the disk, or where there was none what stands
+    /// before all entries. It takes no memory.
+    pub fn base(&self) -> &Base
+        ensures base { result.now ≡ base_under (taken self.now).base }
+        ensures sound { IsSound result.now }
+    {
+        &self.books.base
+    }
+
+    /// The entry at a place, counted from 0, of those behind the base: those that were taken from the disk and then
+    /// those that were made. It takes no memory.
     pub fn entry(&self, place: u64) -> Option<&Entry>
-        ensures { option_copied result ≡ slice_get (all_of self.now) place }
+        ensures { option_copied result ≡ slice_get (all_of self.now).entries place }
     {
         entry_at(self.books.entries.as_slice(), place as usize)
     }

@@ -2,8 +2,10 @@
 use crate::told::Told;
 use sm_claims::Claim;
 use sm_disk::Disk;
-use sm_model::{Entry, List, Moment};
-use sm_store::Store;
+use sm_model::{Entry, Moment};
+use sm_opening::Taken;
+use sm_record::Base;
+use sm_store::BaseStore;
 use sm_table::Table;
 use std::alloc::Global;
 use std::snapshot::Snapshot;
@@ -13,8 +15,10 @@ use std::snapshot::Snapshot;
 pub struct Books<D: Disk> {
     pub alloc: Global,
     pub table: Table,
-    pub store: Store<D>,
-    /// The entries: those that were recovered at the opening, and then those that were made since.
+    pub store: BaseStore<D>,
+    /// What the entries are counted from.
+    pub base: Base,
+    /// The entries behind the base: those that were taken from the disk at the opening, and then those made since.
     pub entries: Vec<Entry>,
     /// The claims that may be open at some moment to come.
     pub claims: Vec<Claim>,
@@ -28,8 +32,8 @@ pub struct Books<D: Disk> {
     pub made: u64,
     /// The greatest length of the journal, in bytes.
     pub limit: u64,
-    /// The entries that were recovered.
-    pub taken: Snapshot<List<Entry>>,
+    /// The base, or none, and the entries that were taken from the disk at the opening.
+    pub taken: Snapshot<Taken>,
     /// The disk before the opening.
     pub began: Snapshot<D>,
     /// The entry whose write failed last, while the journal's tail is unsure.

@@ -14,10 +14,12 @@ ghost use Rattle.sm_table.specs.Changes.{CanMake, StandsAt};
 ghost use Rattle.sm_table.specs.Sound.{ChangeSound, Sound};
 ghost use Rattle.sm_table.specs.Sweep.{sweep};
 ghost use Rattle.sm_account.specs.Outcome.{considered, unless_denied};
+ghost use Rattle.sm_versions.specs.Prune.{pruning};
 
 use sm_core::{Admitted, Judged, admit, forms, judge};
 use sm_model::{Moment, Person, Request, Why};
 use sm_table::Table;
+use sm_versions::When;
 use std::alloc::Global;
 
 /// Judges a request of a person at a moment, with the random bytes that were drawn for it: the forms of its members,
@@ -38,11 +40,11 @@ pub fn consider(
 
     // A change makes the rows of the entry, can be made, stands at its moment, and leaves the rows sound; and its
     // request is legal at the rows, and none that only reads.
-    ensures makes { IfChange result (Makes table.now (entry_of moment person.now.key drawn.now request.now)) }
+    ensures makes { IfChange result (Makes table.now (entry_of (pruning moment) person.now.key drawn.now request.now)) }
     ensures can { IfChange result (CanMake table.now) }
     ensures stands { IfChange result (StandsAt table.now moment) }
     ensures change_sound { IfChange result (ChangeSound (sweep table.now moment)) }
-    ensures legal { IfChange result (λ _. LegalAct table.now moment drawn.now (Asked request.now)) }
+    ensures legal { IfChange result (λ _. LegalAct table.now (pruning moment) drawn.now (Asked request.now)) }
     ensures changes { IfChange result (λ _. is_reading request.now ≡ false) }
 {
     match forms(alloc, request) {
@@ -68,16 +70,16 @@ fn judge_admitted(
     requires drawn { length drawn.now ≡ needed request.now }
     ensures considered { OrMemory (judged_told result) (unless_denied
         (admission table.now person.now moment request.now)
-        (judgement_for table.now person.now moment drawn.now request.now)) }
-    ensures makes { IfChange result (Makes table.now (entry_of moment person.now.key drawn.now request.now)) }
+        (judgement_for table.now person.now (pruning moment) drawn.now request.now)) }
+    ensures makes { IfChange result (Makes table.now (entry_of (pruning moment) person.now.key drawn.now request.now)) }
     ensures can { IfChange result (CanMake table.now) }
     ensures stands { IfChange result (StandsAt table.now moment) }
     ensures change_sound { IfChange result (ChangeSound (sweep table.now moment)) }
-    ensures legal { IfChange result (λ _. LegalAct table.now moment drawn.now (Asked request.now)) }
+    ensures legal { IfChange result (λ _. LegalAct table.now (pruning moment) drawn.now (Asked request.now)) }
     ensures changes { IfChange result (λ _. is_reading request.now ≡ false) }
 {
     match admit(alloc, table, person, moment, request) {
-        Admitted::Ok => judge(alloc, table, person, moment, drawn, request),
+        Admitted::Ok => judge(alloc, table, person, When::pruning(moment), drawn, request),
         Admitted::Denied(statement) => Judged::Refuse(Why::Denied(statement)),
         Admitted::Memory => Judged::Memory,
     }

@@ -1,20 +1,23 @@
 //! Entering what is due: an entry is made, unless it would pass a limit or the disk fails.
 ghost use Rattle.std.specs.Prelude.{◌≡◌, ◌≤◌, length, IfOk};
 ghost use Rattle.sm_journal.specs.Records.{body_limit};
-ghost use Rattle.sm_store.specs.Entries.{Spells};
+ghost use Rattle.sm_store.specs.BaseAppends.{IsReady};
 ghost use Rattle.sm_account.specs.Books.{Kept, state_in};
 ghost use Rattle.sm_account.specs.Deeds.{Leaves};
 ghost use Rattle.sm_account.specs.Growing.{HasRoom};
 ghost use Rattle.sm_account.specs.Handling.{LimitsAside, MayEnter};
 ghost use Rattle.sm_account.specs.Limits.{EntersAs, entered_by, passed_at, tried_entry};
+ghost use Rattle.sm_account.specs.Outcome.{is_full};
 
 use crate::books::Books;
+use crate::counting::entries_count;
 use crate::due::Due;
 use crate::growing::grow;
 use crate::making::make;
 use sm_base::limits::ENTRIES_LIMIT;
 use sm_core::{Replayed, again};
 use sm_disk::{Disk, DiskFailed};
+use sm_journal::record_size;
 use sm_model::{Entry, NoMemory, What};
 
 /// A limit that an entry would pass.
@@ -69,20 +72,28 @@ pub fn enter_due<D: Disk>(books: &mut Books<D>, seat: u32, due: Due) -> Entered
     }
 }
 
+/// Whether no entry more may be made: so many were made since the opening, or as many as can be counted in all.
+fn is_full<D: Disk>(books: &Books<D>) -> bool
+    requires { Kept D.Disk books.now }
+    ensures { result ≡ is_full (state_in books.now) }
+{
+    books.made >= ENTRIES_LIMIT || entries_count(books) >= u64::MAX
+}
+
 /// The limit that an entry would pass.
 fn passed_limit<D: Disk>(books: &Books<D>, due: &Due) -> Option<Passed>
     requires kept { Kept D.Disk books.now }
-    requires spells { Spells due.now.entry due.now.ready }
+    requires spells { IsReady due.now.entry due.now.ready }
     requires short { length due.now.ready ≤ body_limit }
     ensures { result ≡ passed_at (state_in books.now) due.now.entry }
 {
-    if books.made >= ENTRIES_LIMIT {
+    if is_full(books) {
         return Some(Passed {
             limit: ENTRIES_LIMIT,
             what: What::Entries,
         });
     }
-    let size = 5 + due.ready.len() as u64;
+    let size = record_size(due.ready.as_slice());
     if books.store.length().saturating_add(size) > books.limit {
         return Some(Passed {
             limit: books.limit,

@@ -1,8 +1,6 @@
 //! All the memory that an entry needs.
 ghost use Rattle.std.specs.Prelude.{◌≡◌, ◌≤◌, length, IfOk, OnOk, None, false};
-ghost use Rattle.sm_base.specs.declared.limits.TheConstants.{CALLER_LIMIT};
 ghost use Rattle.sm_base.specs.declared.moment.TheConstants.{LAST_READING};
-ghost use Rattle.sm_core.specs.Effects.{entry_of};
 ghost use Rattle.sm_core.specs.Judging.{is_reading};
 ghost use Rattle.sm_forms.specs.Forms.{forms_of};
 ghost use Rattle.sm_model.specs.Needed.{needed};
@@ -10,11 +8,13 @@ ghost use Rattle.sm_sizes.specs.Spellable.{IsSpellable};
 ghost use Rattle.sm_sizes.specs.Texts.{HasFewTags};
 ghost use Rattle.sm_table.specs.Changes.{CanMake};
 ghost use Rattle.sm_account.specs.Growing.{HasRoom, IsGrown, SameButRoom};
+ghost use Rattle.sm_account.specs.Handling.{HasShortTexts};
+ghost use Rattle.sm_account.specs.Outcome.{asked_entry};
 
 use crate::books::Books;
 use crate::due::Due;
 use sm_disk::Disk;
-use sm_model::{Act, Bytes, Change, Copied, Entry, Moment, NoMemory, Person, Request, Text};
+use sm_model::{Act, Bytes, Change, Copied, Entry, Moment, NoMemory, Person, Request};
 use sm_sizes::spell;
 use std::alloc::Global;
 
@@ -30,13 +30,13 @@ pub fn grow_request<D: Disk>(
 ) -> Result<Due, NoMemory>
     requires can { CanMake books.old.table change }
     requires bound { moment.0 ≤ LAST_READING }
-    requires key { length person.now.key ≤ CALLER_LIMIT }
+    requires person { HasShortTexts person.now }
     requires drawn { length drawn.now ≡ needed request.now }
     requires forms { forms_of request.now ≡ None }
     requires changes { is_reading request.now ≡ false }
     requires few { HasFewTags request.now }
     ensures grown { IfOk result (λ due. IsGrown books.old
-        (entry_of moment person.now.key drawn.now request.now) change due) }
+        (asked_entry moment person.now drawn.now request.now) change due) }
     ensures room { OnOk result (HasRoom books.new) }
     ensures same { SameButRoom books.old books.new }
 {
@@ -49,7 +49,6 @@ pub fn grow_request<D: Disk>(
 pub fn grow<D: Disk>(books: &mut Books<D>, entry: Entry, change: Change) -> Result<Due, NoMemory>
     requires can { CanMake books.old.table change }
     requires bound { entry.moment.0 ≤ LAST_READING }
-    requires key { length entry.caller ≤ CALLER_LIMIT }
     requires act { IsSpellable entry }
     ensures grown { IfOk result (λ due. IsGrown books.old entry change due) }
     ensures room { OnOk result (HasRoom books.new) }
@@ -85,17 +84,18 @@ fn make_entry(
     drawn: &[u8],
     request: &Request,
 ) -> Result<Entry, NoMemory>
-    ensures { IfOk result (λ entry. entry ≡ entry_of moment person.now.key drawn.now request.now) }
+    ensures { IfOk result (λ entry. entry ≡ asked_entry moment person.now drawn.now request.now) }
 {
     let caller = person.key.copy(alloc)?;
+    let by = person.arn.copy(alloc)?;
     let drawn = Bytes::from_slice(alloc, drawn)?;
     let request = request.copy(alloc)?;
     Ok(Entry {
         moment,
         caller,
-        by: Text::fixed(""),
+        by,
         drawn,
         act: Act::Asked(request),
-        prunes: false,
+        prunes: true,
     })
 }

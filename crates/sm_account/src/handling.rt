@@ -1,11 +1,10 @@
 //! Handling a request at the books.
 ghost use Rattle.std.specs.Prelude.{◌≡◌, ◌≤◌, length};
-ghost use Rattle.sm_base.specs.declared.limits.TheConstants.{CALLER_LIMIT};
 ghost use Rattle.sm_base.specs.declared.moment.TheConstants.{LAST_READING};
 ghost use Rattle.sm_model.specs.Needed.{needed};
 ghost use Rattle.sm_account.specs.Books.{Kept, state_in};
 ghost use Rattle.sm_account.specs.Growing.{HasRoom};
-ghost use Rattle.sm_account.specs.Handling.{Handles, LimitsAside};
+ghost use Rattle.sm_account.specs.Handling.{Handles, HasShortTexts, LimitsAside};
 ghost use Rattle.sm_account.specs.Outcome.{limit_passed, outcome, outcome_within};
 
 use crate::books::Books;
@@ -30,7 +29,7 @@ pub fn handle<D: Disk>(
     requires kept { Kept D.Disk books.old }
     requires bound { now.0 ≤ LAST_READING }
     requires drawn { length drawn.now ≡ needed request.now }
-    requires key { length person.now.key ≤ CALLER_LIMIT }
+    requires person { HasShortTexts person.now }
     ensures kept { Kept D.Disk books.new }
     ensures handles { Handles D.Disk books.old books.new seat result (outcome (state_in books.old) (record {
       person = person.now;

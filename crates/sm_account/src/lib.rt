@@ -5,6 +5,7 @@
 pub mod account;
 mod books;
 mod considering;
+mod counting;
 mod due;
 mod entering;
 mod growing;
@@ -14,7 +15,6 @@ pub mod laws;
 mod making;
 pub mod next_work;
 mod opening;
-mod replaying;
 pub mod report;
 pub mod start_due;
 pub mod storied;

@@ -6,13 +6,13 @@ ghost use Rattle.sm_table.specs.Changes.{changed, StandsAt};
 ghost use Rattle.sm_table.specs.Sound.{ChangeSound, Sound};
 ghost use Rattle.sm_table.specs.Sweep.{sweep};
 ghost use Rattle.sm_disk.specs.Faults.{HasCause};
-ghost use Rattle.sm_account.specs.Books.{Kept, IsDueAt, SameOrigin, all_entries, disk_in, history_in, state_in};
+ghost use Rattle.sm_account.specs.Books.{Kept, IsDueAt, SameOrigin, all_held, disk_in, history_in, state_in};
 ghost use Rattle.sm_account.specs.Crashes.{Throughout};
 ghost use Rattle.sm_account.specs.Growing.{HasRoom};
 ghost use Rattle.sm_account.specs.Making.{mark_made};
 ghost use Rattle.sm_account.specs.Writing.{WritesAs, OnFault};
 ghost use Rattle.sm_base.specs.Faults.{Rose};
-ghost use Rattle.sm_store.specs.Stores.{limit_of};
+ghost use Rattle.sm_store.specs.BaseAppends.{SamePlace};
 
 use crate::books::Books;
 use crate::due::Due;
@@ -37,7 +37,7 @@ pub fn make<D: Disk>(books: &mut Books<D>, seat: u32, due: Due) -> Result<(), Di
     ensures torn { OnErr result (
         ((books.new.failed.value ≡ books.old.failed.value) × IsSome books.old.failed.value)
         ⊎ (books.new.failed.value ≡ Some due.entry)) }
-    ensures any_moment { Throughout D.Disk (all_entries books.old) books.old.failed.value due.entry
+    ensures any_moment { Throughout D.Disk (all_held books.old) books.old.failed.value due.entry
         (disk_in books.old) (disk_in books.new) }
     ensures cause { HasCause (D.faults (disk_in books.old)) (D.faults (disk_in books.new)) result }
 {
@@ -63,8 +63,8 @@ fn write_ready<D: Disk>(books: &mut Books<D>, due: &Due) -> Written
     requires due { IsDueAt books.old due.now.entry due.now.ready due.now.prepared.change }
     ensures answer { WritesAs books.old.store due.now.entry books.new.store result }
     ensures rest { books.new ≡ record books.old { store = books.new.store } }
-    ensures same { limit_of books.new.store ≡ limit_of books.old.store }
-    ensures any_moment { Throughout D.Disk (all_entries books.old) books.old.failed.value due.now.entry
+    ensures same { SamePlace books.old.store books.new.store }
+    ensures any_moment { Throughout D.Disk (all_held books.old) books.old.failed.value due.now.entry
         (disk_in books.old) (disk_in books.new) }
     ensures later { D.faults (disk_in books.old) ≤ D.faults (disk_in books.new) }
     ensures failed { OnFault result (Rose (D.faults (disk_in books.old)) (D.faults (disk_in books.new))) }

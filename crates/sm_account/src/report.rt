@@ -145,7 +145,7 @@ fn reported_entry(
         by: Text::fixed(""),
         drawn: Bytes::empty(alloc),
         act: Act::Reported(arn, at, answer),
-        prunes: false,
+        prunes: true,
     })
 }
 

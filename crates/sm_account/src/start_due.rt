@@ -118,7 +118,7 @@ fn start_for(
         by: Text::fixed(""),
         drawn: Bytes::from_slice(alloc, drawn)?,
         act: Act::Begun(row.arn.copy(alloc)?),
-        prunes: false,
+        prunes: true,
     };
     Ok(DueStart { arn, entry })
 }

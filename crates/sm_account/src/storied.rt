@@ -2,13 +2,15 @@
 use crate::account::Account;
 use sm_disk::Disk;
 use sm_lock::Storied;
-use sm_model::{Entry, List, Mark};
+use sm_model::Mark;
+use sm_opening::Taken;
 use sm_rotator::Rotator;
 
-/// What an account was opened over: the entries that its disk recovered, the limit on its journal, and the disk as it
-/// was. No value of it is made: it is what clauses say of a lock that an account stands behind.
+/// What an account was opened over: the base, or none, and the entries that it took from its disk, the limit on its
+/// journal, and the disk as it was. No value of it is made: it is what clauses say of a lock that an account stands
+/// behind.
 pub struct Opened<D> {
-    pub taken: List<Entry>,
+    pub taken: Taken,
     pub limit: u64,
     pub began: D,
 }

@@ -1,16 +1,18 @@
 //! Writing an entry to the disk.
-ghost use Rattle.std.specs.Prelude.{◌≡◌, ◌≤◌, ◌+◌, List, Option, None, Some, true, false, length};
+ghost use Rattle.std.specs.Prelude.{◌≡◌, ◌≤◌, ◌+◌, Option, None, Some, true, false, length};
 ghost use Rattle.sm_base.specs.Faults.{Rose};
-ghost use Rattle.sm_journal.specs.Records.{body_limit};
+ghost use Rattle.sm_journal.specs.Records.{body_limit, record_size};
+ghost use Rattle.sm_journal.specs.declared.format.Format.TheVariants as formats;
 ghost use Rattle.sm_model.specs.declared.entry.Entry.{Entry};
-ghost use Rattle.sm_store.specs.Entries.{Spells};
-ghost use Rattle.sm_store.specs.Stores.{disk_of, is_unsure, length_of, limit_of, Holds, LeavesEither};
-ghost use Rattle.sm_account.specs.Crashes.{Throughout};
+ghost use Rattle.sm_store.specs.BaseAppends.{IsReady, SamePlace};
+ghost use Rattle.sm_store.specs.BaseStores.{disk_of, format_of, is_unsure, length_of, limit_of, Holds};
+ghost use Rattle.sm_store.specs.Held.{Held};
+ghost use Rattle.sm_account.specs.Crashes.{AllRecover, Throughout};
 ghost use Rattle.sm_account.specs.Writing.{WritesAs, AppendsBehind, OnFault};
 
 use sm_disk::Disk;
 use sm_model::Bytes;
-use sm_store::{Appended, Store};
+use sm_store::{Appended, BaseStore};
 
 /// What became of an entry that was to be written.
 #[derive(Clone, Copy, Debug, PartialEq, Eq)]
@@ -22,15 +24,16 @@ pub enum Written {
     Torn,
 }
 
-/// Mends an unsure tail, and writes the entry of this spelling behind the list.
-pub fn write<D: Disk>(store: &mut Store<D>, ready: &Bytes) -> Written
-    requires spelled { (e : Entry) × Spells e ready.now }
+/// Mends an unsure tail, and writes the entry of this spelling behind what is held.
+pub fn write<D: Disk>(store: &mut BaseStore<D>, ready: &Bytes) -> Written
+    requires format { format_of store.old ≡ formats.Second }
+    requires spelled { (e : Entry) × IsReady e ready.now }
     requires short { length ready.now ≤ body_limit }
-    requires fits { length_of store.old + (5 + length ready.now) ≤ limit_of store.old }
-    ensures answer { (e : Entry) → Spells e ready.now → WritesAs store.old e store.new result }
-    ensures same { limit_of store.new ≡ limit_of store.old }
-    ensures any_moment { (e : Entry) → Spells e ready.now → (list : List Entry) (failed : Option Entry) →
-        Holds store.old list failed → Throughout D.Disk list failed e (disk_of store.old) (disk_of store.new) }
+    requires fits { length_of store.old + record_size ready.now ≤ limit_of store.old }
+    ensures answer { (e : Entry) → IsReady e ready.now → WritesAs store.old e store.new result }
+    ensures same { SamePlace store.old store.new }
+    ensures any_moment { (e : Entry) → IsReady e ready.now → (h : Held) (failed : Option Entry) →
+        Holds store.old h failed → Throughout D.Disk h failed e (disk_of store.old) (disk_of store.new) }
     ensures later { D.faults (disk_of store.old) ≤ D.faults (disk_of store.new) }
     ensures failed { OnFault result (Rose (D.faults (disk_of store.old)) (D.faults (disk_of store.new))) }
 {
@@ -40,16 +43,17 @@ pub fn write<D: Disk>(store: &mut Store<D>, ready: &Bytes) -> Written
     }
 }
 
-/// Writes the entry of this spelling behind the list, where the tail is sure.
-fn append<D: Disk>(store: &mut Store<D>, ready: &Bytes) -> Written
+/// Writes the entry of this spelling behind what is held, where the tail is sure.
+fn append<D: Disk>(store: &mut BaseStore<D>, ready: &Bytes) -> Written
     requires sure { is_unsure store.old ≡ false }
-    requires spelled { (e : Entry) × Spells e ready.now }
+    requires format { format_of store.old ≡ formats.Second }
+    requires spelled { (e : Entry) × IsReady e ready.now }
     requires short { length ready.now ≤ body_limit }
-    requires fits { length_of store.old + (5 + length ready.now) ≤ limit_of store.old }
-    ensures answer { (e : Entry) → Spells e ready.now → AppendsBehind store.old e store.new result }
-    ensures same { limit_of store.new ≡ limit_of store.old }
-    ensures any_moment { (e : Entry) → Spells e ready.now → (list : List Entry) → Holds store.old list None →
-        LeavesEither D.Disk list (Some e) (disk_of store.old) (disk_of store.new) }
+    requires fits { length_of store.old + record_size ready.now ≤ limit_of store.old }
+    ensures answer { (e : Entry) → IsReady e ready.now → AppendsBehind store.old e store.new result }
+    ensures same { SamePlace store.old store.new }
+    ensures any_moment { (e : Entry) → IsReady e ready.now → (h : Held) → Holds store.old h None →
+        AllRecover D.Disk h (Some e) (disk_of store.old) (disk_of store.new) }
     ensures later { D.faults (disk_of store.old) ≤ D.faults (disk_of store.new) }
     ensures failed { OnFault result (Rose (D.faults (disk_of store.old)) (D.faults (disk_of store.new))) }
 {

@@ -2,8 +2,8 @@
 use sm_account::{Account, Handled};
 use sm_disk::MemoryDisk;
 use sm_model::{
-    CreateSecret, Label, List, Moment, Person, PutSecretValue, Request, SecretId, Text, Value,
-    What, Why, need,
+    CreateSecret, Label, List, Moment, Person, PutSecretValue, Request, SecretId, Tag, TagResource,
+    Text, Value, What, Why, need,
 };
 use sm_rotator::NoRotator;
 use std::alloc::Global;
@@ -50,6 +50,19 @@ fn new_value() -> Request {
     })
 }
 
+/// TagResource of `db/app` with one tag.
+fn tagging(alloc: Global) -> Result<Request, Fail> {
+    let mut tags = Vec::new(alloc);
+    tags.push(Tag {
+        key: Text::fixed("k"),
+        value: Text::fixed("v"),
+    })?;
+    Ok(Request::TagResource(TagResource {
+        secret_id: Text::fixed("db/app"),
+        tags: List::new(tags),
+    }))
+}
+
 fn answer_of(handled: &Handled) -> Answer {
     match handled {
         Handled::Answered(_) => Answer::Reply,
@@ -76,6 +89,12 @@ fn ask(account: &mut Kept, request: &Request) -> Answer {
 /// What the account answers to a creation with this value.
 pub fn create(alloc: Global, account: &mut Kept, value: &'static str) -> Answer {
     ask(account, &creation(alloc, value))
+}
+
+/// What the account answers to a tag.
+pub fn tag(alloc: Global, account: &mut Kept) -> Result<Answer, Fail> {
+    let request = tagging(alloc)?;
+    Ok(ask(account, &request))
 }
 
 /// What the account answers to a new value.

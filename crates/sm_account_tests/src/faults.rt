@@ -1,4 +1,5 @@
-//! Each device call of an opening, a creation, a new value and a mend failing in turn, and what a crash leaves then.
+//! Each device call of an opening, of a journal of the first format among them, of a creation, a new value and a mend
+//! failing in turn, and what a crash leaves then.
 use crate::asked::{Answer, Kept, create, current, put};
 use crate::journals::{CREATED, disk_of, failing, file_of};
 use sm_account::{Account, OpenRefused};
@@ -110,7 +111,7 @@ fn is_run_kept(
 
 /// The first call, and whether later calls fail too, where a crash leaves something else than the run may leave.
 fn lost(alloc: Global, bodies: &[&[u8]], behind: &[u8]) -> Result<Option<(u64, bool)>, Fail> {
-    for call in 1..=30u64 {
+    for call in 1..=60u64 {
         for later in [false, true] {
             let journal = file_of(alloc, bodies, behind)?;
             if !is_run_kept(alloc, journal, bodies.len() as u64, call, later)? {
@@ -127,7 +128,7 @@ fn each_call_fails_in_turn(rt: HostRuntime) -> Result<(), Fail> {
     assert_eq!(rt;
         lost(rt.alloc(), &[CREATED], b"more")?,
         None,
-        "with an entry, and bytes behind the gate"
+        "with an entry of the first format, and bytes behind the gate"
     );
     Ok(())
 }

@@ -27,6 +27,14 @@ pub const SCHEDULED: &[u8] = b"\0\0\0\0\x65\x53\xf1\0\0\0\0\0\0\0\0\0\x04\0\0\0\
 /// CancelRotateSecret of the secret `a`.
 pub const CANCELLED: &[u8] = b"\0\0\0\0\x65\x53\xf1\0\0\0\0\0\0\0\0\0\x0c\0\0\0\x01a";
 
+/// A base of no secrets, before which all entries but one were made that can be counted.
+pub const ALMOST_ALL: &[u8] = b"\xf1\0\0\0\0\0\0\0\0\0\0\0\0\0\0\0\0\
+    \xff\xff\xff\xff\xff\xff\xff\xfe\0\0\0\0\0\0\0\0";
+
+/// A base whose last entry was made a second after the greatest reading of a clock.
+pub const TOO_LATE: &[u8] = b"\xf1\0\0\0\0\0\0\0\0\0\0\0\x2e\x90\xed\xd0\x01\
+    \0\0\0\0\0\0\0\x01\0\0\0\0\0\0\0\0";
+
 fn push_record(bytes: &mut Vec<u8>, body: &[u8]) -> Result<(), NoMemory> {
     let length = u32::try_from(body.len()).unwrap_or(u32::MAX);
     bytes.push(1)?;
@@ -39,9 +47,23 @@ fn push_record(bytes: &mut Vec<u8>, body: &[u8]) -> Result<(), NoMemory> {
     Ok(())
 }
 
-/// The file with these bodies, and some bytes behind its closed gate.
+/// The file of the first format with these bodies, and some bytes behind its closed gate.
 pub fn file_of(alloc: Global, bodies: &[&[u8]], behind: &[u8]) -> Result<Bytes, NoMemory> {
-    let mut bytes = Vec::from_slice(alloc, b"SMJRNL01")?;
+    file_with(alloc, b"SMJRNL01", bodies, behind)
+}
+
+/// The file of the second format with these bodies.
+pub fn second_file_of(alloc: Global, bodies: &[&[u8]]) -> Result<Bytes, NoMemory> {
+    file_with(alloc, b"SMJRNL02", bodies, b"")
+}
+
+fn file_with(
+    alloc: Global,
+    header: &[u8],
+    bodies: &[&[u8]],
+    behind: &[u8],
+) -> Result<Bytes, NoMemory> {
+    let mut bytes = Vec::from_slice(alloc, header)?;
     for body in bodies {
         push_record(&mut bytes, body)?;
     }

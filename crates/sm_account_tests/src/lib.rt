@@ -5,6 +5,8 @@
 #[cfg(test)]
 mod asked;
 #[cfg(test)]
+mod bases;
+#[cfg(test)]
 mod crowds;
 #[cfg(test)]
 mod faults;

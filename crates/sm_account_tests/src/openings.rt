@@ -157,12 +157,12 @@ fn answers(alloc: Global, limit: u64) -> Result<([Answer; 4], u64), Fail>
 #[test]
 fn requests_are_answered_within_the_limits(rt: HostRuntime) -> Result<(), Fail> {
     let full = Answer::Limit(9, What::JournalBytes);
-    let most = Answer::Limit(183, What::JournalBytes);
+    let most = Answer::Limit(257, What::JournalBytes);
     let whole = [Answer::Reply, Answer::Reply, Answer::Refused, Answer::Reply];
-    assert_eq!(rt; answers(rt.alloc(), 184)?, (whole, 2), "both entries fit");
+    assert_eq!(rt; answers(rt.alloc(), 258)?, (whole, 2), "both entries fit");
     let one = [Answer::Reply, Answer::Reply, Answer::Refused, most];
     assert_eq!(rt;
-        answers(rt.alloc(), 183)?,
+        answers(rt.alloc(), 257)?,
         (one, 1),
         "the second one passes the limit by a byte"
     );
@@ -204,24 +204,45 @@ fn kind(entry: Option<&Entry>) -> char {
     }
 }
 
-/// The first three entries of an account that recovered a creation, before and after a new value.
-fn kinds(alloc: Global) -> Result<[char; 6], Fail> {
+/// The first entries behind the base of an account, before and after a new value.
+fn kinds(account: &mut Kept) -> [char; 6] {
+    let first = kind(account.entry(0));
+    let second = kind(account.entry(1));
+    let third = kind(account.entry(u64::MAX));
+    put(account);
+    let then = kind(account.entry(0));
+    let added = kind(account.entry(1));
+    [first, second, third, then, added, kind(account.entry(2))]
+}
+
+/// Those of an account that is opened over a creation.
+fn behind_no_base(alloc: Global) -> Result<[char; 6], Fail> {
+    let disk = disk_of(alloc, file_of(alloc, &[], b"")?, Fails::never(alloc))?;
+    let opened: Result<Kept, _> = Account::open(alloc, disk, 1, 1000);
+    let Ok(mut earlier) = opened else {
+        return Err("not opened".into());
+    };
+    create(alloc, &mut earlier, "s3cret");
+    let opened: Result<Kept, _> = Account::open(alloc, earlier.close(), 1, 1000);
+    let Ok(mut account) = opened else {
+        return Err("not opened again".into());
+    };
+    Ok(kinds(&mut account))
+}
+
+/// Those of an account of which a creation in the first format became the base.
+fn behind_a_base(alloc: Global) -> Result<[char; 6], Fail> {
     let disk = disk_of(alloc, file_of(alloc, &[CREATED], b"")?, Fails::never(alloc))?;
     let opened: Result<Kept, _> = Account::open(alloc, disk, 1, 1000);
     let Ok(mut account) = opened else {
         return Err("not opened".into());
     };
-    let first = kind(account.entry(0));
-    let second = kind(account.entry(1));
-    let third = kind(account.entry(u64::MAX));
-    put(&mut account);
-    let then = kind(account.entry(0));
-    let added = kind(account.entry(1));
-    Ok([first, second, third, then, added, kind(account.entry(2))])
+    Ok(kinds(&mut account))
 }
 
 #[test]
 fn entries_are_given_by_number(rt: HostRuntime) -> Result<(), Fail> {
-    assert_eq!(rt; kinds(rt.alloc())?, ['c', '-', '-', 'c', 'p', '-']);
+    assert_eq!(rt; behind_no_base(rt.alloc())?, ['c', '-', '-', 'c', 'p', '-']);
+    assert_eq!(rt; behind_a_base(rt.alloc())?, ['-', '-', '-', 'p', '-', '-']);
     Ok(())
 }

@@ -454,7 +454,7 @@ module _ (row : SecretRow) (typed : RowTyped row) (sound : RowSound row) (plain 
   counted_fits : counted.fits (counted_of row) ≡ true
   unfolding counted
   counted_fits =
-      and_from _ _ (long_fits (length row.versions) (omega (arith, sound.fits.version_count)))
+      and_from _ _ (long_fits (length row.versions) (omega (arith, sound.version_count)))
       (and_from _ _ (long_fits row.next_version typed.next)
       (and_from _ _ (pairs_fit row.labels typed.labels few) (date_may_fit row.deletion sound.fits.deletion)))
 

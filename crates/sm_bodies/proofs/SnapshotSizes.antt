@@ -91,7 +91,7 @@ module _ (row : SecretRow) (typed : RowTyped row) (sound : RowSound row) (plain 
         arith,
         head_size row typed sound plain small,
         versions_size row.versions typed.versions sound.fits.versions,
-        sound.fits.version_count,
+        sound.version_count,
       )
 
 -- ---- all secrets

@@ -7,7 +7,8 @@ use Rattle.sm_model.specs.declared.rows.SecretRow.{SecretRow}
 use Rattle.sm_versions.specs.Due.{is_due, is_due_for}
 use Rattle.sm_model.specs.Due.{is_reached, is_free_or_held_by}
 use Rattle.sm_model.specs.Labels.{holder, aws_current, aws_pending}
-use Rattle.sm_versions.specs.Put.{is_full}
+use Rattle.sm_model.specs.Versions.{is_full_when}
+use Rattle.sm_versions.specs.Prune.{pruning}
 use Rattle.sm_versions.specs.Sound.{RowSound}
 use Rattle.sm_versions.specs.Texts.{is_among, once}
 use Rattle.sm_base.specs.Texts.{same_text}
@@ -105,7 +106,7 @@ due_stays row moment token is =
     let due = (and_parts (is_due row moment) (not (has_version row.versions token)) is).0 in
     let reached : Bool = row.rotation.enabled && is_reached row.rotation.next moment in
     let first = and_parts (reached && is_none row.deletion && is_some current
-    && is_free_or_held_by (holder row.labels aws_pending) current) (not (is_full row)) due in
+    && is_free_or_held_by (holder row.labels aws_pending) current) (not (is_full_when row (pruning moment))) due in
     let second = and_parts (reached && is_none row.deletion && is_some current)
     (is_free_or_held_by (holder row.labels aws_pending) current) first.0 in
     let third = and_parts (reached && is_none row.deletion) (is_some current) second.0 in

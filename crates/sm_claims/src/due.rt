@@ -7,6 +7,7 @@ ghost use Rattle.sm_claims.specs.Due.{due_of, first_due, has_due};
 use sm_model::{Moment, RowList, SecretRow, Token};
 use sm_rotation::is_due;
 use sm_table::Table;
+use sm_versions::When;
 
 /// Whether some secret is due at the moment for a token that none of its versions has. It takes no memory.
 #[tactic(auto, using(crate::proofs::DueLemmas::due_is_some))]
@@ -44,7 +45,7 @@ fn due_with<'a>(
 {
     match table.row(serial) {
         Some(row) => {
-            if is_due(row, token, moment) {
+            if is_due(row, token, When::pruning(moment)) {
                 Some(row)
             } else {
                 None
@@ -63,7 +64,7 @@ fn first_due_of_all<'a>(table: &'a Table, moment: Moment, token: &Token) -> Opti
     for i in 0..table.count() {
         match table.at(i) {
             Some(row) => {
-                if is_due(row, token, moment) {
+                if is_due(row, token, When::pruning(moment)) {
                     return Some(row);
                 }
             }

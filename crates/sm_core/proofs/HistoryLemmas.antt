@@ -6,12 +6,13 @@ use Rattle.sm_model.specs.declared.entry.Act.{Act}
 use Rattle.sm_model.specs.declared.entry.Change.{Change}
 use Rattle.sm_model.specs.declared.entry.Entry.{Entry}
 use Rattle.sm_model.specs.declared.rows.Rows.{Rows}
+use Rattle.sm_model.specs.Versions.{When}
 use Rattle.sm_table.specs.Sound.{Sound}
 use Rattle.sm_table.specs.Sweep.{sweep}
 use Rattle.sm_table.proofs.SoundLaws.{commit_sound}
 use Rattle.sm_judging.specs.Changes.{settled, IsChange}
 use Rattle.sm_rotations.proofs.ActLemmas.{Agrees}
-use Rattle.sm_core.specs.Effects.{act_effect, effect}
+use Rattle.sm_core.specs.Effects.{when_of, act_effect, effect}
 use Rattle.sm_core.specs.Histories.{replay, LegalAct, Legal, InTime}
 use Rattle.sm_core.specs.Replaying.{replayed_act}
 use Rattle.sm_core.proofs.ReplayLemmas.{act_agrees}
@@ -24,12 +25,12 @@ agreed_keeps rows after moment L (Some change) sound agrees legal =
     let is = agrees.1 in
     subst Sound is.makes (commit_sound rows moment change is.can is.stands sound is.sound)
 
-pub act_keeps : (rows : Rows) (moment : Moment) (drawn : List ℕ) (act : Act) → Sound rows → moment.0 ≤ LAST_READING
-    → LegalAct rows moment drawn act → Sound (settled (act_effect (sweep rows moment) moment drawn act))
-act_keeps rows moment drawn act sound early legal =
-    agreed_keeps rows (settled (act_effect (sweep rows moment) moment drawn act)) moment
-    (LegalAct rows moment drawn act) (replayed_act rows moment drawn act) sound
-    (act_agrees rows moment drawn act sound early) legal
+pub act_keeps : (rows : Rows) (when : When) (drawn : List ℕ) (act : Act) → Sound rows → when.moment.0 ≤ LAST_READING
+    → LegalAct rows when drawn act → Sound (settled (act_effect (sweep rows when.moment) when drawn act))
+act_keeps rows when drawn act sound early legal =
+    agreed_keeps rows (settled (act_effect (sweep rows when.moment) when drawn act)) when.moment
+    (LegalAct rows when drawn act) (replayed_act rows when drawn act) sound
+    (act_agrees rows when drawn act sound early) legal
 
 -- a legal entry leaves the rows sound, and so does a legal history
 pub legal_keeps : (rows : Rows) → (before : Moment) → (entries : List Entry) → Sound rows → Legal rows before entries
@@ -38,4 +39,4 @@ pub legal_keeps : (rows : Rows) → (before : Moment) → (entries : List Entry)
 legal_keeps rows before [] sound legal early = sound
 legal_keeps rows before (entry ∷ entries) sound legal early =
     legal_keeps (effect rows entry) entry.moment entries
-    (act_keeps rows entry.moment entry.drawn entry.act sound early.0 legal.1.1) legal.2 early.1
+    (act_keeps rows (when_of entry) entry.drawn entry.act sound early.0 legal.1.1) legal.2 early.1

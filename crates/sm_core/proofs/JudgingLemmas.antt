@@ -1,5 +1,5 @@
 -- Judging a request: when it is refused, when it changes nothing, and what its change is.
-use Rattle.std.proofs.Common.{◌≡◌, inl, ℕ, ◌≤◌, Bool, false, ◌||◌, List, length, Option, Some, None, is_none, IsSome, IsTrue, Result, Ok, Err, IfOk, refl, sym, ◌∙◌, subst, arith}
+use Rattle.std.proofs.Common.{◌≡◌, inl, ℕ, ◌≤◌, false, ◌||◌, List, length, Option, Some, None, is_none, IsSome, IsTrue, Result, Ok, Err, IfOk, refl, sym, ◌∙◌, subst, arith}
 use Rattle.std.proofs.lemmas.Bool.Decides.{nat_tests}
 use Rattle.std.proofs.Math.Bool.{or-false}
 use Rattle.sm_base.specs.declared.memory.NoMemory.{NoMemory}
@@ -17,6 +17,7 @@ use Rattle.sm_model.specs.declared.rows.Rows.{Rows}
 use Rattle.sm_model.specs.declared.why.Why.{Why}
 use Rattle.sm_model.specs.Bounds.{is_date}
 use Rattle.sm_model.specs.Needed.{needed}
+use Rattle.sm_model.specs.Versions.{When}
 use Rattle.sm_table.specs.Sound.{Sound}
 use Rattle.sm_forms.specs.Forms.{forms_of}
 use Rattle.sm_judging.specs.declared.judged.Judged.{Judged}
@@ -51,67 +52,69 @@ use Rattle.sm_core.specs.Histories.{IsDue, LegalAct}
 use Rattle.sm_core.specs.Judging.{judgement_asking, judgement_for, judgement, is_batch, refusal, IsUnchanged}
 
 -- it is refused exactly by the first test that fails
-pub is_refused : (question : List ℕ → Option Why) (rows : Rows) (moment : Moment) (drawn : List ℕ) (request : Request)
-    → refusal_told (judgement_asking question rows moment drawn request) ≡ Some (refusal rows moment drawn request)
-is_refused question rows moment drawn (requests.BatchGetSecretValue batch) = batch_refuses question rows moment batch
-is_refused question rows moment drawn (requests.CreateSecret create) = create_refuses rows moment drawn create
-is_refused question rows moment drawn (requests.DeleteSecret delete) = delete_refuses rows moment delete
-is_refused question rows moment drawn (requests.DescribeSecret describe) = describe_refuses rows moment describe
-is_refused question rows moment drawn (requests.GetRandomPassword get) = password_refuses drawn get
-is_refused question rows moment drawn (requests.GetSecretValue get) = get_refuses rows moment get
-is_refused question rows moment drawn (requests.ListSecretVersionIds list) = versions_refuses rows moment list
-is_refused question rows moment drawn (requests.ListSecrets list) = list_refuses rows moment list
-is_refused question rows moment drawn (requests.PutSecretValue put) = put_refuses rows moment drawn put
-is_refused question rows moment drawn (requests.RemoveRegionsFromReplication remove) = refl
-is_refused question rows moment drawn (requests.ReplicateSecretToRegions replicate) = refl
-is_refused question rows moment drawn (requests.StopReplicationToReplica stop) = refl
-is_refused question rows moment drawn (requests.RestoreSecret restore) = restore_refuses rows moment restore
-is_refused question rows moment drawn (requests.TagResource tag) = tag_refuses rows moment tag
-is_refused question rows moment drawn (requests.UntagResource untag) = untag_refuses rows moment untag
-is_refused question rows moment drawn (requests.UpdateSecret update) = update_refuses rows moment drawn update
-is_refused question rows moment drawn (requests.UpdateSecretVersionStage update) = move_refuses rows moment update
-is_refused question rows moment drawn (requests.CancelRotateSecret cancel) = cancel_refuses rows moment cancel
-is_refused question rows moment drawn (requests.DeleteResourcePolicy delete) = delete_policy_refuses rows moment delete
-is_refused question rows moment drawn (requests.GetResourcePolicy get) = get_policy_refuses rows moment get
-is_refused question rows moment drawn (requests.PutResourcePolicy put) = put_policy_refuses rows moment put
-is_refused question rows moment drawn (requests.RotateSecret rotate) = rotate_refuses rows moment drawn rotate
-is_refused question rows moment drawn (requests.ValidateResourcePolicy validate) = validate_refuses rows moment validate
+pub is_refused : (question : List ℕ → Option Why) (rows : Rows) (when : When) (drawn : List ℕ) (request : Request)
+    → refusal_told (judgement_asking question rows when drawn request) ≡ Some (refusal rows when drawn request)
+is_refused question rows when drawn (requests.BatchGetSecretValue batch) = batch_refuses question rows when.moment batch
+is_refused question rows when drawn (requests.CreateSecret create) = create_refuses rows when.moment drawn create
+is_refused question rows when drawn (requests.DeleteSecret delete) = delete_refuses rows when delete
+is_refused question rows when drawn (requests.DescribeSecret describe) = describe_refuses rows when.moment describe
+is_refused question rows when drawn (requests.GetRandomPassword get) = password_refuses drawn get
+is_refused question rows when drawn (requests.GetSecretValue get) = get_refuses rows when.moment get
+is_refused question rows when drawn (requests.ListSecretVersionIds list) = versions_refuses rows when.moment list
+is_refused question rows when drawn (requests.ListSecrets list) = list_refuses rows when.moment list
+is_refused question rows when drawn (requests.PutSecretValue put) = put_refuses rows when drawn put
+is_refused question rows when drawn (requests.RemoveRegionsFromReplication remove) = refl
+is_refused question rows when drawn (requests.ReplicateSecretToRegions replicate) = refl
+is_refused question rows when drawn (requests.StopReplicationToReplica stop) = refl
+is_refused question rows when drawn (requests.RestoreSecret restore) = restore_refuses rows when restore
+is_refused question rows when drawn (requests.TagResource tag) = tag_refuses rows when tag
+is_refused question rows when drawn (requests.UntagResource untag) = untag_refuses rows when untag
+is_refused question rows when drawn (requests.UpdateSecret update) = update_refuses rows when drawn update
+is_refused question rows when drawn (requests.UpdateSecretVersionStage update) = move_refuses rows when update
+is_refused question rows when drawn (requests.CancelRotateSecret cancel) = cancel_refuses rows when cancel
+is_refused question rows when drawn (requests.DeleteResourcePolicy delete) = delete_policy_refuses rows when delete
+is_refused question rows when drawn (requests.GetResourcePolicy get) = get_policy_refuses rows when.moment get
+is_refused question rows when drawn (requests.PutResourcePolicy put) = put_policy_refuses rows when put
+is_refused question rows when drawn (requests.RotateSecret rotate) = rotate_refuses rows when drawn rotate
+is_refused question rows when drawn (requests.ValidateResourcePolicy validate) =
+    validate_refuses rows when.moment validate
 
 -- a deletion has no repeat
-deletes_unchanged : (rows : Rows) (moment : Moment) (delete : DeleteSecret)
-    → IfAccepted (delete_judgement rows moment delete)
-    (λ change. is_none change ≡ (deletes_nobody rows moment delete || false))
-deletes_unchanged rows moment delete =
-    subst (λ b. IfAccepted (delete_judgement rows moment delete) (λ change. is_none change ≡ b))
-    (sym (or-false (deletes_nobody rows moment delete))) (delete_changes rows moment delete)
+deletes_unchanged : (rows : Rows) (when : When) (delete : DeleteSecret)
+    → IfAccepted (delete_judgement rows when delete)
+    (λ change. is_none change ≡ (deletes_nobody rows when.moment delete || false))
+deletes_unchanged rows when delete =
+    subst (λ b. IfAccepted (delete_judgement rows when delete) (λ change. is_none change ≡ b))
+    (sym (or-false (deletes_nobody rows when.moment delete))) (delete_changes rows when delete)
 
 -- nothing is changed exactly by what only reads, by the forced deletion of a secret that is not there, and by a repeat
-pub is_unchanged : (question : List ℕ → Option Why) (rows : Rows) (moment : Moment) (drawn : List ℕ) (request : Request)
-    → IfAccepted (judgement_asking question rows moment drawn request) (IsUnchanged rows moment drawn request)
-is_unchanged question rows moment drawn (requests.BatchGetSecretValue batch) = batch_reads question rows moment batch
-is_unchanged question rows moment drawn (requests.CreateSecret create) = create_repeats rows moment drawn create
-is_unchanged question rows moment drawn (requests.DeleteSecret delete) = deletes_unchanged rows moment delete
-is_unchanged question rows moment drawn (requests.DescribeSecret describe) = describe_reads rows moment describe
-is_unchanged question rows moment drawn (requests.GetRandomPassword get) = password_reads drawn get
-is_unchanged question rows moment drawn (requests.GetSecretValue get) = get_reads rows moment get
-is_unchanged question rows moment drawn (requests.ListSecretVersionIds list) = versions_reads rows moment list
-is_unchanged question rows moment drawn (requests.ListSecrets list) = list_reads rows moment list
-is_unchanged question rows moment drawn (requests.PutSecretValue put) = put_repeats rows moment drawn put
-is_unchanged question rows moment drawn (requests.RemoveRegionsFromReplication remove) = tt
-is_unchanged question rows moment drawn (requests.ReplicateSecretToRegions replicate) = tt
-is_unchanged question rows moment drawn (requests.StopReplicationToReplica stop) = tt
-is_unchanged question rows moment drawn (requests.RestoreSecret restore) = restore_changes rows moment restore
-is_unchanged question rows moment drawn (requests.TagResource tag) = tag_changes rows moment tag
-is_unchanged question rows moment drawn (requests.UntagResource untag) = untag_changes rows moment untag
-is_unchanged question rows moment drawn (requests.UpdateSecret update) = update_repeats rows moment drawn update
-is_unchanged question rows moment drawn (requests.UpdateSecretVersionStage update) = move_changes rows moment update
-is_unchanged question rows moment drawn (requests.CancelRotateSecret cancel) = cancel_changes rows moment cancel
-is_unchanged question rows moment drawn (requests.DeleteResourcePolicy delete) =
-    delete_policy_changes rows moment delete
-is_unchanged question rows moment drawn (requests.GetResourcePolicy get) = get_policy_reads rows moment get
-is_unchanged question rows moment drawn (requests.PutResourcePolicy put) = put_policy_changes rows moment put
-is_unchanged question rows moment drawn (requests.RotateSecret rotate) = rotate_repeats rows moment drawn rotate
-is_unchanged question rows moment drawn (requests.ValidateResourcePolicy validate) = validate_reads rows moment validate
+pub is_unchanged : (question : List ℕ → Option Why) (rows : Rows) (when : When) (drawn : List ℕ) (request : Request)
+    → IfAccepted (judgement_asking question rows when drawn request) (IsUnchanged rows when.moment drawn request)
+is_unchanged question rows when drawn (requests.BatchGetSecretValue batch) = batch_reads question rows when.moment batch
+is_unchanged question rows when drawn (requests.CreateSecret create) = create_repeats rows when.moment drawn create
+is_unchanged question rows when drawn (requests.DeleteSecret delete) = deletes_unchanged rows when delete
+is_unchanged question rows when drawn (requests.DescribeSecret describe) = describe_reads rows when.moment describe
+is_unchanged question rows when drawn (requests.GetRandomPassword get) = password_reads drawn get
+is_unchanged question rows when drawn (requests.GetSecretValue get) = get_reads rows when.moment get
+is_unchanged question rows when drawn (requests.ListSecretVersionIds list) = versions_reads rows when.moment list
+is_unchanged question rows when drawn (requests.ListSecrets list) = list_reads rows when.moment list
+is_unchanged question rows when drawn (requests.PutSecretValue put) = put_repeats rows when drawn put
+is_unchanged question rows when drawn (requests.RemoveRegionsFromReplication remove) = tt
+is_unchanged question rows when drawn (requests.ReplicateSecretToRegions replicate) = tt
+is_unchanged question rows when drawn (requests.StopReplicationToReplica stop) = tt
+is_unchanged question rows when drawn (requests.RestoreSecret restore) = restore_changes rows when restore
+is_unchanged question rows when drawn (requests.TagResource tag) = tag_changes rows when tag
+is_unchanged question rows when drawn (requests.UntagResource untag) = untag_changes rows when untag
+is_unchanged question rows when drawn (requests.UpdateSecret update) = update_repeats rows when drawn update
+is_unchanged question rows when drawn (requests.UpdateSecretVersionStage update) = move_changes rows when update
+is_unchanged question rows when drawn (requests.CancelRotateSecret cancel) = cancel_changes rows when cancel
+is_unchanged question rows when drawn (requests.DeleteResourcePolicy delete) =
+    delete_policy_changes rows when delete
+is_unchanged question rows when drawn (requests.GetResourcePolicy get) = get_policy_reads rows when.moment get
+is_unchanged question rows when drawn (requests.PutResourcePolicy put) = put_policy_changes rows when put
+is_unchanged question rows when drawn (requests.RotateSecret rotate) = rotate_repeats rows when drawn rotate
+is_unchanged question rows when drawn (requests.ValidateResourcePolicy validate) =
+    validate_reads rows when.moment validate
 
 -- a moment that a clock can give is a date that a secret may keep
 pub is_kept_date : (moment : Moment) → moment.0 ≤ LAST_READING → IsTrue (is_date moment)
@@ -122,54 +125,55 @@ least : (create : CreateSecret) (n : ℕ) → n ≡ needed (requests.CreateSecre
 least create n e = omega (arith, e)
 
 -- the change of an accepted request is its entry's
-pub change_is_entry : (question : List ℕ → Option Why) (rows : Rows) (moment : Moment) (key drawn : List ℕ)
+pub change_is_entry : (question : List ℕ → Option Why) (rows : Rows) (when : When) (key drawn : List ℕ)
     (request : Request) → Sound rows
-    → moment.0 ≤ LAST_READING
+    → when.moment.0 ≤ LAST_READING
     → forms_of request ≡ None → length drawn ≡ needed request
-    → IfChange (judgement_asking question rows moment drawn request) (IsChange rows moment
-    (effect rows (entry_of moment key drawn request)))
-change_is_entry question rows moment key drawn (requests.BatchGetSecretValue batch) sound early forms room = tt
-change_is_entry question rows moment key drawn (requests.CreateSecret create) sound early forms room =
-    create_change rows moment drawn create sound (is_kept_date moment early) forms (least create (length drawn) room)
-change_is_entry question rows moment key drawn (requests.DeleteSecret delete) sound early forms room =
-    delete_change rows moment delete sound early forms
-change_is_entry question rows moment key drawn (requests.DescribeSecret describe) sound early forms room =
-    describe_change rows moment describe _
-change_is_entry question rows moment key drawn (requests.GetRandomPassword get) sound early forms room = tt
-change_is_entry question rows moment key drawn (requests.GetSecretValue get) sound early forms room =
-    get_change rows moment get _
-change_is_entry question rows moment key drawn (requests.ListSecretVersionIds list) sound early forms room =
-    versions_change rows moment list _
-change_is_entry question rows moment key drawn (requests.ListSecrets list) sound early forms room = tt
-change_is_entry question rows moment key drawn (requests.PutSecretValue put) sound early forms room =
-    put_change rows moment drawn put sound (is_kept_date moment early) forms
-change_is_entry question rows moment key drawn (requests.RemoveRegionsFromReplication remove) sound early forms room =
+    → IfChange (judgement_asking question rows when drawn request) (IsChange rows when.moment
+    (effect rows (entry_of when key drawn request)))
+change_is_entry question rows when key drawn (requests.BatchGetSecretValue batch) sound early forms room = tt
+change_is_entry question rows when key drawn (requests.CreateSecret create) sound early forms room =
+    create_change rows when.moment drawn create sound (is_kept_date when.moment early) forms
+    (least create (length drawn) room)
+change_is_entry question rows when key drawn (requests.DeleteSecret delete) sound early forms room =
+    delete_change rows when delete sound early forms
+change_is_entry question rows when key drawn (requests.DescribeSecret describe) sound early forms room =
+    describe_change rows when.moment describe _
+change_is_entry question rows when key drawn (requests.GetRandomPassword get) sound early forms room = tt
+change_is_entry question rows when key drawn (requests.GetSecretValue get) sound early forms room =
+    get_change rows when.moment get _
+change_is_entry question rows when key drawn (requests.ListSecretVersionIds list) sound early forms room =
+    versions_change rows when.moment list _
+change_is_entry question rows when key drawn (requests.ListSecrets list) sound early forms room = tt
+change_is_entry question rows when key drawn (requests.PutSecretValue put) sound early forms room =
+    put_change rows when drawn put sound (is_kept_date when.moment early) forms
+change_is_entry question rows when key drawn (requests.RemoveRegionsFromReplication remove) sound early forms room =
     tt
-change_is_entry question rows moment key drawn (requests.ReplicateSecretToRegions replicate) sound early forms room =
+change_is_entry question rows when key drawn (requests.ReplicateSecretToRegions replicate) sound early forms room =
     tt
-change_is_entry question rows moment key drawn (requests.StopReplicationToReplica stop) sound early forms room = tt
-change_is_entry question rows moment key drawn (requests.RestoreSecret restore) sound early forms room =
-    restore_change rows moment restore sound (is_kept_date moment early)
-change_is_entry question rows moment key drawn (requests.TagResource tag) sound early forms room =
-    tag_change rows moment tag sound (is_kept_date moment early) forms
-change_is_entry question rows moment key drawn (requests.UntagResource untag) sound early forms room =
-    untag_change rows moment untag sound (is_kept_date moment early)
-change_is_entry question rows moment key drawn (requests.UpdateSecret update) sound early forms room =
-    update_change rows moment drawn update sound (is_kept_date moment early) forms
-change_is_entry question rows moment key drawn (requests.UpdateSecretVersionStage update) sound early forms room =
-    move_change rows moment update sound (is_kept_date moment early)
-change_is_entry question rows moment key drawn (requests.CancelRotateSecret cancel) sound early forms room =
-    cancel_change rows moment cancel sound (is_kept_date moment early)
-change_is_entry question rows moment key drawn (requests.DeleteResourcePolicy delete) sound early forms room =
-    delete_policy_change rows moment delete sound (is_kept_date moment early)
-change_is_entry question rows moment key drawn (requests.GetResourcePolicy get) sound early forms room =
-    get_policy_change rows moment get _
-change_is_entry question rows moment key drawn (requests.PutResourcePolicy put) sound early forms room =
-    put_policy_change rows moment put sound (is_kept_date moment early) forms
-change_is_entry question rows moment key drawn (requests.RotateSecret rotate) sound early forms room =
-    rotate_change rows moment drawn rotate sound early (is_kept_date moment early) forms
-change_is_entry question rows moment key drawn (requests.ValidateResourcePolicy validate) sound early forms room =
-    validate_change rows moment validate _
+change_is_entry question rows when key drawn (requests.StopReplicationToReplica stop) sound early forms room = tt
+change_is_entry question rows when key drawn (requests.RestoreSecret restore) sound early forms room =
+    restore_change rows when restore sound (is_kept_date when.moment early)
+change_is_entry question rows when key drawn (requests.TagResource tag) sound early forms room =
+    tag_change rows when tag sound (is_kept_date when.moment early) forms
+change_is_entry question rows when key drawn (requests.UntagResource untag) sound early forms room =
+    untag_change rows when untag sound (is_kept_date when.moment early)
+change_is_entry question rows when key drawn (requests.UpdateSecret update) sound early forms room =
+    update_change rows when drawn update sound (is_kept_date when.moment early) forms
+change_is_entry question rows when key drawn (requests.UpdateSecretVersionStage update) sound early forms room =
+    move_change rows when update sound (is_kept_date when.moment early)
+change_is_entry question rows when key drawn (requests.CancelRotateSecret cancel) sound early forms room =
+    cancel_change rows when cancel sound (is_kept_date when.moment early)
+change_is_entry question rows when key drawn (requests.DeleteResourcePolicy delete) sound early forms room =
+    delete_policy_change rows when delete sound (is_kept_date when.moment early)
+change_is_entry question rows when key drawn (requests.GetResourcePolicy get) sound early forms room =
+    get_policy_change rows when.moment get _
+change_is_entry question rows when key drawn (requests.PutResourcePolicy put) sound early forms room =
+    put_policy_change rows when put sound (is_kept_date when.moment early) forms
+change_is_entry question rows when key drawn (requests.RotateSecret rotate) sound early forms room =
+    rotate_change rows when drawn rotate sound early (is_kept_date when.moment early) forms
+change_is_entry question rows when key drawn (requests.ValidateResourcePolicy validate) sound early forms room =
+    validate_change rows when.moment validate _
 
 -- no request is judged as want of memory
 no_memory : (judged : Judged) (refusal : Option Why) → refusal_told judged ≡ Some refusal → IsSome (judged_told judged)
@@ -177,45 +181,45 @@ no_memory (Accept reply change) refusal e = refl
 no_memory (Refuse why) refusal e = refl
 no_memory Memory refusal e = absurd (let f : None ≡ Some refusal = e in cc)
 
-pub judgement_is_no_memory : (question : List ℕ → Option Why) (rows : Rows) (moment : Moment) (drawn : List ℕ)
-    (request : Request) → IsSome (judged_told (judgement_asking question rows moment drawn request))
-judgement_is_no_memory question rows moment drawn request =
-    no_memory (judgement_asking question rows moment drawn request) (refusal rows moment drawn request)
-    (is_refused question rows moment drawn request)
+pub judgement_is_no_memory : (question : List ℕ → Option Why) (rows : Rows) (when : When) (drawn : List ℕ)
+    (request : Request) → IsSome (judged_told (judgement_asking question rows when drawn request))
+judgement_is_no_memory question rows when drawn request =
+    no_memory (judgement_asking question rows when drawn request) (refusal rows when drawn request)
+    (is_refused question rows when drawn request)
 
 -- ---- whatever is asked of the secrets of a batch
 
 -- an entry is due for the same requests
-due_alike : (question : List ℕ → Option Why) (rows : Rows) (moment : Moment) (drawn : List ℕ) (request : Request)
-    → IsDue (judgement_asking question rows moment drawn request) → IsDue (judgement rows moment drawn request)
-due_alike question rows moment drawn (requests.BatchGetSecretValue batch) due = absurd (cc)
-due_alike question rows moment drawn request due = due
+due_alike : (question : List ℕ → Option Why) (rows : Rows) (when : When) (drawn : List ℕ) (request : Request)
+    → IsDue (judgement_asking question rows when drawn request) → IsDue (judgement rows when drawn request)
+due_alike question rows when drawn (requests.BatchGetSecretValue batch) due = absurd (cc)
+due_alike question rows when drawn request due = due
 
 -- so one is due for a person's request only where it is due whoever asks
-pub due_for : (rows : Rows) (person : Person) (moment : Moment) (drawn : List ℕ) (request : Request)
-    → IsDue (judgement_for rows person moment drawn request) → IsDue (judgement rows moment drawn request)
-due_for rows person moment drawn request due =
-    due_alike (value_question rows person moment) rows moment drawn request due
+pub due_for : (rows : Rows) (person : Person) (when : When) (drawn : List ℕ) (request : Request)
+    → IsDue (judgement_for rows person when drawn request) → IsDue (judgement rows when drawn request)
+due_for rows person when drawn request due =
+    due_alike (value_question rows person when.moment) rows when drawn request due
 
 -- and any other request is judged alike
-alone_alike : (question : List ℕ → Option Why) (rows : Rows) (moment : Moment) (drawn : List ℕ) (request : Request)
+alone_alike : (question : List ℕ → Option Why) (rows : Rows) (when : When) (drawn : List ℕ) (request : Request)
     → is_batch request ≡ false
-    → judgement rows moment drawn request ≡ judgement_asking question rows moment drawn request
-alone_alike question rows moment drawn (requests.BatchGetSecretValue batch) alone = absurd (cc)
-alone_alike question rows moment drawn request alone = refl
+    → judgement rows when drawn request ≡ judgement_asking question rows when drawn request
+alone_alike question rows when drawn (requests.BatchGetSecretValue batch) alone = absurd (cc)
+alone_alike question rows when drawn request alone = refl
 
 pub is_alone : (request : Request)
     → ((batch : BatchGetSecretValue) → request ≡ requests.BatchGetSecretValue batch → ⊥) → is_batch request ≡ false
 is_alone (requests.BatchGetSecretValue batch) other = absurd (other batch refl)
 is_alone request other = refl
 
-pub judged_alone : (result : Result Judged NoMemory) (question : List ℕ → Option Why) (rows : Rows) (moment : Moment)
+pub judged_alone : (result : Result Judged NoMemory) (question : List ℕ → Option Why) (rows : Rows) (when : When)
     (drawn : List ℕ) (request : Request) → is_batch request ≡ false
-    → IfOk result (λ judged. judged ≡ judgement rows moment drawn request)
-    → IfOk result (λ judged. judged ≡ judgement_asking question rows moment drawn request)
-judged_alone (Ok judged) question rows moment drawn request alone is =
-    is ∙ alone_alike question rows moment drawn request alone
-judged_alone (Err e) question rows moment drawn request alone is = tt
+    → IfOk result (λ judged. judged ≡ judgement rows when drawn request)
+    → IfOk result (λ judged. judged ≡ judgement_asking question rows when drawn request)
+judged_alone (Ok judged) question rows when drawn request alone is =
+    is ∙ alone_alike question rows when drawn request alone
+judged_alone (Err e) question rows when drawn request alone is = tt
 
 -- ---- all of it
 
@@ -227,29 +231,30 @@ if_due (Refuse why) L f = tt
 if_due Memory L f = tt
 
 -- all that is said of a request that is judged so
-pub record IsJudged (question : List ℕ → Option Why) (rows : Rows) (moment : Moment) (key drawn : List ℕ)
+pub record IsJudged (question : List ℕ → Option Why) (rows : Rows) (when : When) (key drawn : List ℕ)
     (request : Request) (result : Judged) : Type 0 where
-  pub judged : OrMemory (judged_told result) (judgement_asking question rows moment drawn request)
-  pub refused : OrMemory (refusal_told result) (refusal rows moment drawn request)
-  pub unchanged : IfAccepted result (IsUnchanged rows moment drawn request)
-  pub legal : IfChange result (λ _. LegalAct rows moment drawn (Asked request))
-  pub change : IfChange result (IsChange rows moment (effect rows (entry_of moment key drawn request)))
+  pub judged : OrMemory (judged_told result) (judgement_asking question rows when drawn request)
+  pub refused : OrMemory (refusal_told result) (refusal rows when drawn request)
+  pub unchanged : IfAccepted result (IsUnchanged rows when.moment drawn request)
+  pub legal : IfChange result (λ _. LegalAct rows when drawn (Asked request))
+  pub change : IfChange result (IsChange rows when.moment (effect rows (entry_of when key drawn request)))
 
-pub judges : (question : List ℕ → Option Why) (rows : Rows) (moment : Moment) (key drawn : List ℕ) (request : Request)
-    (judged : Judged) → Sound rows → moment.0 ≤ LAST_READING → forms_of request ≡ None
-    → length drawn ≡ needed request → judged ≡ judgement_asking question rows moment drawn request
-    → IsJudged question rows moment key drawn request judged
-judges question rows moment key drawn request judged sound early forms room e =
-    let model = judgement_asking question rows moment drawn request in
+pub judges : (question : List ℕ → Option Why) (rows : Rows) (when : When) (key drawn : List ℕ) (request : Request)
+    (judged : Judged) → Sound rows → when.moment.0 ≤ LAST_READING → forms_of request ≡ None
+    → length drawn ≡ needed request → judged ≡ judgement_asking question rows when drawn request
+    → IsJudged question rows when key drawn request judged
+judges question rows when key drawn request judged sound early forms room e =
+    let model = judgement_asking question rows when drawn request in
     record {
       judged = told_same judged model e;
-      refused = subst (λ j. OrMemory (refusal_told j) (refusal rows moment drawn request)) (sym e)
-          (told_refusal model (refusal rows moment drawn request) (is_refused question rows moment drawn request));
-      unchanged = subst (λ j. IfAccepted j (IsUnchanged rows moment drawn request)) (sym e)
-          (is_unchanged question rows moment drawn request);
-      legal = subst (λ j. IfChange j (λ _. LegalAct rows moment drawn (Asked request))) (sym e)
-          (if_due model (LegalAct rows moment drawn (Asked request))
-          (λ due. (room, forms, inl (due_alike question rows moment drawn request due))));
-      change = subst (λ j. IfChange j (IsChange rows moment (effect rows (entry_of moment key drawn request)))) (sym e)
-          (change_is_entry question rows moment key drawn request sound early forms room);
+      refused = subst (λ j. OrMemory (refusal_told j) (refusal rows when drawn request)) (sym e)
+          (told_refusal model (refusal rows when drawn request) (is_refused question rows when drawn request));
+      unchanged = subst (λ j. IfAccepted j (IsUnchanged rows when.moment drawn request)) (sym e)
+          (is_unchanged question rows when drawn request);
+      legal = subst (λ j. IfChange j (λ _. LegalAct rows when drawn (Asked request))) (sym e)
+          (if_due model (LegalAct rows when drawn (Asked request))
+          (λ due. (room, forms, inl (due_alike question rows when drawn request due))));
+      change = subst (λ j. IfChange j (IsChange rows when.moment (effect rows (entry_of when key drawn request))))
+          (sym e)
+          (change_is_entry question rows when key drawn request sound early forms room);
     }

@@ -6,4 +6,5 @@ pub mod VouchedRowLemmas
 pub mod VouchedLemmas
 pub mod StayLemmas
 pub mod StayedRowLemmas
+pub mod LeftRowLemmas
 pub mod TokenLemmas

@@ -12,6 +12,7 @@ use Rattle.sm_model.specs.declared.request.Request.{Request}
 use Rattle.sm_model.specs.declared.request.Request.TheVariants as requests
 use Rattle.sm_model.specs.declared.rows.Rows.{Rows}
 use Rattle.sm_model.specs.declared.rows.SecretRow.{SecretRow}
+use Rattle.sm_model.specs.Versions.{When}
 use Rattle.sm_versions.specs.Settle.{settle}
 use Rattle.sm_versions.proofs.KeptLaws.{settle_stays}
 use Rattle.sm_dates.specs.Days.{days_after}
@@ -59,22 +60,22 @@ later_kept None reply change = refl
 later_kept (Some date) reply change = refl
 
 -- a deletion is accepted without a change exactly where it is forced and nobody is found
-deletion_kept : (force : Bool) (days : ℕ) (moment : Moment) (given : List ℕ) (row : Option SecretRow)
-    → change_kept true (delete_found row moment (cond force Forced (After days)) given)
+deletion_kept : (force : Bool) (days : ℕ) (when : When) (given : List ℕ) (row : Option SecretRow)
+    → change_kept true (delete_found row when (cond force Forced (After days)) given)
     ≡ cond (force && is_none row) (Some Nothing)
-    (change_of (delete_found row moment (cond force Forced (After days)) given))
-deletion_kept true days moment given None = refl
-deletion_kept true days moment given (Some row) = refl
-deletion_kept false days moment given None = refl
-deletion_kept false days moment given (Some row) = later_kept row.deletion _ _
+    (change_of (delete_found row when (cond force Forced (After days)) given))
+deletion_kept true days when given None = refl
+deletion_kept true days when given (Some row) = refl
+deletion_kept false days when given None = refl
+deletion_kept false days when given (Some row) = later_kept row.deletion _ _
 
-pub kept_is_asked : (rows : Rows) (moment : Moment) (drawn : List ℕ) (request : Request)
-    → change_kept (is_deletion request) (judgement rows moment drawn request)
-    ≡ change_asked rows moment drawn request
-kept_is_asked rows moment drawn (requests.DeleteSecret delete) =
-    deletion_kept delete.force_delete_without_recovery (window_days delete.recovery_window_in_days) moment
-    delete.secret_id (found rows moment (secret_id delete.secret_id))
-kept_is_asked rows moment drawn request = kept_change (judgement rows moment drawn request)
+pub kept_is_asked : (rows : Rows) (when : When) (drawn : List ℕ) (request : Request)
+    → change_kept (is_deletion request) (judgement rows when drawn request)
+    ≡ change_asked rows when drawn request
+kept_is_asked rows when drawn (requests.DeleteSecret delete) =
+    deletion_kept delete.force_delete_without_recovery (window_days delete.recovery_window_in_days) when
+    delete.secret_id (found rows when.moment (secret_id delete.secret_id))
+kept_is_asked rows when drawn request = kept_change (judgement rows when drawn request)
 
 -- ---- the rows
 
@@ -105,13 +106,13 @@ nobody_dropped true rows moment id later (Some row) sound e h = absurd (false≢
 nobody_dropped false rows moment id later row sound e h = absurd (false≢true h)
 
 -- the forced deletion of a secret that is not there changes nothing
-pub nobody_changes : (rows : Rows) (moment : Moment) (drawn : List ℕ) (request : Request) → Sound rows
-    → is_of_nobody rows moment request ≡ true
-    → IsChange rows moment (settled (request_effect (sweep rows moment) moment drawn request)) Nothing
-nobody_changes rows moment drawn (requests.DeleteSecret delete) sound h =
+pub nobody_changes : (rows : Rows) (when : When) (drawn : List ℕ) (request : Request) → Sound rows
+    → is_of_nobody rows when.moment request ≡ true
+    → IsChange rows when.moment (settled (request_effect (sweep rows when.moment) when drawn request)) Nothing
+nobody_changes rows when drawn (requests.DeleteSecret delete) sound h =
     let id : SecretId = secret_id delete.secret_id in
-    nobody_dropped delete.force_delete_without_recovery rows moment id
-    (change_named (sweep rows moment) id moment
-    (scheduled_at (days_after moment (window_days delete.recovery_window_in_days))))
-    (found rows moment id) sound refl h
-nobody_changes rows moment drawn request sound h = absurd (false≢true h)
+    nobody_dropped delete.force_delete_without_recovery rows when.moment id
+    (change_named (sweep rows when.moment) id when
+    (scheduled_at (days_after when.moment (window_days delete.recovery_window_in_days))))
+    (found rows when.moment id) sound refl h
+nobody_changes rows when drawn request sound h = absurd (false≢true h)

@@ -1,7 +1,6 @@
 -- An entry that is judged again: it is accepted exactly where it is legal, and its change is the entry's.
 use Rattle.std.proofs.Common.{◌≡◌, ℕ, ◌≤◌, Bool, true, false, cond, nat_eq, List, [], length, Option, Some, None, IsSome, refl, sym, subst, arith, IsTrue}
 use Rattle.std.proofs.lemmas.Bool.Decides.{nat_tests}
-use Rattle.sm_base.specs.declared.moment.Moment.{Moment}
 use Rattle.sm_base.specs.declared.moment.TheConstants.{LAST_READING}
 use Rattle.sm_base.specs.Outcomes.{OrMemory}
 use Rattle.sm_model.specs.declared.entry.Act.{Act}
@@ -13,6 +12,7 @@ use Rattle.sm_model.specs.declared.request.Request.TheVariants as requests
 use Rattle.sm_model.specs.declared.rows.Rows.{Rows}
 use Rattle.sm_model.specs.declared.why.Why.{Why}
 use Rattle.sm_model.specs.Needed.{needed}
+use Rattle.sm_model.specs.Versions.{When}
 use Rattle.sm_table.specs.Sound.{Sound}
 use Rattle.sm_table.specs.Sweep.{sweep}
 use Rattle.sm_forms.specs.Forms.{forms_of}
@@ -27,7 +27,7 @@ use Rattle.sm_rotations.proofs.BegunLemmas.{begun_agrees}
 use Rattle.sm_rotations.proofs.ReportedLemmas.{reported_agrees}
 use Rattle.sm_core.specs.declared.replaying.Replayed.{Replayed}
 use Rattle.sm_core.specs.declared.replaying.Replayed.TheVariants.{Accept, Refuse, Memory}
-use Rattle.sm_core.specs.Effects.{act_effect, effect}
+use Rattle.sm_core.specs.Effects.{when_of, act_effect, effect}
 use Rattle.sm_core.specs.Histories.{IsDue, MayBeAsked, LegalAct, LegalEntry, may_stand}
 use Rattle.sm_core.specs.Judging.{judgement, is_batch, is_of_nobody}
 use Rattle.sm_core.specs.Replaying.{again_told, IfReplayed, AsLegal, change_of, change_asked, change_unless, replayed_act, replayed}
@@ -52,24 +52,24 @@ request_agrees n m true (Some why) L P change e h = λ legal. absurd (let f : So
 request_agrees n m false forms L P change e h = λ legal. absurd (grind (arith, nat_tests, e, legal.0))
 
 -- there is a change exactly where the act is legal, and it is the entry's
-pub act_agrees : (rows : Rows) (moment : Moment) (drawn : List ℕ) (act : Act) → Sound rows → moment.0 ≤ LAST_READING
-    → Agrees (LegalAct rows moment drawn act) (IsChange rows moment
-    (settled (act_effect (sweep rows moment) moment drawn act)))
-    (replayed_act rows moment drawn act)
-act_agrees rows moment drawn (Asked request) sound early =
+pub act_agrees : (rows : Rows) (when : When) (drawn : List ℕ) (act : Act) → Sound rows → when.moment.0 ≤ LAST_READING
+    → Agrees (LegalAct rows when drawn act) (IsChange rows when.moment
+    (settled (act_effect (sweep rows when.moment) when drawn act)))
+    (replayed_act rows when drawn act)
+act_agrees rows when drawn (Asked request) sound early =
     request_agrees (length drawn) (needed request) (nat_eq (length drawn) (needed request)) (forms_of request)
-    (MayBeAsked rows moment drawn request) _ (change_asked rows moment drawn request) refl
-    (λ room forms. nobody_agrees (is_of_nobody rows moment request) (IsDue (judgement rows moment drawn request)) _
-    (change_of (judgement rows moment drawn request))
-    (judged_agrees (judgement rows moment drawn request) _
-    (change_is_entry no_question rows moment [] drawn request sound early forms room))
-    (nobody_changes rows moment drawn request sound))
-act_agrees rows moment drawn (Begun arn) sound early =
-    begun_agrees rows moment drawn arn sound early (is_kept_date moment early)
-act_agrees rows moment drawn (Reported arn at answer) sound early =
-    with_bytes (length drawn) 0 (nat_eq (length drawn) 0) (MayReport rows moment arn at) _
-    (reported_change rows moment arn at answer) refl
-    (reported_agrees rows moment arn at answer sound early (is_kept_date moment early))
+    (MayBeAsked rows when drawn request) _ (change_asked rows when drawn request) refl
+    (λ room forms. nobody_agrees (is_of_nobody rows when.moment request) (IsDue (judgement rows when drawn request)) _
+    (change_of (judgement rows when drawn request))
+    (judged_agrees (judgement rows when drawn request) _
+    (change_is_entry no_question rows when [] drawn request sound early forms room))
+    (nobody_changes rows when drawn request sound))
+act_agrees rows when drawn (Begun arn) sound early =
+    begun_agrees rows when drawn arn sound early (is_kept_date when.moment early)
+act_agrees rows when drawn (Reported arn at answer) sound early =
+    with_bytes (length drawn) 0 (nat_eq (length drawn) 0) (MayReport rows when.moment arn at) _
+    (reported_change rows when arn at answer) refl
+    (reported_agrees rows when arn at answer sound early (is_kept_date when.moment early))
 
 -- and only where it may be by who stands with it
 guard_agrees : (may : Bool) (L : Type 0) (P : Change → Type 0) (change : Option Change) → Agrees L P change
@@ -103,15 +103,15 @@ pub replays : (rows : Rows) (entry : Entry) (result : Replayed) → Sound rows �
     → OrMemory (again_told result) (replayed rows entry) → IsReplayed rows entry result
 replays rows entry result sound early e =
     by_change rows entry result (replayed rows entry) e
-    (guard_agrees (may_stand entry) (LegalAct rows entry.moment entry.drawn entry.act)
-    (IsChange rows entry.moment (effect rows entry)) (replayed_act rows entry.moment entry.drawn entry.act)
-    (act_agrees rows entry.moment entry.drawn entry.act sound early))
+    (guard_agrees (may_stand entry) (LegalAct rows (when_of entry) entry.drawn entry.act)
+    (IsChange rows entry.moment (effect rows entry)) (replayed_act rows (when_of entry) entry.drawn entry.act)
+    (act_agrees rows (when_of entry) entry.drawn entry.act sound early))
 
 -- a batch makes no entry
-pub batch_unchanged : (rows : Rows) (moment : Moment) (drawn : List ℕ) (request : Request) → is_batch request ≡ true
-    → None ≡ change_asked rows moment drawn request
-batch_unchanged rows moment drawn (requests.BatchGetSecretValue batch) is = refl
-batch_unchanged rows moment drawn request is = absurd (cc)
+pub batch_unchanged : (rows : Rows) (when : When) (drawn : List ℕ) (request : Request) → is_batch request ≡ true
+    → None ≡ change_asked rows when drawn request
+batch_unchanged rows when drawn (requests.BatchGetSecretValue batch) is = refl
+batch_unchanged rows when drawn request is = absurd (cc)
 
 -- one part of what is asked of a change
 pub if_replayed_then : (result : Replayed) (P Q : Change → Type 0) → ((change : Change) → P change → Q change)

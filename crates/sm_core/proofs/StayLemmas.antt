@@ -10,7 +10,7 @@ use Rattle.sm_model.specs.declared.rows.Stage.{Stage}
 use Rattle.sm_model.specs.declared.rows.Stage.TheVariants.{Create, Set, Test, Finish}
 use Rattle.sm_model.specs.declared.rows.VersionRow.{VersionRow}
 use Rattle.sm_model.specs.declared.value.Value.{Value}
-use Rattle.sm_model.specs.Versions.{has_version}
+use Rattle.sm_model.specs.Versions.{When, has_version}
 use Rattle.sm_versions.specs.declared.values.PutDone.TheVariants.{Added, Same, Exists}
 use Rattle.sm_versions.specs.Kept.{CurrentKept, JobKept}
 use Rattle.sm_versions.specs.Labels.{labels_on}
@@ -21,14 +21,18 @@ use Rattle.sm_versions.proofs.ValueLemmas.{has_version_filled, has_version_push,
 use Rattle.sm_rotation.specs.Begin.{pending_version, begin_row}
 use Rattle.sm_rotation.specs.Step.{is_yes, made_value, retried, after_create, after_finish, marked, finished, step_at, applied_row}
 use Rattle.sm_rotation.proofs.MarkLemmas.{has_version_marked, value_of_marked}
-use Rattle.sm_core.specs.Tokens.{VersionsStay}
 
 -- ---- versions
 
-pub stay_same : (versions : List VersionRow) → VersionsStay versions versions
+-- each version that was there is there, and each value that a version had it has
+pub record AllStay (old new : List VersionRow) : Type 0 where
+  pub there : (token : List ℕ) → has_version old token ≡ true → has_version new token ≡ true
+  pub valued : (token : List ℕ) (value : Value) → value_of old token ≡ Some value → value_of new token ≡ Some value
+
+pub stay_same : (versions : List VersionRow) → AllStay versions versions
 stay_same versions = record { there = λ token h. h; valued = λ token value e. e }
 
-pub stay_on : (old mid new : List VersionRow) → VersionsStay old mid → VersionsStay mid new → VersionsStay old new
+pub stay_on : (old mid new : List VersionRow) → AllStay old mid → AllStay mid new → AllStay old new
 stay_on old mid new first second = record {
   there = λ token h. second.there token (first.there token h);
   valued = λ token value e. second.valued token value (first.valued token value e);
@@ -48,7 +52,7 @@ pushed_value versions version token value e =
     (has_value_named versions token (ap is_some e))
     ∙ e
 
-stay_pushed : (versions : List VersionRow) (version : VersionRow) → VersionsStay versions (versions ++ version ∷ [])
+stay_pushed : (versions : List VersionRow) (version : VersionRow) → AllStay versions (versions ++ version ∷ [])
 stay_pushed versions version =
     record { there = pushed_there versions version; valued = pushed_value versions version }
 
@@ -61,7 +65,7 @@ filled_value (v ∷ vs) id given token value empty e =
     grind (arith, common_steps, filled_value vs id given token value)
 
 stay_filled : (versions : List VersionRow) (id : List ℕ) (given : Value) → has_value versions id ≡ false
-    → VersionsStay versions (filled versions id given)
+    → AllStay versions (filled versions id given)
 stay_filled versions id given empty = record {
   there = λ token h. has_version_filled versions id given token ∙ h;
   valued = λ token value e. filled_value versions id given token value empty e;
@@ -69,7 +73,7 @@ stay_filled versions id given empty = record {
 
 -- one remembers an attempt
 stay_marked : (versions : List VersionRow) (id : List ℕ) (tested : Option ℕ)
-    → VersionsStay versions (marked versions id tested)
+    → AllStay versions (marked versions id tested)
 stay_marked versions id tested = record {
   there = λ token h. has_version_marked versions id tested token ∙ h;
   valued = λ token value e. value_of_marked versions id tested token ∙ e;
@@ -80,7 +84,7 @@ stay_marked versions id tested = record {
 -- it is the same secret, and its versions stay
 pub record RowStays (row next : SecretRow) : Type 0 where
   pub serial : next.serial ≡ row.serial
-  pub versions : VersionsStay row.versions next.versions
+  pub versions : AllStay row.versions next.versions
 
 -- a start
 pub begin_stays : (row : SecretRow) (token : List ℕ) (moment : Moment) → RowStays row (begin_row row token moment)
@@ -98,23 +102,23 @@ fills_empty row token value labels None h = refl
 fills_empty row token value labels (Some kept) h =
     absurd (no_repeat (same_value kept value) (labels_on row.labels token) h)
 
-put_stays_on : (row : SecretRow) (token : List ℕ) (value : Value) (labels : List (List ℕ)) (moment : Moment)
+put_stays_on : (row : SecretRow) (token : List ℕ) (value : Value) (labels : List (List ℕ)) (when : When)
     (held : Option VersionRow) → version_of row.versions token ≡ held
-    → put_answer_on row token value labels held ≡ Added
-    → RowStays row (put_row_on row token value labels moment held)
-put_stays_on row token value labels moment None e done =
-    record { serial = refl; versions = stay_pushed row.versions (new_version row token value moment) }
-put_stays_on row token value labels moment (Some version) e done =
+    → put_answer_on row token value labels when held ≡ Added
+    → RowStays row (put_row_on row token value labels when.moment held)
+put_stays_on row token value labels when None e done =
+    record { serial = refl; versions = stay_pushed row.versions (new_version row token value when.moment) }
+put_stays_on row token value labels when (Some version) e done =
     let empty : has_value row.versions token ≡ false =
     ap is_some (version_of_some row.versions token version e).1
     ∙ fills_empty row token value labels version.value done in
     record { serial = refl; versions = stay_filled row.versions token value empty }
 
 -- a put that is done
-pub put_stays : (row : SecretRow) (token : List ℕ) (value : Value) (labels : List (List ℕ)) (moment : Moment)
-    → put_answer row token value labels ≡ Added → RowStays row (put_row row token value labels moment)
-put_stays row token value labels moment done =
-    put_stays_on row token value labels moment (version_of row.versions token) refl done
+pub put_stays : (row : SecretRow) (token : List ℕ) (value : Value) (labels : List (List ℕ)) (when : When)
+    → put_answer row token value labels when ≡ Added → RowStays row (put_row row token value labels when.moment)
+put_stays row token value labels when done =
+    put_stays_on row token value labels when (version_of row.versions token) refl done
 
 -- an answer to createSecret
 created_stays : (row : SecretRow) (job : Job) (moment : Moment) (value : Option Value)

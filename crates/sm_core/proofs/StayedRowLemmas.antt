@@ -5,6 +5,7 @@ use Rattle.sm_base.specs.declared.moment.Moment.{Moment}
 use Rattle.sm_base.specs.declared.secret_id.SecretId.{SecretId}
 use Rattle.sm_model.specs.declared.rows.Rows.{Rows}
 use Rattle.sm_model.specs.declared.rows.SecretRow.{SecretRow}
+use Rattle.sm_model.specs.Versions.{When}
 use Rattle.sm_versions.specs.Serials.{rises}
 use Rattle.sm_versions.specs.Settle.{settle}
 use Rattle.sm_table.specs.Changes.{row_with, replaced, dropped}
@@ -18,8 +19,19 @@ use Rattle.sm_table.proofs.SoundLaws.{sweep_sound}
 use Rattle.sm_judging.specs.Changes.{with_row, change_named, settled}
 use Rattle.sm_rotations.specs.WholeArns.{change_with_arn}
 use Rattle.sm_upkeep.specs.DeleteSecret.{without_row, drop_named}
-use Rattle.sm_core.specs.Tokens.{versions_in, VersionsStay, SecretsStay}
-use Rattle.sm_core.proofs.StayLemmas.{stay_same, stay_on, RowStays}
+use Rattle.sm_core.specs.Tokens.{HasSecret, versions_in, versions_at}
+use Rattle.sm_core.proofs.StayLemmas.{AllStay, stay_same, stay_on, RowStays}
+
+-- at the moment, and nothing is dropped
+abbrev pub plain : Moment → When
+plain moment = record { moment = moment; prunes = false }
+
+-- a secret that is there, and is no new one, was there, and all of its versions stay
+pub record EachStays (old new : Rows) : Type 0 where
+  pub later : old.next ≤ new.next
+  pub there : (serial : ℕ) → serial < old.next → HasSecret new serial → HasSecret old serial
+  pub stay : (serial : ℕ) → serial < old.next → HasSecret new serial
+      → AllStay (versions_at old serial) (versions_at new serial)
 
 -- ---- one serial
 
@@ -27,7 +39,7 @@ use Rattle.sm_core.proofs.StayLemmas.{stay_same, stay_on, RowStays}
 abbrev pub CameFrom : Option SecretRow → Option SecretRow → Type 0
 CameFrom None old = Unit {0}
 CameFrom (Some row) None = ⊥
-CameFrom (Some row) (Some old) = VersionsStay old.versions row.versions
+CameFrom (Some row) (Some old) = AllStay old.versions row.versions
 
 came_same : (row : Option SecretRow) → CameFrom row row
 came_same None = tt
@@ -45,7 +57,7 @@ came_there (Some row) None came is = absurd came
 came_there (Some row) (Some old) came is = refl
 
 came_stay : (new old : Option SecretRow) → CameFrom new old → IsSome new
-    → VersionsStay (versions_in old) (versions_in new)
+    → AllStay (versions_in old) (versions_in new)
 came_stay None old came is = absurd (cc)
 came_stay (Some row) None came is = absurd came
 came_stay (Some row) (Some old) came is = came
@@ -93,14 +105,14 @@ undropped_in (r ∷ rs) serial row i = by (eqb r.serial serial) i (undropped_in 
     by false (inr i) later = inr (later i)
 
 replaced_came : (rows : List SecretRow) (row old : SecretRow) (serial : ℕ) → row_with rows row.serial ≡ Some old
-    → VersionsStay old.versions row.versions → CameFrom (row_with (replaced rows row) serial) (row_with rows serial)
+    → AllStay old.versions row.versions → CameFrom (row_with (replaced rows row) serial) (row_with rows serial)
 replaced_came [] row old serial e stay = absurd (cc)
 replaced_came (r ∷ rs) row old serial e stay =
     by (eqb r.serial row.serial) refl e (λ f. replaced_came rs row old serial f stay)
   where
     here : (b : Bool) → r ≡ old
         → CameFrom (cond b (Some row) (row_with rs serial)) (cond b (Some r) (row_with rs serial))
-    here true same = subst (λ (q : SecretRow). VersionsStay q.versions row.versions) (sym same) stay
+    here true same = subst (λ (q : SecretRow). AllStay q.versions row.versions) (sym same) stay
     here false same = came_same (row_with rs serial)
 
     behind : (b : Bool) → CameFrom (row_with (replaced rs row) serial) (row_with rs serial)
@@ -151,7 +163,7 @@ settled_came (r ∷ rs) serial = by (eqb r.serial serial) (settled_came rs seria
 after_sweep : (rows : Rows) (moment : Moment) (secrets : List SecretRow) (next : ℕ) → Sound rows → rows.next ≤ next
     → ((serial : ℕ) → serial < rows.next
     → CameFrom (row_with secrets serial) (row_with (swept rows.secrets moment) serial))
-    → SecretsStay rows (record { next = next; secrets = map settle secrets })
+    → EachStays rows (record { next = next; secrets = map settle secrets })
 after_sweep rows moment secrets next sound later came =
     let new : List SecretRow = map settle secrets in
     let all : (serial : ℕ) → serial < rows.next → CameFrom (row_with new serial) (row_with rows.secrets serial) =
@@ -166,7 +178,7 @@ after_sweep rows moment secrets next sound later came =
     }
 
 -- no row is changed
-pub none_changed : (rows : Rows) (moment : Moment) → Sound rows → SecretsStay rows (settled (sweep rows moment))
+pub none_changed : (rows : Rows) (moment : Moment) → Sound rows → EachStays rows (settled (sweep rows moment))
 none_changed rows moment sound =
     after_sweep rows moment (swept rows.secrets moment) rows.next sound (omega arith)
     (λ serial early. came_same (row_with (swept rows.secrets moment) serial))
@@ -176,7 +188,7 @@ with_row_came : (secrets : List SecretRow) (next serial : ℕ) (moment : Moment)
     (found : Option SecretRow) → IsTrue (rises 0 (row_serials secrets) next)
     → ((row : SecretRow) → found ≡ Some row → IsIn secrets row)
     → ((row : SecretRow) → found ≡ Some row → RowStays row (change row))
-    → CameFrom (row_with (with_row secrets found moment change) serial) (row_with secrets serial)
+    → CameFrom (row_with (with_row secrets found (plain moment) change) serial) (row_with secrets serial)
 with_row_came secrets next serial moment change None rising among stays = came_same (row_with secrets serial)
 with_row_came secrets next serial moment change (Some row) rising among stays =
     let stay = stays row refl in
@@ -186,20 +198,21 @@ with_row_came secrets next serial moment change (Some row) rising among stays =
 -- the row that a SecretId names is changed
 pub named_stays : (rows : Rows) (moment : Moment) (id : SecretId) (change : SecretRow → SecretRow) → Sound rows
     → ((row : SecretRow) → found rows moment id ≡ Some row → RowStays row (change row))
-    → SecretsStay rows (settled (change_named (sweep rows moment) id moment change))
+    → EachStays rows (settled (change_named (sweep rows moment) id (plain moment) change))
 named_stays rows moment id change sound stays =
     let secrets : List SecretRow = swept rows.secrets moment in
-    after_sweep rows moment (with_row secrets (named_by secrets id) moment change) rows.next sound (omega arith)
+    after_sweep rows moment (with_row secrets (named_by secrets id) (plain moment) change) rows.next sound (omega arith)
     (λ serial early. with_row_came secrets rows.next serial moment change (named_by secrets id)
     (sweep_sound rows moment sound).serials (λ row e. named_by_in secrets id row e) stays)
 
 -- the same by a whole ARN
 pub with_arn_stays : (rows : Rows) (moment : Moment) (arn : List ℕ) (change : SecretRow → SecretRow) → Sound rows
     → ((row : SecretRow) → found_arn rows moment arn ≡ Some row → RowStays row (change row))
-    → SecretsStay rows (settled (change_with_arn (sweep rows moment) arn moment change))
+    → EachStays rows (settled (change_with_arn (sweep rows moment) arn (plain moment) change))
 with_arn_stays rows moment arn change sound stays =
     let secrets : List SecretRow = swept rows.secrets moment in
-    after_sweep rows moment (with_row secrets (found_arn rows moment arn) moment change) rows.next sound (omega arith)
+    after_sweep rows moment (with_row secrets (found_arn rows moment arn) (plain moment) change) rows.next sound
+    (omega arith)
     (λ serial early. with_row_came secrets rows.next serial moment change (found_arn rows moment arn)
     (sweep_sound rows moment sound).serials (λ row e. with_arn_in secrets arn row e) stays)
 
@@ -212,7 +225,7 @@ without_came secrets next serial (Some row) rising =
     came_in secrets (dropped secrets row.serial) next serial rising (λ r i. undropped_in secrets row.serial r i)
 
 pub drop_stays : (rows : Rows) (moment : Moment) (id : SecretId) → Sound rows
-    → SecretsStay rows (settled (drop_named (sweep rows moment) id))
+    → EachStays rows (settled (drop_named (sweep rows moment) id))
 drop_stays rows moment id sound =
     let secrets : List SecretRow = swept rows.secrets moment in
     after_sweep rows moment (without_row secrets (named_by secrets id)) rows.next sound (omega arith)
@@ -221,7 +234,7 @@ drop_stays rows moment id sound =
 
 -- a row is added, under the next serial
 pub push_stays : (rows : Rows) (moment : Moment) (row : SecretRow) → Sound rows → row.serial ≡ rows.next
-    → SecretsStay rows (settled (record { next = rows.next + 1; secrets = swept rows.secrets moment ++ row ∷ [] }))
+    → EachStays rows (settled (record { next = rows.next + 1; secrets = swept rows.secrets moment ++ row ∷ [] }))
 push_stays rows moment row sound e =
     after_sweep rows moment (swept rows.secrets moment ++ row ∷ []) (rows.next + 1) sound (omega arith)
     (λ serial early. pushed_came (swept rows.secrets moment) row serial (omega (arith, e, early)))

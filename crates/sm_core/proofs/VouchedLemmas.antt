@@ -20,6 +20,7 @@ use Rattle.sm_model.specs.declared.rows.SecretRow.{SecretRow}
 use Rattle.sm_versions.specs.declared.values.PutDone.{PutDone}
 use Rattle.sm_versions.specs.declared.values.PutDone.TheVariants as puts
 use Rattle.sm_model.specs.Labels.{aws_current}
+use Rattle.sm_model.specs.Versions.{When}
 use Rattle.sm_versions.specs.Put.{put_answer, put_row}
 use Rattle.sm_versions.specs.Kept.{CurrentKept}
 use Rattle.sm_dates.specs.Days.{days_after}
@@ -55,7 +56,7 @@ use Rattle.sm_upkeep.specs.DeleteSecret.{window_days, scheduled_at, drop_named, 
 use Rattle.sm_upkeep.specs.RestoreSecret.{unscheduled}
 use Rattle.sm_upkeep.specs.TagResource.{tagged}
 use Rattle.sm_upkeep.specs.UntagResource.{untagged}
-use Rattle.sm_core.specs.Effects.{request_effect, act_effect, effect}
+use Rattle.sm_core.specs.Effects.{when_of, request_effect, act_effect, effect}
 use Rattle.sm_core.specs.Histories.{replay, IsDue, MayBeAsked, LegalAct, Legal, InTime}
 use Rattle.sm_core.specs.Vouching.{Vouched, IsAllowed, EachAllowed}
 use Rattle.sm_core.proofs.HistoryLemmas.{act_keeps}
@@ -113,76 +114,77 @@ due_added puts.Memory after token accept repeat never due = absurd due
 pub no_change_due : IsSome {T = Change} None → ⊥
 no_change_due due = cc
 
-pub put_on_due : (row : SecretRow) (moment : Moment) (call : PutCall) → IsDue (put_on row moment call)
-    → put_answer row call.value.token call.value.value (labels_placed row call.labels) ≡ puts.Added
-put_on_due row moment call due =
+pub put_on_due : (row : SecretRow) (when : When) (call : PutCall) → IsDue (put_on row when call)
+    → put_answer row call.value.token call.value.value (labels_placed row call.labels) when ≡ puts.Added
+put_on_due row when call due =
     let labels : List (List ℕ) = labels_placed row call.labels in
-    due_added (put_answer row call.value.token call.value.value labels)
-    (put_row row call.value.token call.value.value labels moment) call.value.token
-    (λ after. put_accepted (finished_row after moment) call.value.token) (put_repeated row call.value.token)
+    due_added (put_answer row call.value.token call.value.value labels when)
+    (put_row row call.value.token call.value.value labels when.moment) call.value.token
+    (λ after. put_accepted (finished_row after when) call.value.token) (put_repeated row call.value.token)
     no_change_due due
 
-put_of_vouched : (replies : Replies) (rows : Rows) (moment : Moment) (call : Option PutCall) → Sound rows
-    → IsDue (put_judgement_of rows moment call) → Vouched replies rows
-    → Vouched replies (settled (put_effect_of (sweep rows moment) moment call))
-put_of_vouched replies rows moment None sound due vouched = stay_vouched replies rows moment vouched
-put_of_vouched replies rows moment (Some call) sound due vouched =
-    named_vouched replies rows moment call.id (put_into call moment)
-    (λ row e h. put_vouched replies row call.value.token call.value.value (labels_placed row call.labels) moment
-    (put_on_due row moment call
-    (on_secret_due (found rows moment call.id) row (λ r. put_on r moment call) e due))
-    (found_kept rows moment call.id row sound e) h)
+put_of_vouched : (replies : Replies) (rows : Rows) (when : When) (call : Option PutCall) → Sound rows
+    → IsDue (put_judgement_of rows when call) → Vouched replies rows
+    → Vouched replies (settled (put_effect_of (sweep rows when.moment) when call))
+put_of_vouched replies rows when None sound due vouched = stay_vouched replies rows when.moment vouched
+put_of_vouched replies rows when (Some call) sound due vouched =
+    named_vouched replies rows when call.id (put_into call when.moment)
+    (λ row e h. put_vouched replies row call.value.token call.value.value (labels_placed row call.labels) when
+    (put_on_due row when call
+    (on_secret_due (found rows when.moment call.id) row (λ r. put_on r when call) e due))
+    (found_kept rows when.moment call.id row sound e) h)
     vouched
 
-with_value_vouched : (replies : Replies) (row : SecretRow) (moment : Moment) (value : Option NewValue)
+with_value_vouched : (replies : Replies) (row : SecretRow) (when : When) (value : Option NewValue)
     (accept : SecretRow → Judged) (repeat : Judged) → (IsDue repeat → ⊥)
-    → IsDue (judged_by (update_placed value row moment) accept repeat) → CurrentKept row → RowVouched replies row
-    → RowVouched replies (with_value value moment row)
-with_value_vouched replies row moment None accept repeat never due kept h = h
-with_value_vouched replies row moment (Some new) accept repeat never due kept h =
+    → IsDue (judged_by (update_placed value row when) accept repeat) → CurrentKept row → RowVouched replies row
+    → RowVouched replies (with_value value when.moment row)
+with_value_vouched replies row when None accept repeat never due kept h = h
+with_value_vouched replies row when (Some new) accept repeat never due kept h =
     let labels : List (List ℕ) = aws_current ∷ [] in
-    put_vouched replies row new.token new.value labels moment
-    (due_added (put_answer row new.token new.value labels) (put_row row new.token new.value labels moment) new.token
+    put_vouched replies row new.token new.value labels when
+    (due_added (put_answer row new.token new.value labels when)
+    (put_row row new.token new.value labels when.moment) new.token
     accept repeat never due)
     kept h
 
-update_on_vouched : (replies : Replies) (row : SecretRow) (moment : Moment) (call : UpdateCall)
-    → IsDue (update_on row moment call) → CurrentKept row → RowVouched replies row
-    → RowVouched replies (update_into call moment row)
-update_on_vouched replies row moment call due kept h =
-    same_vouched replies (with_value call.value moment row) (update_into call moment row)
+update_on_vouched : (replies : Replies) (row : SecretRow) (when : When) (call : UpdateCall)
+    → IsDue (update_on row when call) → CurrentKept row → RowVouched replies row
+    → RowVouched replies (update_into call when.moment row)
+update_on_vouched replies row when call due kept h =
+    same_vouched replies (with_value call.value when.moment row) (update_into call when.moment row)
     (record { arn = refl; versions = refl; job = refl })
-    (with_value_vouched replies row moment call.value
-    (λ after. update_accepted (finished_row (redescribed call after) moment) (token_of call.value))
+    (with_value_vouched replies row when call.value
+    (λ after. update_accepted (finished_row (redescribed call after) when) (token_of call.value))
     (update_repeated row (token_of call.value)) no_change_due due kept h)
 
-update_vouched : (replies : Replies) (rows : Rows) (moment : Moment) (drawn : List ℕ) (update : UpdateSecret)
-    → Sound rows → IsDue (update_judgement rows moment drawn update) → Vouched replies rows
-    → Vouched replies (settled (update_effect (sweep rows moment) moment drawn update))
-update_vouched replies rows moment drawn update sound due vouched =
+update_vouched : (replies : Replies) (rows : Rows) (when : When) (drawn : List ℕ) (update : UpdateSecret)
+    → Sound rows → IsDue (update_judgement rows when drawn update) → Vouched replies rows
+    → Vouched replies (settled (update_effect (sweep rows when.moment) when drawn update))
+update_vouched replies rows when drawn update sound due vouched =
     let call : UpdateCall = update_call drawn update in
-    named_vouched replies rows moment call.id (update_into call moment)
-    (λ row e h. update_on_vouched replies row moment call
-    (on_secret_due (found rows moment call.id) row (λ r. update_on r moment call) e due)
-    (found_kept rows moment call.id row sound e) h)
+    named_vouched replies rows when call.id (update_into call when.moment)
+    (λ row e h. update_on_vouched replies row when call
+    (on_secret_due (found rows when.moment call.id) row (λ r. update_on r when call) e due)
+    (found_kept rows when.moment call.id row sound e) h)
     vouched
 
 -- ---- deletions and rotations
 
-delete_vouched : (replies : Replies) (rows : Rows) (moment : Moment) (delete : DeleteSecret) → Vouched replies rows
-    → Vouched replies (settled (delete_effect (sweep rows moment) moment delete))
-delete_vouched replies rows moment delete vouched = by delete.force_delete_without_recovery
+delete_vouched : (replies : Replies) (rows : Rows) (when : When) (delete : DeleteSecret) → Vouched replies rows
+    → Vouched replies (settled (delete_effect (sweep rows when.moment) when delete))
+delete_vouched replies rows when delete vouched = by delete.force_delete_without_recovery
   where
     id : SecretId
     id = secret_id delete.secret_id
 
     change : SecretRow → SecretRow
-    change = scheduled_at (days_after moment (window_days delete.recovery_window_in_days))
+    change = scheduled_at (days_after when.moment (window_days delete.recovery_window_in_days))
 
-    by : (forced : Bool) → Vouched replies (settled (cond forced (drop_named (sweep rows moment) id)
-        (change_named (sweep rows moment) id moment change)))
-    by true = drop_vouched replies rows moment id vouched
-    by false = others_vouched replies rows moment id change
+    by : (forced : Bool) → Vouched replies (settled (cond forced (drop_named (sweep rows when.moment) id)
+        (change_named (sweep rows when.moment) id when change)))
+    by true = drop_vouched replies rows when.moment id vouched
+    by false = others_vouched replies rows when id change
         (λ row. record { arn = refl; versions = refl; job = refl }) vouched
 
 cancelled_vouched : (replies : Replies) (row : SecretRow) → RowVouched replies row
@@ -199,64 +201,64 @@ rotates_vouched replies plan (Some token) moment row h =
 
 -- ---- each request
 
-request_vouched : (replies : Replies) (rows : Rows) (moment : Moment) (drawn : List ℕ) (request : Request) → Sound rows
-    → MayBeAsked rows moment drawn request → Vouched replies rows
-    → Vouched replies (settled (request_effect (sweep rows moment) moment drawn request))
-request_vouched replies rows moment drawn (requests.CreateSecret create) sound due vouched =
-    create_vouched replies rows moment drawn create vouched
-request_vouched replies rows moment drawn (requests.DeleteSecret delete) sound due vouched =
-    delete_vouched replies rows moment delete vouched
-request_vouched replies rows moment drawn (requests.PutSecretValue put) sound due vouched =
-    put_of_vouched replies rows moment (put_call drawn put) sound (due_of _ due) vouched
-request_vouched replies rows moment drawn (requests.UpdateSecret update) sound due vouched =
-    update_vouched replies rows moment drawn update sound (due_of _ due) vouched
-request_vouched replies rows moment drawn (requests.RotateSecret rotate) sound due vouched =
-    named_vouched replies rows moment (secret_id rotate.secret_id)
-    (rotates (plan_of rotate) (token_to_start drawn rotate) moment)
-    (λ row e h. rotates_vouched replies (plan_of rotate) (token_to_start drawn rotate) moment row h) vouched
-request_vouched replies rows moment drawn (requests.CancelRotateSecret cancel) sound due vouched =
-    named_vouched replies rows moment (secret_id cancel.secret_id) cancelled
+request_vouched : (replies : Replies) (rows : Rows) (when : When) (drawn : List ℕ) (request : Request) → Sound rows
+    → MayBeAsked rows when drawn request → Vouched replies rows
+    → Vouched replies (settled (request_effect (sweep rows when.moment) when drawn request))
+request_vouched replies rows when drawn (requests.CreateSecret create) sound due vouched =
+    create_vouched replies rows when.moment drawn create vouched
+request_vouched replies rows when drawn (requests.DeleteSecret delete) sound due vouched =
+    delete_vouched replies rows when delete vouched
+request_vouched replies rows when drawn (requests.PutSecretValue put) sound due vouched =
+    put_of_vouched replies rows when (put_call drawn put) sound (due_of _ due) vouched
+request_vouched replies rows when drawn (requests.UpdateSecret update) sound due vouched =
+    update_vouched replies rows when drawn update sound (due_of _ due) vouched
+request_vouched replies rows when drawn (requests.RotateSecret rotate) sound due vouched =
+    named_vouched replies rows when (secret_id rotate.secret_id)
+    (rotates (plan_of rotate) (token_to_start drawn rotate) when.moment)
+    (λ row e h. rotates_vouched replies (plan_of rotate) (token_to_start drawn rotate) when.moment row h) vouched
+request_vouched replies rows when drawn (requests.CancelRotateSecret cancel) sound due vouched =
+    named_vouched replies rows when (secret_id cancel.secret_id) cancelled
     (λ row e h. cancelled_vouched replies row h) vouched
-request_vouched replies rows moment drawn (requests.RestoreSecret restore) sound due vouched =
-    others_vouched replies rows moment (secret_id restore.secret_id) unscheduled
+request_vouched replies rows when drawn (requests.RestoreSecret restore) sound due vouched =
+    others_vouched replies rows when (secret_id restore.secret_id) unscheduled
     (λ row. record { arn = refl; versions = refl; job = refl }) vouched
-request_vouched replies rows moment drawn (requests.TagResource tag) sound due vouched =
-    others_vouched replies rows moment (secret_id tag.secret_id) (tagged tag.tags)
+request_vouched replies rows when drawn (requests.TagResource tag) sound due vouched =
+    others_vouched replies rows when (secret_id tag.secret_id) (tagged tag.tags)
     (λ row. record { arn = refl; versions = refl; job = refl }) vouched
-request_vouched replies rows moment drawn (requests.UntagResource untag) sound due vouched =
-    others_vouched replies rows moment (secret_id untag.secret_id) (untagged untag.tag_keys)
+request_vouched replies rows when drawn (requests.UntagResource untag) sound due vouched =
+    others_vouched replies rows when (secret_id untag.secret_id) (untagged untag.tag_keys)
     (λ row. record { arn = refl; versions = refl; job = refl }) vouched
-request_vouched replies rows moment drawn (requests.UpdateSecretVersionStage update) sound due vouched =
-    others_vouched replies rows moment (secret_id update.secret_id) (move_in (move_call update))
+request_vouched replies rows when drawn (requests.UpdateSecretVersionStage update) sound due vouched =
+    others_vouched replies rows when (secret_id update.secret_id) (move_in (move_call update))
     (λ row. record { arn = refl; versions = refl; job = refl }) vouched
-request_vouched replies rows moment drawn (requests.RemoveRegionsFromReplication r) sound due vouched =
-    stay_vouched replies rows moment vouched
-request_vouched replies rows moment drawn (requests.ReplicateSecretToRegions r) sound due vouched =
-    stay_vouched replies rows moment vouched
-request_vouched replies rows moment drawn (requests.StopReplicationToReplica r) sound due vouched =
-    stay_vouched replies rows moment vouched
-request_vouched replies rows moment drawn (requests.BatchGetSecretValue r) sound due vouched =
-    stay_vouched replies rows moment vouched
-request_vouched replies rows moment drawn (requests.DeleteResourcePolicy delete) sound due vouched =
-    others_vouched replies rows moment (secret_id delete.secret_id) (with_policy None)
+request_vouched replies rows when drawn (requests.RemoveRegionsFromReplication r) sound due vouched =
+    stay_vouched replies rows when.moment vouched
+request_vouched replies rows when drawn (requests.ReplicateSecretToRegions r) sound due vouched =
+    stay_vouched replies rows when.moment vouched
+request_vouched replies rows when drawn (requests.StopReplicationToReplica r) sound due vouched =
+    stay_vouched replies rows when.moment vouched
+request_vouched replies rows when drawn (requests.BatchGetSecretValue r) sound due vouched =
+    stay_vouched replies rows when.moment vouched
+request_vouched replies rows when drawn (requests.DeleteResourcePolicy delete) sound due vouched =
+    others_vouched replies rows when (secret_id delete.secret_id) (with_policy None)
     (λ row. record { arn = refl; versions = refl; job = refl }) vouched
-request_vouched replies rows moment drawn (requests.DescribeSecret r) sound due vouched =
-    stay_vouched replies rows moment vouched
-request_vouched replies rows moment drawn (requests.GetRandomPassword r) sound due vouched =
-    stay_vouched replies rows moment vouched
-request_vouched replies rows moment drawn (requests.GetResourcePolicy r) sound due vouched =
-    stay_vouched replies rows moment vouched
-request_vouched replies rows moment drawn (requests.GetSecretValue r) sound due vouched =
-    stay_vouched replies rows moment vouched
-request_vouched replies rows moment drawn (requests.ListSecretVersionIds r) sound due vouched =
-    stay_vouched replies rows moment vouched
-request_vouched replies rows moment drawn (requests.ListSecrets r) sound due vouched =
-    stay_vouched replies rows moment vouched
-request_vouched replies rows moment drawn (requests.PutResourcePolicy put) sound due vouched =
-    others_vouched replies rows moment (secret_id put.secret_id) (with_policy (Some put.resource_policy))
+request_vouched replies rows when drawn (requests.DescribeSecret r) sound due vouched =
+    stay_vouched replies rows when.moment vouched
+request_vouched replies rows when drawn (requests.GetRandomPassword r) sound due vouched =
+    stay_vouched replies rows when.moment vouched
+request_vouched replies rows when drawn (requests.GetResourcePolicy r) sound due vouched =
+    stay_vouched replies rows when.moment vouched
+request_vouched replies rows when drawn (requests.GetSecretValue r) sound due vouched =
+    stay_vouched replies rows when.moment vouched
+request_vouched replies rows when drawn (requests.ListSecretVersionIds r) sound due vouched =
+    stay_vouched replies rows when.moment vouched
+request_vouched replies rows when drawn (requests.ListSecrets r) sound due vouched =
+    stay_vouched replies rows when.moment vouched
+request_vouched replies rows when drawn (requests.PutResourcePolicy put) sound due vouched =
+    others_vouched replies rows when (secret_id put.secret_id) (with_policy (Some put.resource_policy))
     (λ row. record { arn = refl; versions = refl; job = refl }) vouched
-request_vouched replies rows moment drawn (requests.ValidateResourcePolicy r) sound due vouched =
-    stay_vouched replies rows moment vouched
+request_vouched replies rows when drawn (requests.ValidateResourcePolicy r) sound due vouched =
+    stay_vouched replies rows when.moment vouched
 
 -- ---- each act
 
@@ -265,26 +267,26 @@ allowed_on : (found : Option SecretRow) (row : SecretRow) (P : SecretRow → Typ
 allowed_on None row P e all = absurd (cc)
 allowed_on (Some r) row P e all = let same : r ≡ row = cc in subst P same all
 
-reported_vouched : (replies : Replies) (rows : Rows) (moment : Moment) (arn : List ℕ) (answer : Answer) → Sound rows
-    → IfSome (found_arn rows moment arn) (λ row. IfSome row.job (AcceptsOnly replies row answer))
-    → Vouched replies rows → Vouched replies (settled (reported_effect (sweep rows moment) moment arn answer))
-reported_vouched replies rows moment arn answer sound allowed vouched =
-    with_arn_vouched replies rows moment arn (answered answer moment)
-    (λ row e h. applied_vouched replies row answer moment (arn_row_sound rows moment arn row sound e).kept h
-    (allowed_on (found_arn rows moment arn) row (λ r. IfSome r.job (AcceptsOnly replies r answer)) e allowed))
+reported_vouched : (replies : Replies) (rows : Rows) (when : When) (arn : List ℕ) (answer : Answer) → Sound rows
+    → IfSome (found_arn rows when.moment arn) (λ row. IfSome row.job (AcceptsOnly replies row answer))
+    → Vouched replies rows → Vouched replies (settled (reported_effect (sweep rows when.moment) when arn answer))
+reported_vouched replies rows when arn answer sound allowed vouched =
+    with_arn_vouched replies rows when arn (answered answer when.moment)
+    (λ row e h. applied_vouched replies row answer when.moment (arn_row_sound rows when.moment arn row sound e).kept h
+    (allowed_on (found_arn rows when.moment arn) row (λ r. IfSome r.job (AcceptsOnly replies r answer)) e allowed))
     vouched
 
 -- a legal act that is allowed leaves vouched rows
-pub act_vouched : (replies : Replies) (rows : Rows) (moment : Moment) (drawn : List ℕ) (act : Act) → Sound rows
-    → LegalAct rows moment drawn act → IsAllowed replies rows moment act → Vouched replies rows
-    → Vouched replies (settled (act_effect (sweep rows moment) moment drawn act))
-act_vouched replies rows moment drawn (Asked request) sound legal allowed vouched =
-    request_vouched replies rows moment drawn request sound legal.2 vouched
-act_vouched replies rows moment drawn (Begun arn) sound legal allowed vouched =
-    with_arn_vouched replies rows moment arn (λ row. begin_row row (drawn_token drawn) moment)
-    (λ row e h. begin_vouched replies row (drawn_token drawn) moment h) vouched
-act_vouched replies rows moment drawn (Reported arn at answer) sound legal allowed vouched =
-    reported_vouched replies rows moment arn answer sound allowed vouched
+pub act_vouched : (replies : Replies) (rows : Rows) (when : When) (drawn : List ℕ) (act : Act) → Sound rows
+    → LegalAct rows when drawn act → IsAllowed replies rows when.moment act → Vouched replies rows
+    → Vouched replies (settled (act_effect (sweep rows when.moment) when drawn act))
+act_vouched replies rows when drawn (Asked request) sound legal allowed vouched =
+    request_vouched replies rows when drawn request sound legal.2 vouched
+act_vouched replies rows when drawn (Begun arn) sound legal allowed vouched =
+    with_arn_vouched replies rows when arn (λ row. begin_row row (drawn_token drawn) when.moment)
+    (λ row e h. begin_vouched replies row (drawn_token drawn) when.moment h) vouched
+act_vouched replies rows when drawn (Reported arn at answer) sound legal allowed vouched =
+    reported_vouched replies rows when arn answer sound allowed vouched
 
 -- and so does a legal history of allowed entries
 pub legal_vouched : (replies : Replies) → (rows : Rows) → (before : Moment) → (entries : List Entry) → Sound rows
@@ -293,5 +295,5 @@ pub legal_vouched : (replies : Replies) → (rows : Rows) → (before : Moment) 
 legal_vouched replies rows before [] sound legal early allowed vouched = vouched
 legal_vouched replies rows before (entry ∷ entries) sound legal early allowed vouched =
     legal_vouched replies (effect rows entry) entry.moment entries
-    (act_keeps rows entry.moment entry.drawn entry.act sound early.0 legal.1.1) legal.2 early.1 allowed.1
-    (act_vouched replies rows entry.moment entry.drawn entry.act sound legal.1.1 allowed.0 vouched)
+    (act_keeps rows (when_of entry) entry.drawn entry.act sound early.0 legal.1.1) legal.2 early.1 allowed.1
+    (act_vouched replies rows (when_of entry) entry.drawn entry.act sound legal.1.1 allowed.0 vouched)

@@ -1,13 +1,15 @@
 -- Rows in which one is changed stay vouched, where the change of that one keeps the attempts that it remembers.
-use Rattle.std.proofs.Common.{◌≡◌, ◌⊎◌, inl, inr, ℕ, eqb, Bool, true, false, cond, List, [], ◌∷◌, ◌++◌, map, Option, Some, None, refl, subst}
+use Rattle.std.proofs.Common.{◌≡◌, inl, inr, ℕ, eqb, Bool, true, false, cond, List, [], ◌∷◌, ◌++◌, map, Option, Some, None, refl, subst}
 use Rattle.sm_base.specs.declared.moment.Moment.{Moment}
 use Rattle.sm_base.specs.declared.secret_id.SecretId.{SecretId}
 use Rattle.sm_model.specs.declared.rows.Rows.{Rows}
 use Rattle.sm_model.specs.declared.rows.SecretRow.{SecretRow}
+use Rattle.sm_model.specs.Versions.{When}
+use Rattle.sm_versions.specs.Prune.{pruned}
 use Rattle.sm_versions.specs.Settle.{settle}
 use Rattle.sm_rotation.specs.Vouched.{Replies, RowVouched}
 use Rattle.sm_rotation.proofs.AttemptLemmas.{SameAttempts, same_vouched}
-use Rattle.sm_rotation.proofs.VouchedLemmas.{settle_vouched}
+use Rattle.sm_rotation.proofs.VouchedLemmas.{settle_vouched, prune_vouched}
 use Rattle.sm_table.specs.Sweep.{is_gone, swept, sweep}
 use Rattle.sm_table.specs.Found.{named_by, found, found_arn}
 use Rattle.sm_table.specs.Changes.{replaced, dropped}
@@ -35,17 +37,6 @@ swept_each replies (r ∷ rs) moment each = by (is_gone r moment) (swept_each re
     by true rest = rest
     by false rest = (each.0, rest)
 
-replaced_each : (replies : Replies) (rows : List SecretRow) (row : SecretRow) → RowVouched replies row
-    → EachVouched replies rows → EachVouched replies (replaced rows row)
-replaced_each replies [] row vouched each = each
-replaced_each replies (r ∷ rs) row vouched each =
-    by (eqb r.serial row.serial) (replaced_each replies rs row vouched each.1)
-  where
-    by : (b : Bool) → EachVouched replies (replaced rs row)
-        → EachVouched replies (cond b (row ∷ rs) (r ∷ replaced rs row))
-    by true rest = (vouched, each.1)
-    by false rest = (each.0, rest)
-
 dropped_each : (replies : Replies) (rows : List SecretRow) (serial : ℕ) → EachVouched replies rows
     → EachVouched replies (dropped rows serial)
 dropped_each replies [] serial each = each
@@ -66,6 +57,18 @@ pub settled_each : (replies : Replies) (rows : List SecretRow) → EachVouched r
 settled_each replies [] each = each
 settled_each replies (r ∷ rs) each = (settle_vouched replies r each.0, settled_each replies rs each.1)
 
+-- a row in the place of another, where all are settled then
+replaced_each : (replies : Replies) (rows : List SecretRow) (row : SecretRow) → RowVouched replies (settle row)
+    → EachVouched replies rows → EachVouched replies (map settle (replaced rows row))
+replaced_each replies [] row vouched each = each
+replaced_each replies (r ∷ rs) row vouched each =
+    by (eqb r.serial row.serial) (replaced_each replies rs row vouched each.1)
+  where
+    by : (b : Bool) → EachVouched replies (map settle (replaced rs row))
+        → EachVouched replies (map settle (cond b (row ∷ rs) (r ∷ replaced rs row)))
+    by true rest = (vouched, settled_each replies rs each.1)
+    by false rest = (settle_vouched replies r each.0, rest)
+
 -- ---- one row changed
 
 -- the changed moment counts for nothing
@@ -74,14 +77,16 @@ moment_vouched : (replies : Replies) (row : SecretRow) (moment : Moment) → Row
 moment_vouched replies row moment h =
     same_vouched replies row (record row { changed = moment }) (record { arn = refl; versions = refl; job = refl }) h
 
-with_row_each : (replies : Replies) (secrets : List SecretRow) (found : Option SecretRow) (moment : Moment)
+-- and versions that need not be kept are dropped
+with_row_each : (replies : Replies) (secrets : List SecretRow) (found : Option SecretRow) (when : When)
     (change : SecretRow → SecretRow) → EachVouched replies secrets
     → ((row : SecretRow) → found ≡ Some row → RowVouched replies (change row))
-    → EachVouched replies (with_row secrets found moment change)
-with_row_each replies secrets None moment change each keeps = each
-with_row_each replies secrets (Some row) moment change each keeps =
-    replaced_each replies secrets (record (change row) { changed = moment })
-    (moment_vouched replies (change row) moment (keeps row refl)) each
+    → EachVouched replies (map settle (with_row secrets found when change))
+with_row_each replies secrets None when change each keeps = settled_each replies secrets each
+with_row_each replies secrets (Some row) when change each keeps =
+    let next : SecretRow = record (change row) { changed = when.moment } in
+    replaced_each replies secrets (pruned next when)
+    (prune_vouched replies next when (moment_vouched replies (change row) when.moment (keeps row refl))) each
 
 pub swept_vouched : (replies : Replies) (rows : Rows) (moment : Moment) → Vouched replies rows
     → EachVouched replies (swept rows.secrets moment)
@@ -94,36 +99,35 @@ stay_vouched replies rows moment vouched =
     settled_each replies (swept rows.secrets moment) (swept_vouched replies rows moment vouched)
 
 -- the row that a SecretId names is changed
-pub named_vouched : (replies : Replies) (rows : Rows) (moment : Moment) (id : SecretId)
+pub named_vouched : (replies : Replies) (rows : Rows) (when : When) (id : SecretId)
     (change : SecretRow → SecretRow)
-    → ((row : SecretRow) → found rows moment id ≡ Some row → RowVouched replies row → RowVouched replies (change row))
-    → Vouched replies rows → Vouched replies (settled (change_named (sweep rows moment) id moment change))
-named_vouched replies rows moment id change keeps vouched =
-    let secrets : List SecretRow = swept rows.secrets moment in
-    let each = swept_vouched replies rows moment vouched in
-    settled_each replies (with_row secrets (named_by secrets id) moment change)
-    (with_row_each replies secrets (named_by secrets id) moment change each
-    (λ row e. keeps row e (each_in replies secrets row each (named_by_in secrets id row e))))
+    → ((row : SecretRow) → found rows when.moment id ≡ Some row → RowVouched replies row
+    → RowVouched replies (change row))
+    → Vouched replies rows → Vouched replies (settled (change_named (sweep rows when.moment) id when change))
+named_vouched replies rows when id change keeps vouched =
+    let secrets : List SecretRow = swept rows.secrets when.moment in
+    let each = swept_vouched replies rows when.moment vouched in
+    with_row_each replies secrets (named_by secrets id) when change each
+    (λ row e. keeps row e (each_in replies secrets row each (named_by_in secrets id row e)))
 
 -- the same by a whole ARN
-pub with_arn_vouched : (replies : Replies) (rows : Rows) (moment : Moment) (arn : List ℕ)
+pub with_arn_vouched : (replies : Replies) (rows : Rows) (when : When) (arn : List ℕ)
     (change : SecretRow → SecretRow)
-    → ((row : SecretRow) → found_arn rows moment arn ≡ Some row → RowVouched replies row
+    → ((row : SecretRow) → found_arn rows when.moment arn ≡ Some row → RowVouched replies row
     → RowVouched replies (change row))
-    → Vouched replies rows → Vouched replies (settled (change_with_arn (sweep rows moment) arn moment change))
-with_arn_vouched replies rows moment arn change keeps vouched =
-    let secrets : List SecretRow = swept rows.secrets moment in
-    let each = swept_vouched replies rows moment vouched in
-    settled_each replies (with_row secrets (found_arn rows moment arn) moment change)
-    (with_row_each replies secrets (found_arn rows moment arn) moment change each
-    (λ row e. keeps row e (each_in replies secrets row each (with_arn_in secrets arn row e))))
+    → Vouched replies rows → Vouched replies (settled (change_with_arn (sweep rows when.moment) arn when change))
+with_arn_vouched replies rows when arn change keeps vouched =
+    let secrets : List SecretRow = swept rows.secrets when.moment in
+    let each = swept_vouched replies rows when.moment vouched in
+    with_row_each replies secrets (found_arn rows when.moment arn) when change each
+    (λ row e. keeps row e (each_in replies secrets row each (with_arn_in secrets arn row e)))
 
 -- only parts are changed that don't count
-pub others_vouched : (replies : Replies) (rows : Rows) (moment : Moment) (id : SecretId)
+pub others_vouched : (replies : Replies) (rows : Rows) (when : When) (id : SecretId)
     (change : SecretRow → SecretRow) → ((row : SecretRow) → SameAttempts row (change row))
-    → Vouched replies rows → Vouched replies (settled (change_named (sweep rows moment) id moment change))
-others_vouched replies rows moment id change same vouched =
-    named_vouched replies rows moment id change (λ row e h. same_vouched replies row (change row) (same row) h) vouched
+    → Vouched replies rows → Vouched replies (settled (change_named (sweep rows when.moment) id when change))
+others_vouched replies rows when id change same vouched =
+    named_vouched replies rows when id change (λ row e h. same_vouched replies row (change row) (same row) h) vouched
 
 -- the row that a SecretId names is dropped
 without_each : (replies : Replies) (secrets : List SecretRow) (found : Option SecretRow)

@@ -1,6 +1,5 @@
 -- What an entry does to the rows.
-use Rattle.std.specs.Prelude.{◌≡◌, ℕ, List, [], false}
-use Rattle.sm_base.specs.declared.moment.Moment.{Moment}
+use Rattle.std.specs.Prelude.{◌≡◌, ℕ, List, []}
 use Rattle.sm_model.specs.declared.entry.Act.{Act}
 use Rattle.sm_model.specs.declared.entry.Act.TheVariants.{Asked, Begun, Reported}
 use Rattle.sm_model.specs.declared.entry.Change.{Change}
@@ -8,6 +7,7 @@ use Rattle.sm_model.specs.declared.entry.Entry.{Entry}
 use Rattle.sm_model.specs.declared.request.Request.{Request}
 use Rattle.sm_model.specs.declared.request.Request.TheVariants as requests
 use Rattle.sm_model.specs.declared.rows.Rows.{Rows}
+use Rattle.sm_model.specs.Versions.{When}
 use Rattle.sm_table.specs.Changes.{changed}
 use Rattle.sm_table.specs.Sweep.{sweep}
 use Rattle.sm_judging.specs.Changes.{settled}
@@ -27,44 +27,49 @@ use Rattle.sm_upkeep.specs.TagResource.{tag_effect}
 use Rattle.sm_upkeep.specs.UntagResource.{untag_effect}
 
 -- the rows after an accepted request, of those that are still there at its moment
-abbrev pub request_effect : Rows → Moment → List ℕ → Request → Rows
-request_effect rows moment drawn (requests.CreateSecret create) = create_effect rows moment drawn create
-request_effect rows moment drawn (requests.DeleteResourcePolicy delete) = delete_policy_effect rows moment delete
-request_effect rows moment drawn (requests.DeleteSecret delete) = delete_effect rows moment delete
-request_effect rows moment drawn (requests.PutResourcePolicy put) = put_policy_effect rows moment put
-request_effect rows moment drawn (requests.PutSecretValue put) = put_effect rows moment drawn put
-request_effect rows moment drawn (requests.RestoreSecret restore) = restore_effect rows moment restore
-request_effect rows moment drawn (requests.TagResource tag) = tag_effect rows moment tag
-request_effect rows moment drawn (requests.UntagResource untag) = untag_effect rows moment untag
-request_effect rows moment drawn (requests.UpdateSecret update) = update_effect rows moment drawn update
-request_effect rows moment drawn (requests.UpdateSecretVersionStage update) = move_effect rows moment update
-request_effect rows moment drawn (requests.BatchGetSecretValue r) = rows
-request_effect rows moment drawn (requests.CancelRotateSecret cancel) = cancel_effect rows moment cancel
-request_effect rows moment drawn (requests.DescribeSecret r) = rows
-request_effect rows moment drawn (requests.GetRandomPassword r) = rows
-request_effect rows moment drawn (requests.GetResourcePolicy r) = rows
-request_effect rows moment drawn (requests.GetSecretValue r) = rows
-request_effect rows moment drawn (requests.ListSecretVersionIds r) = rows
-request_effect rows moment drawn (requests.ListSecrets r) = rows
-request_effect rows moment drawn (requests.RemoveRegionsFromReplication r) = rows
-request_effect rows moment drawn (requests.ReplicateSecretToRegions r) = rows
-request_effect rows moment drawn (requests.StopReplicationToReplica r) = rows
-request_effect rows moment drawn (requests.RotateSecret rotate) = rotate_effect rows moment drawn rotate
-request_effect rows moment drawn (requests.ValidateResourcePolicy r) = rows
+abbrev pub request_effect : Rows → When → List ℕ → Request → Rows
+request_effect rows when drawn (requests.CreateSecret create) = create_effect rows when.moment drawn create
+request_effect rows when drawn (requests.DeleteResourcePolicy delete) = delete_policy_effect rows when delete
+request_effect rows when drawn (requests.DeleteSecret delete) = delete_effect rows when delete
+request_effect rows when drawn (requests.PutResourcePolicy put) = put_policy_effect rows when put
+request_effect rows when drawn (requests.PutSecretValue put) = put_effect rows when drawn put
+request_effect rows when drawn (requests.RestoreSecret restore) = restore_effect rows when restore
+request_effect rows when drawn (requests.TagResource tag) = tag_effect rows when tag
+request_effect rows when drawn (requests.UntagResource untag) = untag_effect rows when untag
+request_effect rows when drawn (requests.UpdateSecret update) = update_effect rows when drawn update
+request_effect rows when drawn (requests.UpdateSecretVersionStage update) = move_effect rows when update
+request_effect rows when drawn (requests.BatchGetSecretValue r) = rows
+request_effect rows when drawn (requests.CancelRotateSecret cancel) = cancel_effect rows when cancel
+request_effect rows when drawn (requests.DescribeSecret r) = rows
+request_effect rows when drawn (requests.GetRandomPassword r) = rows
+request_effect rows when drawn (requests.GetResourcePolicy r) = rows
+request_effect rows when drawn (requests.GetSecretValue r) = rows
+request_effect rows when drawn (requests.ListSecretVersionIds r) = rows
+request_effect rows when drawn (requests.ListSecrets r) = rows
+request_effect rows when drawn (requests.RemoveRegionsFromReplication r) = rows
+request_effect rows when drawn (requests.ReplicateSecretToRegions r) = rows
+request_effect rows when drawn (requests.StopReplicationToReplica r) = rows
+request_effect rows when drawn (requests.RotateSecret rotate) = rotate_effect rows when drawn rotate
+request_effect rows when drawn (requests.ValidateResourcePolicy r) = rows
 
-abbrev pub act_effect : Rows → Moment → List ℕ → Act → Rows
-act_effect rows moment drawn (Asked request) = request_effect rows moment drawn request
-act_effect rows moment drawn (Begun arn) = begun_effect rows moment drawn arn
-act_effect rows moment drawn (Reported arn at answer) = reported_effect rows moment arn answer
+abbrev pub act_effect : Rows → When → List ℕ → Act → Rows
+act_effect rows when drawn (Asked request) = request_effect rows when drawn request
+act_effect rows when drawn (Begun arn) = begun_effect rows when drawn arn
+act_effect rows when drawn (Reported arn at answer) = reported_effect rows when arn answer
 
--- the rows after an entry: those that are still there at its moment, changed, and then every row settled
+-- when an entry is made, and whether it prunes
+abbrev pub when_of : Entry → When
+when_of entry = record { moment = entry.moment; prunes = entry.prunes }
+
+-- The rows after an entry: those that are still there at its moment, changed, and then every row settled. Where the
+-- entry prunes, the row that it changes loses the versions that need not be kept.
 abbrev pub effect : Rows → Entry → Rows
-effect rows entry = settled (act_effect (sweep rows entry.moment) entry.moment entry.drawn entry.act)
+effect rows entry = settled (act_effect (sweep rows entry.moment) (when_of entry) entry.drawn entry.act)
 
--- the entry of an accepted request of the person with this key; it names no ARN, and no version is dropped with it
-abbrev pub entry_of : Moment → List ℕ → List ℕ → Request → Entry
-entry_of moment key drawn request =
-    record { moment = moment; caller = key; by = []; drawn = drawn; act = Asked request; prunes = false }
+-- the entry of an accepted request of the person with this key; it names no ARN
+abbrev pub entry_of : When → List ℕ → List ℕ → Request → Entry
+entry_of when key drawn request =
+    record { moment = when.moment; caller = key; by = []; drawn = drawn; act = Asked request; prunes = when.prunes }
 
 -- a change makes the rows of the entry
 abbrev pub Makes : Rows → Entry → Change → Type 0

@@ -1,5 +1,5 @@
 -- Histories: the accepted changes of an account in order, and the rows that they make.
-use Rattle.std.specs.Prelude.{◌≡◌, ◌⊎◌, ℕ, ◌≤◌, max, Bool, true, not, ◌&&◌, nat_eq, List, [], ◌∷◌, length, None, IsSome, IsTrue}
+use Rattle.std.specs.Prelude.{◌≡◌, ◌⊎◌, ℕ, ◌≤◌, max, Bool, true, ◌&&◌, nat_eq, List, [], ◌∷◌, length, None, IsSome, IsTrue}
 use Rattle.sm_base.specs.declared.moment.Moment.{Moment}
 use Rattle.sm_base.specs.declared.moment.TheConstants.{LAST_READING}
 use Rattle.sm_model.specs.declared.entry.Act.{Act}
@@ -8,6 +8,7 @@ use Rattle.sm_model.specs.declared.entry.Entry.{Entry}
 use Rattle.sm_model.specs.declared.request.Request.{Request}
 use Rattle.sm_model.specs.declared.rows.Rows.{Rows}
 use Rattle.sm_model.specs.Needed.{needed}
+use Rattle.sm_model.specs.Versions.{When}
 use Rattle.sm_table.specs.Sound.{Sound}
 use Rattle.sm_forms.specs.Forms.{forms_of}
 use Rattle.sm_judging.specs.declared.judged.Judged.{Judged}
@@ -15,7 +16,7 @@ use Rattle.sm_judging.specs.declared.judged.Judged.TheVariants.{Accept, Refuse, 
 use Rattle.sm_rotations.specs.Begun.{MayBegin}
 use Rattle.sm_rotations.specs.Reported.{MayReport}
 use Rattle.sm_core.specs.Judging.{judgement, is_of_nobody}
-use Rattle.sm_core.specs.Effects.{effect}
+use Rattle.sm_core.specs.Effects.{when_of, effect}
 
 -- no secrets
 abbrev pub no_rows : Rows
@@ -47,18 +48,18 @@ IsDue Memory = ⊥
 
 -- A request may stand in a history where it makes an entry. So may the forced deletion of a secret that is not there:
 -- it makes none now, and one that stands changes nothing.
-abbrev pub MayBeAsked : Rows → Moment → List ℕ → Request → Type 0
-MayBeAsked rows moment drawn request =
-    IsDue (judgement rows moment drawn request) ⊎ IsTrue (is_of_nobody rows moment request)
+abbrev pub MayBeAsked : Rows → When → List ℕ → Request → Type 0
+MayBeAsked rows when drawn request =
+    IsDue (judgement rows when drawn request) ⊎ IsTrue (is_of_nobody rows when.moment request)
 
 -- An entry of a request is legal at rows where the request has as many random bytes as it needs, its forms and all
 -- tests pass, and it is no repeat. The start of a rotation is legal where one is due for the token of its random bytes,
 -- and an answer to a step, which has no random bytes, where the secret's job is at that step.
-abbrev pub LegalAct : Rows → Moment → List ℕ → Act → Type 0
-LegalAct rows moment drawn (Asked request) =
-    (length drawn ≡ needed request) × (forms_of request ≡ None) × MayBeAsked rows moment drawn request
-LegalAct rows moment drawn (Begun arn) = MayBegin rows moment drawn arn
-LegalAct rows moment drawn (Reported arn at answer) = (length drawn ≡ 0) × MayReport rows moment arn at
+abbrev pub LegalAct : Rows → When → List ℕ → Act → Type 0
+LegalAct rows when drawn (Asked request) =
+    (length drawn ≡ needed request) × (forms_of request ≡ None) × MayBeAsked rows when drawn request
+LegalAct rows when drawn (Begun arn) = MayBegin rows when drawn arn
+LegalAct rows when drawn (Reported arn at answer) = (length drawn ≡ 0) × MayReport rows when.moment arn at
 
 -- nobody asks for the start of a due rotation, or answers to a step: neither a key nor an ARN stands with them
 abbrev pub may_be_by : List ℕ → List ℕ → Act → Bool
@@ -66,13 +67,13 @@ may_be_by caller by (Asked request) = true
 may_be_by caller by (Begun arn) = nat_eq (length caller) 0 && nat_eq (length by) 0
 may_be_by caller by (Reported arn at answer) = nat_eq (length caller) 0 && nat_eq (length by) 0
 
--- what stands beside an act: nobody with what nobody asks for, and no version is dropped with it yet
+-- what stands beside an act: nobody with what nobody asks for
 abbrev pub may_stand : Entry → Bool
-may_stand entry = not entry.prunes && may_be_by entry.caller entry.by entry.act
+may_stand entry = may_be_by entry.caller entry.by entry.act
 
 -- an entry is legal at rows where its act is, and where what stands beside that may
 abbrev pub LegalEntry : Rows → Entry → Type 0
-LegalEntry rows entry = IsTrue (may_stand entry) × LegalAct rows entry.moment entry.drawn entry.act
+LegalEntry rows entry = IsTrue (may_stand entry) × LegalAct rows (when_of entry) entry.drawn entry.act
 
 -- each entry's moment is at least that of the one before it, and each is legal at the rows of those before it
 abbrev pub Legal : Rows → Moment → List Entry → Type 0

@@ -8,6 +8,7 @@ use Rattle.sm_model.specs.declared.request.Request.TheVariants as requests
 use Rattle.sm_model.specs.declared.rows.Rows.{Rows}
 use Rattle.sm_model.specs.declared.why.Why.{Why}
 use Rattle.sm_model.specs.declared.why.Why.TheVariants.{UnknownOperation}
+use Rattle.sm_model.specs.Versions.{When}
 use Rattle.sm_judging.specs.declared.judged.Judged.{Judged}
 use Rattle.sm_judging.specs.declared.judged.Judged.TheVariants.{Refuse}
 use Rattle.sm_values.specs.CreateSecret.{create_judgement, create_refusal, create_repeat}
@@ -33,43 +34,46 @@ use Rattle.sm_upkeep.specs.UntagResource.{untag_judgement, untag_refusal}
 
 -- the first test after the forms that fails, or the reply and, where an entry is due, the change; of each secret of a
 -- batch a question is asked
-abbrev pub judgement_asking : (List ℕ → Option Why) → Rows → Moment → List ℕ → Request → Judged
-judgement_asking question rows moment drawn (requests.BatchGetSecretValue batch) =
-    batch_judgement question rows moment batch
-judgement_asking question rows moment drawn (requests.CancelRotateSecret cancel) = cancel_judgement rows moment cancel
-judgement_asking question rows moment drawn (requests.CreateSecret create) = create_judgement rows moment drawn create
-judgement_asking question rows moment drawn (requests.DeleteResourcePolicy delete) =
-    delete_policy_judgement rows moment delete
-judgement_asking question rows moment drawn (requests.DeleteSecret delete) = delete_judgement rows moment delete
-judgement_asking question rows moment drawn (requests.DescribeSecret describe) = describe_judgement rows moment describe
-judgement_asking question rows moment drawn (requests.GetRandomPassword get) = password_judgement drawn get
-judgement_asking question rows moment drawn (requests.GetResourcePolicy get) = get_policy_judgement rows moment get
-judgement_asking question rows moment drawn (requests.GetSecretValue get) = get_judgement rows moment get
-judgement_asking question rows moment drawn (requests.ListSecretVersionIds list) = versions_judgement rows moment list
-judgement_asking question rows moment drawn (requests.ListSecrets list) = list_judgement rows moment list
-judgement_asking question rows moment drawn (requests.PutResourcePolicy put) = put_policy_judgement rows moment put
-judgement_asking question rows moment drawn (requests.PutSecretValue put) = put_judgement rows moment drawn put
-judgement_asking question rows moment drawn (requests.RemoveRegionsFromReplication remove) = Refuse UnknownOperation
-judgement_asking question rows moment drawn (requests.ReplicateSecretToRegions replicate) = Refuse UnknownOperation
-judgement_asking question rows moment drawn (requests.RestoreSecret restore) = restore_judgement rows moment restore
-judgement_asking question rows moment drawn (requests.RotateSecret rotate) = rotate_judgement rows moment drawn rotate
-judgement_asking question rows moment drawn (requests.StopReplicationToReplica stop) = Refuse UnknownOperation
-judgement_asking question rows moment drawn (requests.TagResource tag) = tag_judgement rows moment tag
-judgement_asking question rows moment drawn (requests.UntagResource untag) = untag_judgement rows moment untag
-judgement_asking question rows moment drawn (requests.UpdateSecret update) = update_judgement rows moment drawn update
-judgement_asking question rows moment drawn (requests.UpdateSecretVersionStage update) =
-    move_judgement rows moment update
-judgement_asking question rows moment drawn (requests.ValidateResourcePolicy validate) =
-    validate_judgement rows moment validate
+abbrev pub judgement_asking : (List ℕ → Option Why) → Rows → When → List ℕ → Request → Judged
+judgement_asking question rows when drawn (requests.BatchGetSecretValue batch) =
+    batch_judgement question rows when.moment batch
+judgement_asking question rows when drawn (requests.CancelRotateSecret cancel) = cancel_judgement rows when cancel
+judgement_asking question rows when drawn (requests.CreateSecret create) =
+    create_judgement rows when.moment drawn create
+judgement_asking question rows when drawn (requests.DeleteResourcePolicy delete) =
+    delete_policy_judgement rows when delete
+judgement_asking question rows when drawn (requests.DeleteSecret delete) = delete_judgement rows when delete
+judgement_asking question rows when drawn (requests.DescribeSecret describe) =
+    describe_judgement rows when.moment describe
+judgement_asking question rows when drawn (requests.GetRandomPassword get) = password_judgement drawn get
+judgement_asking question rows when drawn (requests.GetResourcePolicy get) = get_policy_judgement rows when.moment get
+judgement_asking question rows when drawn (requests.GetSecretValue get) = get_judgement rows when.moment get
+judgement_asking question rows when drawn (requests.ListSecretVersionIds list) =
+    versions_judgement rows when.moment list
+judgement_asking question rows when drawn (requests.ListSecrets list) = list_judgement rows when.moment list
+judgement_asking question rows when drawn (requests.PutResourcePolicy put) = put_policy_judgement rows when put
+judgement_asking question rows when drawn (requests.PutSecretValue put) = put_judgement rows when drawn put
+judgement_asking question rows when drawn (requests.RemoveRegionsFromReplication remove) = Refuse UnknownOperation
+judgement_asking question rows when drawn (requests.ReplicateSecretToRegions replicate) = Refuse UnknownOperation
+judgement_asking question rows when drawn (requests.RestoreSecret restore) = restore_judgement rows when restore
+judgement_asking question rows when drawn (requests.RotateSecret rotate) = rotate_judgement rows when drawn rotate
+judgement_asking question rows when drawn (requests.StopReplicationToReplica stop) = Refuse UnknownOperation
+judgement_asking question rows when drawn (requests.TagResource tag) = tag_judgement rows when tag
+judgement_asking question rows when drawn (requests.UntagResource untag) = untag_judgement rows when untag
+judgement_asking question rows when drawn (requests.UpdateSecret update) = update_judgement rows when drawn update
+judgement_asking question rows when drawn (requests.UpdateSecretVersionStage update) =
+    move_judgement rows when update
+judgement_asking question rows when drawn (requests.ValidateResourcePolicy validate) =
+    validate_judgement rows when.moment validate
 
 -- a person's request: of each secret of a batch it is asked whether the person may have its value
-abbrev pub judgement_for : Rows → Person → Moment → List ℕ → Request → Judged
-judgement_for rows person moment drawn request =
-    judgement_asking (value_question rows person moment) rows moment drawn request
+abbrev pub judgement_for : Rows → Person → When → List ℕ → Request → Judged
+judgement_for rows person when drawn request =
+    judgement_asking (value_question rows person when.moment) rows when drawn request
 
 -- an entry, which is none of a batch: nobody asks
-abbrev pub judgement : Rows → Moment → List ℕ → Request → Judged
-judgement rows moment drawn request = judgement_asking no_question rows moment drawn request
+abbrev pub judgement : Rows → When → List ℕ → Request → Judged
+judgement rows when drawn request = judgement_asking no_question rows when drawn request
 
 -- a request that asks for several values
 abbrev pub is_batch : Request → Bool
@@ -77,30 +81,30 @@ is_batch (requests.BatchGetSecretValue batch) = true
 is_batch _ = false
 
 -- the first test after the forms that fails, by the rows alone
-abbrev pub refusal : Rows → Moment → List ℕ → Request → Option Why
-refusal rows moment drawn (requests.BatchGetSecretValue batch) = batch_refusal rows moment batch
-refusal rows moment drawn (requests.CancelRotateSecret cancel) = cancel_refusal rows moment cancel
-refusal rows moment drawn (requests.CreateSecret create) = create_refusal rows moment drawn create
-refusal rows moment drawn (requests.DeleteResourcePolicy delete) = delete_policy_refusal rows moment delete
-refusal rows moment drawn (requests.DeleteSecret delete) = delete_refusal rows moment delete
-refusal rows moment drawn (requests.DescribeSecret describe) = describe_refusal rows moment describe
-refusal rows moment drawn (requests.GetRandomPassword get) = password_refusal get
-refusal rows moment drawn (requests.GetResourcePolicy get) = get_policy_refusal rows moment get
-refusal rows moment drawn (requests.GetSecretValue get) = get_refusal rows moment get
-refusal rows moment drawn (requests.ListSecretVersionIds list) = versions_refusal rows moment list
-refusal rows moment drawn (requests.ListSecrets list) = list_refusal rows moment list
-refusal rows moment drawn (requests.PutResourcePolicy put) = put_policy_refusal rows moment put
-refusal rows moment drawn (requests.PutSecretValue put) = put_refusal rows moment drawn put
-refusal rows moment drawn (requests.RemoveRegionsFromReplication remove) = Some UnknownOperation
-refusal rows moment drawn (requests.ReplicateSecretToRegions replicate) = Some UnknownOperation
-refusal rows moment drawn (requests.RestoreSecret restore) = restore_refusal rows moment restore
-refusal rows moment drawn (requests.RotateSecret rotate) = rotate_refusal rows moment drawn rotate
-refusal rows moment drawn (requests.StopReplicationToReplica stop) = Some UnknownOperation
-refusal rows moment drawn (requests.TagResource tag) = tag_refusal rows moment tag
-refusal rows moment drawn (requests.UntagResource untag) = untag_refusal rows moment untag
-refusal rows moment drawn (requests.UpdateSecret update) = update_refusal rows moment drawn update
-refusal rows moment drawn (requests.UpdateSecretVersionStage update) = move_refusal rows moment update
-refusal rows moment drawn (requests.ValidateResourcePolicy validate) = validate_refusal rows moment validate
+abbrev pub refusal : Rows → When → List ℕ → Request → Option Why
+refusal rows when drawn (requests.BatchGetSecretValue batch) = batch_refusal rows when.moment batch
+refusal rows when drawn (requests.CancelRotateSecret cancel) = cancel_refusal rows when.moment cancel
+refusal rows when drawn (requests.CreateSecret create) = create_refusal rows when.moment drawn create
+refusal rows when drawn (requests.DeleteResourcePolicy delete) = delete_policy_refusal rows when.moment delete
+refusal rows when drawn (requests.DeleteSecret delete) = delete_refusal rows when.moment delete
+refusal rows when drawn (requests.DescribeSecret describe) = describe_refusal rows when.moment describe
+refusal rows when drawn (requests.GetRandomPassword get) = password_refusal get
+refusal rows when drawn (requests.GetResourcePolicy get) = get_policy_refusal rows when.moment get
+refusal rows when drawn (requests.GetSecretValue get) = get_refusal rows when.moment get
+refusal rows when drawn (requests.ListSecretVersionIds list) = versions_refusal rows when.moment list
+refusal rows when drawn (requests.ListSecrets list) = list_refusal rows when.moment list
+refusal rows when drawn (requests.PutResourcePolicy put) = put_policy_refusal rows when.moment put
+refusal rows when drawn (requests.PutSecretValue put) = put_refusal rows when drawn put
+refusal rows when drawn (requests.RemoveRegionsFromReplication remove) = Some UnknownOperation
+refusal rows when drawn (requests.ReplicateSecretToRegions replicate) = Some UnknownOperation
+refusal rows when drawn (requests.RestoreSecret restore) = restore_refusal rows when.moment restore
+refusal rows when drawn (requests.RotateSecret rotate) = rotate_refusal rows when drawn rotate
+refusal rows when drawn (requests.StopReplicationToReplica stop) = Some UnknownOperation
+refusal rows when drawn (requests.TagResource tag) = tag_refusal rows when.moment tag
+refusal rows when drawn (requests.UntagResource untag) = untag_refusal rows when.moment untag
+refusal rows when drawn (requests.UpdateSecret update) = update_refusal rows when drawn update
+refusal rows when drawn (requests.UpdateSecretVersionStage update) = move_refusal rows when.moment update
+refusal rows when drawn (requests.ValidateResourcePolicy validate) = validate_refusal rows when.moment validate
 
 -- what was carried out before, with the same token
 abbrev pub repeat : Rows → Moment → List ℕ → Request → Bool

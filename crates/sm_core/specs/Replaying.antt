@@ -1,6 +1,5 @@
 -- An entry that is judged again.
 use Rattle.std.specs.Prelude.{ℕ, Bool, true, false, nat_eq, if◌then◌else◌, List, length, Option, Some, None, ⊤}
-use Rattle.sm_base.specs.declared.moment.Moment.{Moment}
 use Rattle.sm_model.specs.declared.entry.Act.{Act}
 use Rattle.sm_model.specs.declared.entry.Act.TheVariants.{Asked, Begun, Reported}
 use Rattle.sm_model.specs.declared.entry.Change.{Change}
@@ -11,6 +10,7 @@ use Rattle.sm_model.specs.declared.request.Request.TheVariants as requests
 use Rattle.sm_model.specs.declared.rows.Rows.{Rows}
 use Rattle.sm_model.specs.declared.why.Why.{Why}
 use Rattle.sm_model.specs.Needed.{needed}
+use Rattle.sm_model.specs.Versions.{When}
 use Rattle.sm_forms.specs.Forms.{forms_of}
 use Rattle.sm_judging.specs.declared.judged.Judged.{Judged}
 use Rattle.sm_judging.specs.declared.judged.Judged.TheVariants as judged
@@ -18,6 +18,7 @@ use Rattle.sm_rotations.specs.Begun.{begun_change}
 use Rattle.sm_rotations.specs.Reported.{reported_change}
 use Rattle.sm_core.specs.declared.replaying.Replayed.{Replayed}
 use Rattle.sm_core.specs.declared.replaying.Replayed.TheVariants.{Accept, Refuse, Memory}
+use Rattle.sm_core.specs.Effects.{when_of}
 use Rattle.sm_core.specs.Histories.{may_stand}
 use Rattle.sm_core.specs.Judging.{judgement, is_of_nobody}
 
@@ -46,9 +47,9 @@ change_of (judged.Refuse why) = None
 change_of judged.Memory = None
 
 -- the change of what was judged, and none of the forced deletion of a secret that is not there
-abbrev pub change_asked : Rows → Moment → List ℕ → Request → Option Change
-change_asked rows moment drawn request =
-    if is_of_nobody rows moment request then Some Nothing else change_of (judgement rows moment drawn request)
+abbrev pub change_asked : Rows → When → List ℕ → Request → Option Change
+change_asked rows when drawn request =
+    if is_of_nobody rows when.moment request then Some Nothing else change_of (judgement rows when drawn request)
 
 abbrev pub is_deletion : Request → Bool
 is_deletion (requests.DeleteSecret delete) = true
@@ -72,18 +73,18 @@ change_unless None change = change
 change_unless (Some why) change = None
 
 -- the change of a request with as many random bytes as it needs
-abbrev pub replayed_request : Rows → Moment → List ℕ → Request → Option Change
-replayed_request rows moment drawn request =
+abbrev pub replayed_request : Rows → When → List ℕ → Request → Option Change
+replayed_request rows when drawn request =
     if nat_eq (length drawn) (needed request)
-    then change_unless (forms_of request) (change_asked rows moment drawn request) else None
+    then change_unless (forms_of request) (change_asked rows when drawn request) else None
 
-abbrev pub replayed_act : Rows → Moment → List ℕ → Act → Option Change
-replayed_act rows moment drawn (Asked request) = replayed_request rows moment drawn request
-replayed_act rows moment drawn (Begun arn) = begun_change rows moment drawn arn
-replayed_act rows moment drawn (Reported arn at answer) =
-    if nat_eq (length drawn) 0 then reported_change rows moment arn at answer else None
+abbrev pub replayed_act : Rows → When → List ℕ → Act → Option Change
+replayed_act rows when drawn (Asked request) = replayed_request rows when drawn request
+replayed_act rows when drawn (Begun arn) = begun_change rows when drawn arn
+replayed_act rows when drawn (Reported arn at answer) =
+    if nat_eq (length drawn) 0 then reported_change rows when arn at answer else None
 
 -- the change of an entry, where it is legal at the rows
 abbrev pub replayed : Rows → Entry → Option Change
 replayed rows entry =
-    if may_stand entry then replayed_act rows entry.moment entry.drawn entry.act else None
+    if may_stand entry then replayed_act rows (when_of entry) entry.drawn entry.act else None

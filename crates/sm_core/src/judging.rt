@@ -19,7 +19,7 @@ use sm_lists::batch_get_secret_value::judge_batch;
 use sm_lists::get_random_password::judge_password;
 use sm_lists::list_secret_version_ids::judge_versions;
 use sm_lists::list_secrets::judge_list;
-use sm_model::{Moment, NoMemory, Person, Request};
+use sm_model::{NoMemory, Person, Request};
 use sm_policies::delete_resource_policy::judge_delete_policy;
 use sm_policies::get_resource_policy::judge_get_policy;
 use sm_policies::put_resource_policy::judge_put_policy;
@@ -36,6 +36,7 @@ use sm_upkeep::untag_resource::judge_untag;
 use sm_values::create_secret::judge_create;
 use sm_values::put_secret_value::judge_put;
 use sm_values::update_secret::judge_update;
+use sm_versions::When;
 use std::alloc::Global;
 
 /// Judges a request of a person at a moment, with the random bytes that were drawn for it.
@@ -43,35 +44,35 @@ pub fn judge(
     alloc: Global,
     table: &Table,
     person: &Person,
-    moment: Moment,
+    when: When,
     drawn: &[u8],
     request: &Request,
 ) -> Judged
     requires sound { Sound table.now }
-    requires moment { moment.0 ≤ LAST_READING }
+    requires moment { when.moment.0 ≤ LAST_READING }
     requires forms { forms_of request.now ≡ None }
     requires drawn { length drawn.now ≡ needed request.now }
 
     // The judgement is never want of memory, so that only this call can answer it.
     ensures judged { OrMemory (judged_told result)
-        (judgement_for table.now person.now moment drawn.now request.now) }
+        (judgement_for table.now person.now when drawn.now request.now) }
     ensures judgement_is_no_memory { IsSome
-        (judged_told (judgement_for table.now person.now moment drawn.now request.now)) }
+        (judged_told (judgement_for table.now person.now when drawn.now request.now)) }
 
     // It is refused exactly by the first test that fails, and nothing is changed exactly by what only reads, by the
     // forced deletion of a secret that is not there, and by a repeat.
-    ensures refused { OrMemory (refusal_told result) (refusal table.now moment drawn.now request.now) }
-    ensures unchanged { IfAccepted result (IsUnchanged table.now moment drawn.now request.now) }
+    ensures refused { OrMemory (refusal_told result) (refusal table.now when drawn.now request.now) }
+    ensures unchanged { IfAccepted result (IsUnchanged table.now when.moment drawn.now request.now) }
 
     // A change makes the rows of the entry, which is legal, meets what the table asks of a change, and leaves the rows
     // sound.
-    ensures legal { IfChange result (λ _. LegalAct table.now moment drawn.now (Asked request.now)) }
-    ensures makes { IfChange result (Makes table.now (entry_of moment person.now.key drawn.now request.now)) }
+    ensures legal { IfChange result (λ _. LegalAct table.now when drawn.now (Asked request.now)) }
+    ensures makes { IfChange result (Makes table.now (entry_of when person.now.key drawn.now request.now)) }
     ensures can { IfChange result (CanMake table.now) }
-    ensures stands { IfChange result (StandsAt table.now moment) }
-    ensures change_sound { IfChange result (ChangeSound (sweep table.now moment)) }
+    ensures stands { IfChange result (StandsAt table.now when.moment) }
+    ensures change_sound { IfChange result (ChangeSound (sweep table.now when.moment)) }
 {
-    match judge_exactly(alloc, table, person, moment, drawn, request) {
+    match judge_exactly(alloc, table, person, when, drawn, request) {
         Ok(judged) => judged,
         Err(NoMemory) => Judged::Memory,
     }
@@ -82,19 +83,25 @@ pub fn judge_exactly(
     alloc: Global,
     table: &Table,
     person: &Person,
-    moment: Moment,
+    when: When,
     drawn: &[u8],
     request: &Request,
 ) -> Result<Judged, NoMemory>
-    requires moment { moment.0 ≤ LAST_READING }
+    requires moment { when.moment.0 ≤ LAST_READING }
     requires forms { forms_of request.now ≡ None }
     requires drawn { length drawn.now ≡ needed request.now }
     ensures { IfOk result
-        (λ judged. judged ≡ judgement_for table.now person.now moment drawn.now request.now) }
+        (λ judged. judged ≡ judgement_for table.now person.now when drawn.now request.now) }
 {
     match request {
-        Request::BatchGetSecretValue(batch) => judge_batch(alloc, table, person, moment, batch),
-        _ => judge_alone(alloc, table, moment, drawn, request),
+        Request::BatchGetSecretValue(batch) => judge_batch(
+            alloc,
+            table,
+            person,
+            when.moment,
+            batch,
+        ),
+        _ => judge_alone(alloc, table, when, drawn, request),
     }
 }
 
@@ -112,39 +119,44 @@ pub(crate) fn is_batch(request: &Request) -> bool
 pub(crate) fn judge_alone(
     alloc: Global,
     table: &Table,
-    moment: Moment,
+    when: When,
     drawn: &[u8],
     request: &Request,
 ) -> Result<Judged, NoMemory>
     requires alone { is_batch request.now ≡ false }
-    requires moment { moment.0 ≤ LAST_READING }
+    requires moment { when.moment.0 ≤ LAST_READING }
     requires forms { forms_of request.now ≡ None }
     requires drawn { length drawn.now ≡ needed request.now }
-    ensures { IfOk result (λ judged. judged ≡ judgement table.now moment drawn.now request.now) }
+    ensures { IfOk result (λ judged. judged ≡ judgement table.now when drawn.now request.now) }
 {
     match request {
         Request::BatchGetSecretValue(_) => unreachable!(),
-        Request::CancelRotateSecret(cancel) => judge_cancel(alloc, table, moment, cancel),
-        Request::CreateSecret(create) => judge_create(alloc, table, moment, drawn, create),
-        Request::DeleteResourcePolicy(delete) => judge_delete_policy(alloc, table, moment, delete),
-        Request::DeleteSecret(delete) => judge_delete(alloc, table, moment, delete),
-        Request::DescribeSecret(describe) => judge_describe(alloc, table, moment, describe),
+        Request::CancelRotateSecret(cancel) => judge_cancel(alloc, table, when, cancel),
+        Request::CreateSecret(create) => judge_create(alloc, table, when.moment, drawn, create),
+        Request::DeleteResourcePolicy(delete) => judge_delete_policy(alloc, table, when, delete),
+        Request::DeleteSecret(delete) => judge_delete(alloc, table, when, delete),
+        Request::DescribeSecret(describe) => judge_describe(alloc, table, when.moment, describe),
         Request::GetRandomPassword(get) => judge_password(alloc, drawn, get),
-        Request::GetResourcePolicy(get) => judge_get_policy(alloc, table, moment, get),
-        Request::GetSecretValue(get) => judge_get(alloc, table, moment, get),
-        Request::ListSecretVersionIds(list) => judge_versions(alloc, table, moment, list),
-        Request::ListSecrets(list) => judge_list(alloc, table, moment, list),
-        Request::PutResourcePolicy(put) => judge_put_policy(alloc, table, moment, put),
-        Request::PutSecretValue(put) => judge_put(alloc, table, moment, drawn, put),
+        Request::GetResourcePolicy(get) => judge_get_policy(alloc, table, when.moment, get),
+        Request::GetSecretValue(get) => judge_get(alloc, table, when.moment, get),
+        Request::ListSecretVersionIds(list) => judge_versions(alloc, table, when.moment, list),
+        Request::ListSecrets(list) => judge_list(alloc, table, when.moment, list),
+        Request::PutResourcePolicy(put) => judge_put_policy(alloc, table, when, put),
+        Request::PutSecretValue(put) => judge_put(alloc, table, when, drawn, put),
         Request::RemoveRegionsFromReplication(_)
         | Request::ReplicateSecretToRegions(_)
         | Request::StopReplicationToReplica(_) => unreachable!(),
-        Request::RestoreSecret(restore) => judge_restore(alloc, table, moment, restore),
-        Request::RotateSecret(rotate) => judge_rotate(alloc, table, moment, drawn, rotate),
-        Request::TagResource(tag) => judge_tag(alloc, table, moment, tag),
-        Request::UntagResource(untag) => judge_untag(alloc, table, moment, untag),
-        Request::UpdateSecret(update) => judge_update(alloc, table, moment, drawn, update),
-        Request::UpdateSecretVersionStage(update) => judge_move(alloc, table, moment, update),
-        Request::ValidateResourcePolicy(validate) => judge_validate(alloc, table, moment, validate),
+        Request::RestoreSecret(restore) => judge_restore(alloc, table, when, restore),
+        Request::RotateSecret(rotate) => judge_rotate(alloc, table, when, drawn, rotate),
+        Request::TagResource(tag) => judge_tag(alloc, table, when, tag),
+        Request::UntagResource(untag) => judge_untag(alloc, table, when, untag),
+        Request::UpdateSecret(update) => judge_update(alloc, table, when, drawn, update),
+        Request::UpdateSecretVersionStage(update) => judge_move(alloc, table, when, update),
+        Request::ValidateResourcePolicy(validate) => judge_validate(
+            alloc,
+            table,
+            when.moment,
+            validate,
+        ),
     }
 }

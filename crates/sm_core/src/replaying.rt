@@ -2,7 +2,7 @@
 ghost use Rattle.std.specs.Prelude.{◌≡◌, ◌≤◌, None, length};
 ghost use Rattle.sm_base.specs.Outcomes.{OrMemory};
 ghost use Rattle.sm_base.specs.declared.moment.TheConstants.{LAST_READING};
-ghost use Rattle.sm_core.specs.Effects.{Makes};
+ghost use Rattle.sm_core.specs.Effects.{Makes, when_of};
 ghost use Rattle.sm_core.specs.Histories.{LegalEntry, may_be_by, may_stand};
 ghost use Rattle.sm_core.specs.Replaying.{again_told, IfReplayed, AsLegal, change_asked, change_kept, is_deletion, or_nothing, replayed_request, replayed_act, replayed};
 ghost use Rattle.sm_forms.specs.Forms.{forms_of};
@@ -16,10 +16,11 @@ ghost use Rattle.sm_table.specs.Sweep.{sweep};
 use crate::judging::{is_batch, judge_alone};
 use sm_forms::forms;
 use sm_judging::Judged;
-use sm_model::{Act, Answer, Arn, At, Change, Entry, Moment, NoMemory, Request, Why, need};
+use sm_model::{Act, Answer, Arn, At, Change, Entry, NoMemory, Request, Why, need};
 use sm_rotations::begun::judge_begun;
 use sm_rotations::reported::judge_reported;
 use sm_table::Table;
+use sm_versions::When;
 use std::alloc::Global;
 
 /// What an entry does to the rows that stand before it.
@@ -55,18 +56,11 @@ fn replay_entry(alloc: Global, table: &Table, entry: &Entry) -> Replayed
     requires moment { entry.now.moment.0 ≤ LAST_READING }
     ensures { OrMemory (again_told result) (replayed table.now entry.now) }
 {
-    if may_stand(entry) {
+    if may_be_by(entry) {
         replay_act(alloc, table, entry)
     } else {
         Replayed::Refuse
     }
-}
-
-/// Whether what stands beside the entry's act may: who asked for it, and that it prunes, which none does yet.
-fn may_stand(entry: &Entry) -> bool
-    ensures { result ≡ may_stand entry.now }
-{
-    !entry.prunes && may_be_by(entry)
 }
 
 /// Whether the entry's act may be by who stands with it: nobody starts a due rotation or answers to a step.
@@ -79,23 +73,34 @@ fn may_be_by(entry: &Entry) -> bool
     }
 }
 
+/// When the entry was made, and whether it prunes.
+fn when_of(entry: &Entry) -> When
+    ensures { result ≡ when_of entry.now }
+{
+    When {
+        moment: entry.moment,
+        prunes: entry.prunes,
+    }
+}
+
 /// Judges the act of an entry again.
 fn replay_act(alloc: Global, table: &Table, entry: &Entry) -> Replayed
     requires sound { Sound table.now }
     requires moment { entry.now.moment.0 ≤ LAST_READING }
     ensures { OrMemory (again_told result)
-        (replayed_act table.now entry.now.moment entry.now.drawn entry.now.act) }
+        (replayed_act table.now (when_of entry.now) entry.now.drawn entry.now.act) }
 {
+    let when = when_of(entry);
     match &entry.act {
         Act::Asked(request) => {
-            replay_request(alloc, table, entry.moment, entry.drawn.as_slice(), request)
+            replay_request(alloc, table, when, entry.drawn.as_slice(), request)
         }
-        Act::Begun(arn) => { replay_begun(alloc, table, entry.moment, entry.drawn.as_slice(), arn) }
+        Act::Begun(arn) => replay_begun(alloc, table, when, entry.drawn.as_slice(), arn),
         Act::Reported(arn, at, answer) => {
             if entry.drawn.len() != 0 {
                 return Replayed::Refuse;
             }
-            replay_reported(alloc, table, entry.moment, arn, at, answer)
+            replay_reported(alloc, table, when, arn, at, answer)
         }
     }
 }
@@ -105,12 +110,12 @@ fn replay_act(alloc: Global, table: &Table, entry: &Entry) -> Replayed
 fn replay_request(
     alloc: Global,
     table: &Table,
-    moment: Moment,
+    when: When,
     drawn: &[u8],
     request: &Request,
 ) -> Replayed
-    requires { moment.0 ≤ LAST_READING }
-    ensures { OrMemory (again_told result) (replayed_request table.now moment drawn.now request.now) }
+    requires { when.moment.0 ≤ LAST_READING }
+    ensures { OrMemory (again_told result) (replayed_request table.now when drawn.now request.now) }
 {
     if drawn.len() != need(request) {
         return Replayed::Refuse;
@@ -118,7 +123,7 @@ fn replay_request(
     match forms(alloc, request) {
         Some(Why::Memory { .. }) => Replayed::Memory,
         Some(_) => Replayed::Refuse,
-        None => replay_formed(alloc, table, moment, drawn, request),
+        None => replay_formed(alloc, table, when, drawn, request),
     }
 }
 
@@ -127,30 +132,30 @@ fn replay_request(
 fn replay_formed(
     alloc: Global,
     table: &Table,
-    moment: Moment,
+    when: When,
     drawn: &[u8],
     request: &Request,
 ) -> Replayed
-    requires moment { moment.0 ≤ LAST_READING }
+    requires moment { when.moment.0 ≤ LAST_READING }
     requires forms { forms_of request.now ≡ None }
     requires drawn { length drawn.now ≡ needed request.now }
-    ensures { OrMemory (again_told result) (change_asked table.now moment drawn.now request.now) }
+    ensures { OrMemory (again_told result) (change_asked table.now when drawn.now request.now) }
 {
     if is_batch(request) {
         return Replayed::Refuse;
     }
-    match judge_alone(alloc, table, moment, drawn, request) {
+    match judge_alone(alloc, table, when, drawn, request) {
         Ok(judged) => replay_judged(judged, is_deletion(request)),
         Err(NoMemory) => Replayed::Memory,
     }
 }
 
 /// Judges the start of a due rotation again.
-fn replay_begun(alloc: Global, table: &Table, moment: Moment, drawn: &[u8], arn: &Arn) -> Replayed
-    requires { moment.0 ≤ LAST_READING }
-    ensures { OrMemory (again_told result) (begun_change table.now moment drawn.now arn.now) }
+fn replay_begun(alloc: Global, table: &Table, when: When, drawn: &[u8], arn: &Arn) -> Replayed
+    requires { when.moment.0 ≤ LAST_READING }
+    ensures { OrMemory (again_told result) (begun_change table.now when drawn.now arn.now) }
 {
-    match judge_begun(alloc, table, moment, drawn, arn) {
+    match judge_begun(alloc, table, when, drawn, arn) {
         Ok(change) => replay_change(change),
         Err(NoMemory) => Replayed::Memory,
     }
@@ -160,16 +165,16 @@ fn replay_begun(alloc: Global, table: &Table, moment: Moment, drawn: &[u8], arn:
 fn replay_reported(
     alloc: Global,
     table: &Table,
-    moment: Moment,
+    when: When,
     arn: &Arn,
     at: &At,
     answer: &Answer,
 ) -> Replayed
     requires sound { Sound table.now }
-    requires moment { moment.0 ≤ LAST_READING }
-    ensures { OrMemory (again_told result) (reported_change table.now moment arn.now at.now answer.now) }
+    requires moment { when.moment.0 ≤ LAST_READING }
+    ensures { OrMemory (again_told result) (reported_change table.now when arn.now at.now answer.now) }
 {
-    match judge_reported(alloc, table, moment, arn, at, answer) {
+    match judge_reported(alloc, table, when, arn, at, answer) {
         Ok(change) => replay_change(change),
         Err(NoMemory) => Replayed::Memory,
     }

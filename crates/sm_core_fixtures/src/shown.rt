@@ -2,8 +2,8 @@
 use sm_core::Judged;
 use sm_model::{
     BatchError, Change, CreatedSecret, DeletedSecret, Described, GotSecret, Label, List, Moment,
-    NamedSecret, PolicyOfSecret, PolicyValidation, PutValue, Reply, SecretBatch, SecretPage, Text,
-    Token, VersionItem, VersionPage, VersionedSecret, Why,
+    NamedSecret, PolicyOfSecret, PolicyValidation, PutValue, Reply, RulesShown, SecretBatch,
+    SecretPage, Text, Token, VersionItem, VersionPage, VersionedSecret, Why,
 };
 use std::alloc::Global;
 use std::test::Fail;
@@ -166,12 +166,14 @@ fn push_date(
     Ok(())
 }
 
-/// The days between two rotations, where some are kept.
-fn push_days(alloc: Global, shown: &mut String, reply: &Described) -> Result<(), Fail> {
-    if let Some(rules) = &reply.rotation_rules {
-        if let Some(days) = rules.days {
-            shown.push_str(format!(in alloc; " days {days}")?.as_str())?;
-        }
+/// The days between two rotations and the schedule, where they are kept.
+fn push_rules(alloc: Global, shown: &mut String, rules: &RulesShown) -> Result<(), Fail> {
+    if let Some(days) = rules.days {
+        shown.push_str(format!(in alloc; " days {days}")?.as_str())?;
+    }
+    if rules.schedule.is_some() {
+        shown.push_str(" schedule")?;
+        push_given(shown, &rules.schedule)?;
     }
     Ok(())
 }
@@ -185,7 +187,9 @@ fn push_rotation(alloc: Global, shown: &mut String, reply: &Described) -> Result
         shown.push_str(" by")?;
         push_given(shown, &reply.rotation_lambda_arn)?;
     }
-    push_days(alloc, shown, reply)?;
+    if let Some(rules) = &reply.rotation_rules {
+        push_rules(alloc, shown, rules)?;
+    }
     push_date(alloc, shown, "next", reply.next_rotation_date)?;
     push_date(alloc, shown, "last", reply.last_rotated_date)?;
     Ok(())

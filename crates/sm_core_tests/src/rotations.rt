@@ -198,28 +198,80 @@ an answer then | 1468806 | report app-ABCDEF 00010203-0405-4607-8809-0a0b0c0d0e0
   | refused
   | AWSCURRENT=1 AWSPENDING=10203-0405-4607-8809-0a0b0c0d0e0f";
 
+/// Rotations by schedules.
+const SCHEDULED: &str = "a secret | 0 | create app old 1 | + app-ABCDEF app 1 | AWSCURRENT=1;
+days and a schedule | 0 | rotate app 2 30+rate(10_days) | form of RotationRules | AWSCURRENT=1;
+too few hours | 0 | rotate app 2 +rate(3_hours) | form of RotationRules | AWSCURRENT=1;
+no text | 0 | rotate app 2 + | form of RotationRules | AWSCURRENT=1;
+a rotation | 0 | rotate app 2 +rate(10_days) | + app-ABCDEF app 2 | AWSCURRENT=1 AWSPENDING=2 create 1 at 0;
+its value | 0 | report app-ABCDEF 2 create 1 v:new | + | AWSCURRENT=1 AWSPENDING=2 set 1 at 0;
+it is set | 0 | report app-ABCDEF 2 set 1 yes | + | AWSCURRENT=1 AWSPENDING=2 test 1 at 0;
+it is tested | 0 | report app-ABCDEF 2 test 1 yes | + | AWSCURRENT=1 AWSPENDING=2 finish 1 at 0;
+it is finished | 0 | report app-ABCDEF 2 finish 1 yes | + | AWSCURRENT=2 AWSPREVIOUS=1;
+ten days later | 0 | describe app
+  | app-ABCDEF app 1700000000 1700000000 . . 1 AWSPREVIOUS 2 AWSCURRENT \
+    rotates schedule rate(10 days) next 1700864000 last 1700000000
+  | AWSCURRENT=2 AWSPREVIOUS=1;
+days in its place | 1 | rotate app . 30 . later | + app-ABCDEF app | AWSCURRENT=2 AWSPREVIOUS=1;
+by the days | 1 | describe app
+  | app-ABCDEF app 1700000000 1700000001 . . 1 AWSPREVIOUS 2 AWSCURRENT rotates days 30 next 1702592001 last 1700000000
+  | AWSCURRENT=2 AWSPREVIOUS=1;
+a schedule in their place | 2 | rotate app . +cron(0_8_1_*_?_*) . later
+  | + app-ABCDEF app
+  | AWSCURRENT=2 AWSPREVIOUS=1;
+without rules it stays | 3 | rotate app . . . later | + app-ABCDEF app | AWSCURRENT=2 AWSPREVIOUS=1;
+by the schedule | 3 | describe app
+  | app-ABCDEF app 1700000000 1700000003 . . 1 AWSPREVIOUS 2 AWSCURRENT \
+    rotates schedule cron(0 8 1 * ? *) next 1701417600 last 1700000000
+  | AWSCURRENT=2 AWSPREVIOUS=1;
+a second before it comes | 1417599 | begin app-ABCDEF | refused | AWSCURRENT=2 AWSPREVIOUS=1;
+when it comes | 1417600 | begin app-ABCDEF
+  | +
+  | AWSCURRENT=2 AWSPREVIOUS=1 AWSPENDING=10203-0405-4607-8809-0a0b0c0d0e0f create 1 at 1417600;
+a cancel | 1417600 | cancel app
+  | + app-ABCDEF app 10203-0405-4607-8809-0a0b0c0d0e0f
+  | AWSCURRENT=2 AWSPREVIOUS=1 AWSPENDING=10203-0405-4607-8809-0a0b0c0d0e0f;
+one that never comes | 1417600 | rotate app . +cron(0_0_30_2_?_*) . later
+  | + app-ABCDEF app
+  | AWSCURRENT=2 AWSPREVIOUS=1 AWSPENDING=10203-0405-4607-8809-0a0b0c0d0e0f;
+it has no date | 1417600 | describe app
+  | app-ABCDEF app 1700000000 1701417600 . . 1 AWSPREVIOUS 2 AWSCURRENT 10203-0405-4607-8809-0a0b0c0d0e0f AWSPENDING \
+    rotates schedule cron(0 0 30 2 ? *) last 1700000000
+  | AWSCURRENT=2 AWSPREVIOUS=1 AWSPENDING=10203-0405-4607-8809-0a0b0c0d0e0f;
+rules that name nothing | 1417601 | rotate app . none . later
+  | + app-ABCDEF app
+  | AWSCURRENT=2 AWSPREVIOUS=1 AWSPENDING=10203-0405-4607-8809-0a0b0c0d0e0f;
+nothing is kept | 1417601 | describe app
+  | app-ABCDEF app 1700000000 1701417601 . . 1 AWSPREVIOUS 2 AWSCURRENT 10203-0405-4607-8809-0a0b0c0d0e0f AWSPENDING \
+    rotates last 1700000000
+  | AWSCURRENT=2 AWSPREVIOUS=1 AWSPENDING=10203-0405-4607-8809-0a0b0c0d0e0f";
+
 // ---- entries
 
-/// Rules of so many days, or `none` for rules that name none.
-fn rules(text: &str) -> Option<Rules> {
-    match text {
-        "." => None,
-        _ => Some(Rules {
-            days: count(text),
-            schedule: None,
-        }),
+/// Rules of so many days, or `none` for rules that name none. A schedule expression stands behind a plus sign, with a
+/// line below for each of its spaces.
+fn rules(alloc: Global, text: &str) -> Result<Option<Rules>, Fail> {
+    if text == "." {
+        return Ok(None);
     }
+    let (days, expression) = text.split_once("+").unwrap_or((text, "."));
+    let expression = expression.replace(alloc, "_", " ")?;
+    Ok(Some(Rules {
+        days: count(days),
+        schedule: given(alloc, expression.as_str())?,
+    }))
 }
 
-/// `rotate SECRET TOKEN DAYS FUNCTION later`
+/// `rotate SECRET TOKEN RULES FUNCTION later`
 fn rotate(alloc: Global, text: &str) -> Result<Request, Fail> {
     let rotation_lambda_arn = given(alloc, word(text, 4))?;
+    let rotation_rules = rules(alloc, word(text, 3))?;
     let secret_id = secret_id(alloc, word(text, 1))?;
     Ok(Request::RotateSecret(RotateSecret {
         client_request_token: token(alloc, word(text, 2))?,
         rotate_immediately: word(text, 5) != "later",
         rotation_lambda_arn,
-        rotation_rules: rules(word(text, 3)),
+        rotation_rules,
         secret_id,
     }))
 }
@@ -303,7 +355,7 @@ fn entry(alloc: Global, moment: Moment, text: &str) -> Result<Entry, Fail> {
         by: Text::fixed(""),
         drawn: Bytes::from_slice(alloc, bytes)?,
         act,
-        prunes: false,
+        prunes: true,
     })
 }
 
@@ -439,7 +491,7 @@ fn differences(alloc: Global, table: &str) -> Result<String, Fail> {
 
 #[test]
 fn rotates_secrets(rt: HostRuntime) -> Result<(), Fail> {
-    for table in [WHOLE, FAILURES, CANCELLED] {
+    for table in [WHOLE, FAILURES, CANCELLED, SCHEDULED] {
         assert_eq!(rt; differences(rt.alloc(), table)?.as_str(), "");
     }
     Ok(())

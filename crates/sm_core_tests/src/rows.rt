@@ -10,12 +10,17 @@ use sm_table::Table;
 use std::alloc::Global;
 use std::test::Fail;
 
-fn version(alloc: Global, number: u64, value: Option<Value>) -> Result<VersionRow, Fail> {
+fn version(
+    alloc: Global,
+    number: u64,
+    made: Moment,
+    value: Option<Value>,
+) -> Result<VersionRow, Fail> {
     let id = format!(in alloc; "{number:032}")?;
     Ok(VersionRow {
         id: Token::read(alloc, id.as_bytes())?,
         serial: number,
-        made: Moment(7),
+        made,
         value,
         rotated: None,
         by_rotation: false,
@@ -30,11 +35,13 @@ fn value(alloc: Global, number: u64) -> Result<Option<Value>, Fail> {
     }
 }
 
-/// So many versions, of which the second is empty and the third has bytes.
+/// So many versions, of which the second is empty and the third has bytes. They are old where there are few, and of the
+/// moment of the tests where there are more than are kept for their number.
 fn versions(alloc: Global, count: u64) -> Result<SharedList<VersionRow>, Fail> {
     let mut versions = SharedList::empty(alloc);
+    let made = Moment(if count > 100 { 1_700_000_000 } else { 7 });
     for number in 1..=count {
-        versions.push(alloc, version(alloc, number, value(alloc, number)?)?)?;
+        versions.push(alloc, version(alloc, number, made, value(alloc, number)?)?)?;
     }
     Ok(versions)
 }

@@ -16,6 +16,7 @@ use sm_core_fixtures::asked::{column, request};
 use sm_core_fixtures::shown::{number, plain, show_once};
 use sm_model::{Change, Moment, Person, Request, SecretRow, Text, Why, need};
 use sm_table::Table;
+use sm_versions::When;
 use std::alloc::Global;
 use std::marker::Model;
 use std::test::Fail;
@@ -280,13 +281,16 @@ a label more by a move | move app u 1 .
   | limit of 20 Labels
   | AWSCURRENT=1 t=2 s=2 r=2 q=2 p=2 o=2 n=2 m=2 l=2 k=2 j=2 i=2 h=2 g=2 f=2 e=2 d=2 c=2 b=2 a=2";
 
-/// A secret with as many versions as it may have, of which the second waits for its value.
+/// A secret with as many versions as it may have, made at 1700000000, of which the second waits for its value.
 const VERSIONS: &str = "a version more than may be | put app 1001 v . | limit of 1000 Versions | 8;
 an update with a version more than may be | update app v 1001 . . | limit of 1000 Versions | 8;
 a repeat where there is no room | put app 1000 v . | app-ABCDEF app 1000 | 8;
 an empty version is filled where there is no room | put app 2 w .
   | + app-ABCDEF app 2 AWSCURRENT AWSPENDING
-  | 8";
+  | 8;
+a version more a second less than a day later | put app 1001 v . | limit of 1000 Versions | 1700086399;
+a version more a day later, where the old ones go | put app 1001 v . | + app-ABCDEF app 1001 AWSCURRENT | 1700086400;
+an update a day later, where the old ones go | update app v 1001 . . | + app-ABCDEF app 1001 | 1700086400";
 
 /// A secret whose second version waits for its value.
 const EMPTY: &str =
@@ -394,9 +398,23 @@ fn judge_and_commit(
     };
     let shown = show_once(
         alloc,
-        judge(alloc, &secrets.table, person, NOW, drawn, request),
+        judge(
+            alloc,
+            &secrets.table,
+            person,
+            When::pruning(NOW),
+            drawn,
+            request,
+        ),
     )?;
-    let judged = judge(alloc, &secrets.table, person, NOW, drawn, request);
+    let judged = judge(
+        alloc,
+        &secrets.table,
+        person,
+        When::pruning(NOW),
+        drawn,
+        request,
+    );
     carry_out(secrets, judged)?;
     Ok(shown)
 }
@@ -534,7 +552,7 @@ fn judge_there(
     }
     show_once(
         alloc,
-        judge_exactly(alloc, table, &root(), moment, drawn, request)?,
+        judge_exactly(alloc, table, &root(), When::pruning(moment), drawn, request)?,
     )
 }
 

@@ -1,5 +1,5 @@
 -- What it says of members that their forms pass.
-use Rattle.std.proofs.Common.{◌≡◌, ℕ, List, [], ◌∷◌, Bool, true, false, not, ◌&&◌, ◌||◌, length, nat_le, nat_eq, Option, Some, None, is_some, is_none, IfSome, refl, arith}
+use Rattle.std.proofs.Common.{◌≡◌, ℕ, List, [], ◌∷◌, Bool, true, false, not, ◌&&◌, ◌||◌, length, nat_le, nat_eq, Option, Some, None, is_some, IfSome, refl, arith}
 use Rattle.std.specs.Prelude.{IsTrue}
 use Rattle.std.specs.List.{list_all}
 use Rattle.std.proofs.lemmas.Bool.{and_parts}
@@ -28,11 +28,6 @@ pub no_items : {X : Type 0} (items : List X) (name : List ℕ) → left_unless (
 no_items [] name h = refl
 no_items (x ∷ xs) name h =
     let none : nat_eq (length (x ∷ xs)) 0 ≡ true = left_absent _ name h in absurd (grind (arith, nat_tests, none))
-
-pub none_left : {X : Type 0} (member : Option X) (name : List ℕ) → left_unless (is_none member) name ≡ None
-    → member ≡ None
-none_left None name h = refl
-none_left (Some x) name h = let none : false ≡ true = left_absent false name h in cc
 
 pub all_pass : (test : List ℕ → Bool) (name : List ℕ) (text : Option (List ℕ)) → form_of test name text ≡ None
     → IfSome text (λ t. IsTrue (test t))

@@ -1,27 +1,31 @@
 -- The forms of RotateSecret: AWS Secrets Manager API Reference, RotateSecret, RotationRulesType
--- (AutomaticallyAfterDays).
-use Rattle.std.specs.Prelude.{ℤ, pos, negsuc, Bool, false, Option, Some, None, is_none, codes}
+-- (AutomaticallyAfterDays, ScheduleExpression).
+use Rattle.std.specs.Prelude.{ℤ, pos, negsuc, Bool, false, not, ◌&&◌, Option, Some, None, is_some, codes}
 use Rattle.sm_model.specs.declared.request.RotateSecret.{RotateSecret}
 use Rattle.sm_model.specs.declared.request.Rules.{Rules}
 use Rattle.sm_model.specs.declared.why.Why.{Why}
 use Rattle.sm_model.specs.Bounds.{fits, is_description, are_days}
 use Rattle.sm_base.specs.Spelling.{is_token, is_secret_id}
-use Rattle.sm_forms.specs.Members.{first_why, form_unless, left_unless, form_of}
+use Rattle.sm_cron.specs.Spelling.{is_schedule_expression}
+use Rattle.sm_forms.specs.Members.{first_why, form_unless, form_of}
 
 -- 1 to 1,000 days
 abbrev pub is_period : ℤ → Bool
 is_period (pos days) = are_days days
 is_period (negsuc n) = false
 
--- a schedule expression is left out
-abbrev pub rule_form : Rules → Option Why
-rule_form rules =
-    first_why (left_unless (is_none rules.schedule) (codes "RotationRules"))
-    (form_unless (fits is_period rules.days) (codes "RotationRules"))
+-- rules name days and a schedule expression
+abbrev pub name_both : Rules → Bool
+name_both rules = is_some rules.days && is_some rules.schedule
+
+-- days that are there are 1 to 1,000, a schedule expression is spelled as one, and not both are there
+abbrev pub are_rules : Rules → Bool
+are_rules rules =
+    fits is_period rules.days && fits is_schedule_expression rules.schedule && not (name_both rules)
 
 abbrev pub rules_form : Option Rules → Option Why
 rules_form None = None
-rules_form (Some rules) = rule_form rules
+rules_form (Some rules) = form_unless (are_rules rules) (codes "RotationRules")
 
 -- the members, in ascending byte order of their names
 abbrev pub rotate_forms : RotateSecret → Option Why

@@ -1,11 +1,13 @@
 //! The forms of RotateSecret (AWS Secrets Manager API Reference, RotateSecret, RotationRulesType).
-ghost use Rattle.std.specs.Prelude.{◌≡◌, is_none};
+ghost use Rattle.std.specs.Prelude.{◌≡◌};
 ghost use Rattle.sm_model.specs.Bounds.{fits};
-ghost use Rattle.sm_forms.specs.RotateSecret.{is_period, rule_form, rules_form, rotate_forms};
+ghost use Rattle.sm_cron.specs.Spelling.{is_schedule_expression};
+ghost use Rattle.sm_forms.specs.RotateSecret.{is_period, name_both, are_rules, rules_form, rotate_forms};
 
-use crate::members::{description_form, first, form_unless, left_unless, token_form};
+use crate::members::{description_form, first, form_unless, token_form};
 use sm_base::limits::DAYS_LIMIT;
 use sm_base::spelled::is_secret_id;
+use sm_cron::is_schedule_expression;
 use sm_model::{RotateSecret, Rules, Text, Why};
 
 /// The first form that fails.
@@ -41,32 +43,36 @@ fn may_be_period(days: Option<i64>) -> bool
     }
 }
 
+/// Whether a text that need not be there is a schedule expression.
+fn may_be_expression(text: &Option<Text>) -> bool
+    ensures { result ≡ fits is_schedule_expression text.now }
+{
+    match text {
+        Some(text) => is_schedule_expression(text.as_bytes()),
+        None => true,
+    }
+}
+
+/// Whether rules name days and a schedule expression.
+fn name_both(rules: &Rules) -> bool
+    ensures { result ≡ name_both rules.now }
+{
+    rules.days.is_some() && rules.schedule.is_some()
+}
+
+/// Whether rules are in their form.
+fn are_rules(rules: &Rules) -> bool
+    ensures { result ≡ are_rules rules.now }
+{
+    may_be_period(rules.days) && may_be_expression(&rules.schedule) && !name_both(rules)
+}
+
 /// The form of the rules of rotation.
 fn rules_form(rules: &Option<Rules>) -> Option<Why>
     ensures { result ≡ rules_form rules.now }
 {
     match rules {
-        Some(rules) => rule_form(rules),
+        Some(rules) => form_unless(are_rules(rules), "RotationRules"),
         None => None,
     }
-}
-
-/// Whether a text is not there.
-fn is_absent(text: &Option<Text>) -> bool
-    ensures { result ≡ is_none text.now }
-{
-    match text {
-        Some(_) => false,
-        None => true,
-    }
-}
-
-/// The form of rules that are there. A schedule expression is left out.
-fn rule_form(rules: &Rules) -> Option<Why>
-    ensures { result ≡ rule_form rules.now }
-{
-    first(
-        left_unless(is_absent(&rules.schedule), "RotationRules"),
-        form_unless(may_be_period(rules.days), "RotationRules"),
-    )
 }

@@ -6,11 +6,10 @@ use Rattle.serde_json.specs.Find.{as_object}
 use Rattle.sm_model.specs.declared.request.Filter.{Filter}
 use Rattle.sm_model.specs.declared.request.Rules.{Rules}
 use Rattle.sm_model.specs.declared.value.Tag.{Tag}
-use Rattle.sm_json.specs.declared.name.MemberName.{MemberName}
 use Rattle.sm_json.specs.declared.name.MemberName.TheVariants as names
 use Rattle.sm_json.specs.Fields.{Flaw, may, must, left, member_of, fault_at, fault_of, first, given_at, given}
 use Rattle.sm_json.specs.Kinds.{text, integer, list_of, object_or_bad, tag_members, tag_in, tag, filter_members, filter_in, filter, rules_members, rules_in, rules}
-use Rattle.sm_json.specs.KindLaws.{HasDays, IsTag, TagsAre, IsFilter, FiltersAre, IsRules, RulesAre}
+use Rattle.sm_json.specs.KindLaws.{HasDays, HasSchedule, IsTag, TagsAre, IsFilter, FiltersAre, IsRules, RulesAre}
 use Rattle.sm_json.proofs.KindLemmas.{object_of, texts, lists, neither_first, object_is, must_is, may_is, must_fits, may_fits, may_be_absent, is_given, left_is, left_fits}
 
 -- an object whose members are not at fault
@@ -167,40 +166,66 @@ days_fit value (Some days) (given_days, there, read) = (
 abbrev pub days_flaw : Data → Option Flaw
 days_flaw value = fault_of (may names.AutomaticallyAfterDays integer) value
 
-abbrev pub left_flaw : MemberName → Data → Option Flaw
-left_flaw name value = fault_of (left name) value
+abbrev pub duration_flaw : Data → Option Flaw
+duration_flaw value = fault_of (left names.Duration) value
+
+-- the schedule of rules, where it is given
+schedule_is : (value : Data) (schedule : Option (List ℕ)) → fault_at (may names.ScheduleExpression text)
+    (member_of names.ScheduleExpression value) ≡ None
+    → given_at text (member_of names.ScheduleExpression value) ≡ schedule → HasSchedule value schedule
+schedule_is value schedule none is =
+    let cases = may_is text names.ScheduleExpression (member_of names.ScheduleExpression value) none in
+    elim cases [
+      | inl absent ↦ subst (HasSchedule value) (sym (ap (given_at text) absent) ∙ is) absent
+      | inr there ↦ subst (HasSchedule value) (sym (is_given text names.ScheduleExpression
+          (member_of names.ScheduleExpression value) there.0 there.1 there.2 there.3) ∙ is)
+          (text_member (member_of names.ScheduleExpression value) there.0 there.1 there.1 there.2 there.3 refl)
+    ]
+
+schedule_fits : (value : Data) (schedule : Option (List ℕ)) → HasSchedule value schedule
+    → (fault_at (may names.ScheduleExpression text) (member_of names.ScheduleExpression value) ≡ None)
+    × (given_at text (member_of names.ScheduleExpression value) ≡ schedule)
+schedule_fits value None absent = (
+  may_be_absent text names.ScheduleExpression (member_of names.ScheduleExpression value) absent,
+  ap (given_at text) absent,
+)
+schedule_fits value (Some schedule) there = (
+  may_fits text names.ScheduleExpression (member_of names.ScheduleExpression value) (shapes.string schedule) schedule
+      there (text_read schedule),
+  is_given text names.ScheduleExpression (member_of names.ScheduleExpression value) (shapes.string schedule) schedule
+      there (text_read schedule),
+)
+
+abbrev pub schedule_flaw : Data → Option Flaw
+schedule_flaw value = fault_of (may names.ScheduleExpression text) value
 
 abbrev pub rules_flaw : Data → Option Flaw
-rules_flaw value = first (days_flaw value) (first (left_flaw names.Duration value)
-    (first (left_flaw names.ScheduleExpression value) None))
+rules_flaw value = first (days_flaw value) (first (duration_flaw value) (first (schedule_flaw value) None))
 
 rules_is : (value : Data) (r : Rules) → rules value ≡ Ok r → IsRules value r
 unfolding rules rules_members rules_in fault_of given may left
 rules_is value r e =
     let p = object_is (as_object value) (rules_flaw value) (rules_in value) r e in
-    let q = neither_first (days_flaw value) (first (left_flaw names.Duration value)
-    (first (left_flaw names.ScheduleExpression value) None)) p.1 in
-    let d = neither_first (left_flaw names.Duration value) (first (left_flaw names.ScheduleExpression value) None)
-    q.1 in
-    let s = neither_first (left_flaw names.ScheduleExpression value) None d.1 in (
+    let q = neither_first (days_flaw value) (first (duration_flaw value) (first (schedule_flaw value) None)) p.1 in
+    let d = neither_first (duration_flaw value) (first (schedule_flaw value) None) q.1 in
+    let s = neither_first (schedule_flaw value) None d.1 in (
       (p.0.0, object_of value p.0.0 p.0.1),
       days_are value r.days q.0 (ap (λ (u : Rules). u.days) p.2),
       left_is names.Duration (member_of names.Duration value) d.0,
-      left_is names.ScheduleExpression (member_of names.ScheduleExpression value) s.0,
-      sym (ap (λ (u : Rules). u.schedule) p.2),
+      schedule_is value r.schedule s.0 (ap (λ (u : Rules). u.schedule) p.2),
     )
 
 is_rules : (value : Data) (r : Rules) → IsRules value r → rules value ≡ Ok r
 unfolding rules rules_members rules_in fault_of given may left
-is_rules value r ((found, is), days, duration, schedule, none) =
+is_rules value r ((found, is), days, duration, schedule) =
     let d = days_fit value r.days days in
-    let of : Option ℤ → Option (List ℕ) → Rules = λ x s. record { days = x; schedule = s } in
+    let s = schedule_fits value r.schedule schedule in
+    let of : Option ℤ → Option (List ℕ) → Rules = λ x y. record { days = x; schedule = y } in
     fits (as_object value) found (rules_flaw value) (rules_in value) (ap as_object is)
-    (three_fit (days_flaw value) (left_flaw names.Duration value) (left_flaw names.ScheduleExpression value) d.0
-    (left_fits names.Duration (member_of names.Duration value) duration)
-    (left_fits names.ScheduleExpression (member_of names.ScheduleExpression value) schedule))
-    ∙ ap (λ o. Ok (of o None)) d.1
-    ∙ ap (λ s. Ok (of r.days s)) (sym none)
+    (three_fit (days_flaw value) (duration_flaw value) (schedule_flaw value) d.0
+    (left_fits names.Duration (member_of names.Duration value) duration) s.0)
+    ∙ ap (λ o. Ok (of o (given_at text (member_of names.ScheduleExpression value)))) d.1
+    ∙ ap (λ o. Ok (of r.days o)) s.1
 
 pub rules_are : RulesAre
 rules_are value r = (rules_is value r, is_rules value r)

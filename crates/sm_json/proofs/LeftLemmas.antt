@@ -1,17 +1,17 @@
 -- What is left out by name.
-use Rattle.std.proofs.Common.{◌≡◌, ℤ, Option, Some, None, option_and_then, option_map, Err, refl, ap, sym, ◌∙◌}
+use Rattle.std.proofs.Common.{◌≡◌, Option, Some, None, option_and_then, option_map, Err, refl, ap, sym, ◌∙◌}
 use Rattle.serde_json.specs.Data as shapes
 use Rattle.serde_json.specs.Data.{Data}
-use Rattle.serde_json.specs.Find.{as_number, as_i64, as_array, as_object}
+use Rattle.serde_json.specs.Find.{as_number, as_i64, as_str, as_array, as_object}
 use Rattle.sm_json.specs.declared.fields.Mark.{Mark}
 use Rattle.sm_json.specs.declared.fields.Mark.TheVariants.{Bad, LeftOut}
 use Rattle.sm_json.specs.declared.name.MemberName.{MemberName}
 use Rattle.sm_json.specs.declared.name.MemberName.TheVariants as names
 use Rattle.sm_json.specs.Fields.{Flaw, may, left, no_items, items_left, mark_in, member_of, fault_at, fault_of, first, given_at}
-use Rattle.sm_json.specs.Kinds.{or_bad, integer, object_or_bad, rules_members, rules_in, rules}
+use Rattle.sm_json.specs.Kinds.{or_bad, text, integer, object_or_bad, rules_members, rules_in, rules}
 use Rattle.sm_json.specs.KindLaws.{IsLeftRules, RulesAreLeft, IsLeftList, ReplicasAreLeft}
 use Rattle.sm_json.proofs.KindLemmas.{object_of, array_of, left_fits, flaw_of}
-use Rattle.sm_json.proofs.KindLawLemmas.{days_are, days_fit, days_flaw, left_flaw, rules_flaw, two_fit}
+use Rattle.sm_json.proofs.KindLawLemmas.{days_are, days_fit, days_flaw, duration_flaw, schedule_flaw, rules_flaw}
 
 object_left : {A : Type 0} (o : Option shapes.Members) (flaw : Option Flaw) (x : A)
     → object_or_bad o flaw x ≡ Err LeftOut
@@ -26,18 +26,18 @@ abbrev mark_or : Option Flaw → Mark
 mark_or None = Bad
 mark_or (Some flaw) = flaw.1
 
--- an integer is never left out
-no_integer_left : (o : Option ℤ) (which other : MemberName)
+-- what is a value of a type or none is never left out
+no_bad_left : {A : Type 0} (o : Option A) (which other : MemberName)
     → option_map (flaw_of other) (mark_in (or_bad o)) ≡ Some (which, LeftOut) → ⊥
-no_integer_left None which other e = let f : Bad ≡ LeftOut = ap mark_or e in cc
-no_integer_left (Some z) which other e = let f = e in cc
+no_bad_left None which other e = let f : Bad ≡ LeftOut = ap mark_or e in cc
+no_bad_left (Some x) which other e = let f = e in cc
 
 no_days_at : (o : Option Data) (which : MemberName)
     → fault_at (may names.AutomaticallyAfterDays integer) o ≡ Some (which, LeftOut) → ⊥
 unfolding may integer
 no_days_at None which e = let f = e in cc
 no_days_at (Some value) which e =
-    no_integer_left (option_and_then as_i64 (as_number value)) which names.AutomaticallyAfterDays e
+    no_bad_left (option_and_then as_i64 (as_number value)) which names.AutomaticallyAfterDays e
 
 no_days_left : (value : Data) (which : MemberName) → days_flaw value ≡ Some (which, LeftOut) → ⊥
 unfolding fault_of may
@@ -48,28 +48,43 @@ days_pass : (value : Data) (flaw rest : Option Flaw) (which : MemberName) → da
 days_pass value None rest which is e = (is, e)
 days_pass value (Some flaw) rest which is e = absurd (no_days_left value which (is ∙ e))
 
-abbrev two_left : Data → Option Flaw
-two_left value = first (left_flaw names.Duration value) (first (left_flaw names.ScheduleExpression value) None)
+no_schedule_at : (o : Option Data) (which : MemberName)
+    → fault_at (may names.ScheduleExpression text) o ≡ Some (which, LeftOut) → ⊥
+unfolding may text
+no_schedule_at None which e = let f = e in cc
+no_schedule_at (Some value) which e = no_bad_left (as_str value) which names.ScheduleExpression e
 
-none_left : (value : Data) → member_of names.Duration value ≡ None → member_of names.ScheduleExpression value ≡ None
-    → two_left value ≡ None
+lone : (flaw : Option Flaw) → first flaw None ≡ flaw
+lone None = refl
+lone (Some flaw) = refl
+
+no_schedule_left : (value : Data) (which : MemberName) → first (schedule_flaw value) None ≡ Some (which, LeftOut) → ⊥
+unfolding fault_of may
+no_schedule_left value which e =
+    no_schedule_at (member_of names.ScheduleExpression value) which (sym (lone (schedule_flaw value)) ∙ e)
+
+abbrev behind_days : Data → Option Flaw
+behind_days value = first (duration_flaw value) (first (schedule_flaw value) None)
+
+-- without a Duration no rules are left out
+none_left : (value : Data) (which : MemberName) → member_of names.Duration value ≡ None
+    → behind_days value ≡ Some (which, LeftOut) → ⊥
 unfolding fault_of left
-none_left value d s =
-    two_fit (left_flaw names.Duration value) (left_flaw names.ScheduleExpression value)
-    (left_fits names.Duration (member_of names.Duration value) d)
-    (left_fits names.ScheduleExpression (member_of names.ScheduleExpression value) s)
+none_left value which none e =
+    no_schedule_left value which (sym (ap (λ f. first f (first (schedule_flaw value) None))
+    (left_fits names.Duration (member_of names.Duration value) none)) ∙ e)
 
 left_is_rules : (value : Data) → rules value ≡ Err LeftOut → IsLeftRules value
 unfolding rules rules_members fault_of may
 left_is_rules value e =
     let p = object_left (as_object value) (rules_flaw value) (rules_in value) e in
-    let q = days_pass value (days_flaw value) (two_left value) p.1.0 refl p.1.1 in (
+    let q = days_pass value (days_flaw value) (behind_days value) p.1.0 refl p.1.1 in (
       (p.0.0, object_of value p.0.0 p.0.1),
       (
         given_at integer (member_of names.AutomaticallyAfterDays value),
         days_are value (given_at integer (member_of names.AutomaticallyAfterDays value)) q.0 refl,
       ),
-      λ both. let f : None ≡ Some (p.1.0, LeftOut) = sym (none_left value both.0 both.1) ∙ q.1 in cc,
+      λ none. none_left value p.1.0 none q.1,
     )
 
 left_as : {A : Type 0} (o : Option shapes.Members) (found : shapes.Members) (flaw : Option Flaw) (x : A)
@@ -84,26 +99,17 @@ left_there which o value is = ap (fault_at (left which)) is
 
 is_left_rules : (value : Data) → IsLeftRules value → rules value ≡ Err LeftOut
 unfolding rules rules_members fault_of may left
-is_left_rules value ((found, is), (days, has), some) =
-    at_two (member_of names.Duration value) (member_of names.ScheduleExpression value) refl refl
+is_left_rules value ((found, is), (days, has), some) = at_duration (member_of names.Duration value) refl
   where
-    behind_days : (rest : Option Flaw) → first (days_flaw value) rest ≡ rest
-    behind_days rest = let d = days_fit value days has in ap (λ f. first f rest) d.0
-
-    at_two : (d s : Option Data) → member_of names.Duration value ≡ d → member_of names.ScheduleExpression value ≡ s
+    at_duration : (duration : Option Data) → member_of names.Duration value ≡ duration
         → object_or_bad (as_object value) (rules_flaw value) (rules_in value) ≡ Err LeftOut
-    at_two (Some d) s p q =
+    at_duration None none = absurd (some none)
+    at_duration (Some duration) there =
+        let d = days_fit value days has in
         left_as (as_object value) found (rules_flaw value) (rules_in value) names.Duration (ap as_object is)
-        (behind_days (two_left value)
-        ∙ ap (λ f. first f (first (left_flaw names.ScheduleExpression value) None))
-        (left_there names.Duration (member_of names.Duration value) d p))
-    at_two None (Some s) p q =
-        left_as (as_object value) found (rules_flaw value) (rules_in value) names.ScheduleExpression (ap as_object is)
-        (behind_days (two_left value)
-        ∙ ap (λ f. first f (first (left_flaw names.ScheduleExpression value) None))
-        (left_fits names.Duration (member_of names.Duration value) p)
-        ∙ ap (λ f. first f None) (left_there names.ScheduleExpression (member_of names.ScheduleExpression value) s q))
-    at_two None None p q = absurd (some (p, q))
+        (ap (λ f. first f (behind_days value)) d.0
+        ∙ ap (λ f. first f (first (schedule_flaw value) None))
+        (left_there names.Duration (member_of names.Duration value) duration there))
 
 pub rules_left : RulesAreLeft
 rules_left value = (left_is_rules value, is_left_rules value)

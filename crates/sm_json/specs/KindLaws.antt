@@ -93,18 +93,23 @@ HasDays value None = member_of names.AutomaticallyAfterDays value ≡ None
 HasDays value (Some days) = (given : Data) × (member_of names.AutomaticallyAfterDays value ≡ Some given)
     × (integer given ≡ Ok days)
 
--- rotation rules have neither a Duration nor a ScheduleExpression, and so no schedule
+-- the schedule of rotation rules, where it is there
+abbrev pub HasSchedule : Data → Option (List ℕ) → Type 0
+HasSchedule value None = member_of names.ScheduleExpression value ≡ None
+HasSchedule value (Some schedule) = member_of names.ScheduleExpression value ≡ Some (shapes.string schedule)
+
+-- rotation rules have no Duration
 abbrev pub IsRules : Data → Rules → Type 0
 IsRules value r = IsObject value × HasDays value r.days × (member_of names.Duration value ≡ None)
-    × (member_of names.ScheduleExpression value ≡ None) × (r.schedule ≡ None)
+    × HasSchedule value r.schedule
 
 abbrev pub RulesAre : Type 0
 RulesAre = (value : Data) (r : Rules) → (rules value ≡ Ok r) ↔ IsRules value r
 
--- rules are left out by name where their days fit and one of those two is there
+-- rules are left out by name where their days fit and a Duration is there
 abbrev pub IsLeftRules : Data → Type 0
 IsLeftRules value = IsObject value × ((days : Option ℤ) × HasDays value days)
-    × ((member_of names.Duration value ≡ None) × (member_of names.ScheduleExpression value ≡ None) → ⊥)
+    × (member_of names.Duration value ≡ None → ⊥)
 
 abbrev pub RulesAreLeft : Type 0
 RulesAreLeft = (value : Data) → (rules value ≡ Err LeftOut) ↔ IsLeftRules value

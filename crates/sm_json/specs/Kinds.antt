@@ -83,10 +83,14 @@ filter value = object_or_bad (as_object value) (first_fault filter_members value
 
 -- rotation rules (API Reference, RotationRulesType)
 unfoldable pub rules_members : List Field
-rules_members = may names.AutomaticallyAfterDays integer ∷ left names.Duration ∷ left names.ScheduleExpression ∷ []
+rules_members =
+    may names.AutomaticallyAfterDays integer ∷ left names.Duration ∷ may names.ScheduleExpression text ∷ []
 
 unfoldable pub rules_in : Data → Rules
-rules_in json = record { days = given integer names.AutomaticallyAfterDays json; schedule = None }
+rules_in json = record {
+  days = given integer names.AutomaticallyAfterDays json;
+  schedule = given text names.ScheduleExpression json;
+}
 
 unfoldable pub rules : Data → Result Rules Mark
 rules value = object_or_bad (as_object value) (first_fault rules_members value) (rules_in value)

@@ -191,11 +191,8 @@ fn rules_in(alloc: Global, object: &Value) -> Result<Rules, Fault>
 {
     let days = optional(alloc, object, MemberName::AutomaticallyAfterDays)?;
     left_out(object, MemberName::Duration)?;
-    left_out(object, MemberName::ScheduleExpression)?;
-    Ok(Rules {
-        days,
-        schedule: None,
-    })
+    let schedule = optional(alloc, object, MemberName::ScheduleExpression)?;
+    Ok(Rules { days, schedule })
 }
 
 impl Member for Rules {

@@ -14,7 +14,10 @@ fn asked(alloc: Global, operation: &str, body: &str) -> Result<String, NoMemory>
 }
 
 /// An operation, a body, and what it asks for.
-static ASKED: [(&'static str, &'static str, &'static str); 97] = [
+type Row = (&'static str, &'static str, &'static str);
+
+/// What each operation asks for, and what is no operation or no JSON object.
+static ASKED: [Row; 46] = [
     (
         "BatchGetSecretValue",
         "{\"Filters\":[{\"Key\":\"name\",\"Values\":[\"a\",\"b\"]}],\"MaxResults\":5,\"NextToken\":\"n\",\
@@ -118,6 +121,16 @@ static ASKED: [(&'static str, &'static str, &'static str); 97] = [
         "RotateImmediately=true RotationRules=rules  SecretId=s ",
     ),
     (
+        "RotateSecret",
+        "{\"RotationRules\":{\"ScheduleExpression\":\"rate(10 days)\"},\"SecretId\":\"s\"}",
+        "RotateImmediately=true RotationRules=rules Schedule=rate(10 days)  SecretId=s ",
+    ),
+    (
+        "RotateSecret",
+        "{\"RotationRules\":{\"AutomaticallyAfterDays\":1,\"ScheduleExpression\":\"\"},\"SecretId\":\"s\"}",
+        "RotateImmediately=true RotationRules=rules Days=1 Schedule=  SecretId=s ",
+    ),
+    (
         "TagResource",
         "{\"SecretId\":\"s\",\"Tags\":[{\"Key\":\"a\",\"Value\":null,\"More\":1}]}",
         "SecretId=s Tags=[Key=a Value= ,] ",
@@ -198,6 +211,10 @@ static ASKED: [(&'static str, &'static str, &'static str); 97] = [
         "{\"VersionStage\":\"l\",\"VersionId\":\"i\",\"SecretId\":\"s\"}",
         "SecretId=s VersionId=i VersionStage=l ",
     ),
+];
+
+/// Which member is refused, and what each type takes.
+static MEMBERS: [Row; 55] = [
     (
         "CreateSecret",
         "{\"Tags\":1,\"SecretString\":2,\"Description\":3}",
@@ -232,6 +249,16 @@ static ASKED: [(&'static str, &'static str, &'static str); 97] = [
         "RotateSecret",
         "{\"RotationRules\":{\"AutomaticallyAfterDays\":1,\"Duration\":\"3h\"}}",
         "left=RotationRules ",
+    ),
+    (
+        "RotateSecret",
+        "{\"RotationRules\":{\"Duration\":0,\"ScheduleExpression\":0}}",
+        "left=RotationRules ",
+    ),
+    (
+        "RotateSecret",
+        "{\"RotationRules\":{\"ScheduleExpression\":0}}",
+        "bad=RotationRules ",
     ),
     (
         "RotateSecret",
@@ -424,6 +451,18 @@ static ASKED: [(&'static str, &'static str, &'static str); 97] = [
 #[test]
 fn messages_ask(rt: HostRuntime) -> Result<(), Fail> {
     for (operation, body, wanted) in ASKED.iter() {
+        let answer = asked(rt.alloc(), operation, body)?;
+        assert_eq!(rt;
+            (*operation, *body, answer.as_str()),
+            (*operation, *body, *wanted)
+        );
+    }
+    Ok(())
+}
+
+#[test]
+fn members_are_of_their_types(rt: HostRuntime) -> Result<(), Fail> {
+    for (operation, body, wanted) in MEMBERS.iter() {
         let answer = asked(rt.alloc(), operation, body)?;
         assert_eq!(rt;
             (*operation, *body, answer.as_str()),

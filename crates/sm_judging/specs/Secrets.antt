@@ -6,6 +6,8 @@ use Rattle.sm_base.specs.declared.secret_id.SecretId.{SecretId}
 use Rattle.sm_model.specs.declared.rows.Rows.{Rows}
 use Rattle.sm_model.specs.declared.rows.SecretRow.{SecretRow}
 use Rattle.sm_model.specs.declared.why.Why.TheVariants.{NoSecret, Scheduled}
+use Rattle.sm_model.specs.Versions.{When}
+use Rattle.sm_versions.specs.Prune.{pruned}
 use Rattle.sm_versions.specs.Settle.{settle}
 use Rattle.sm_table.specs.Found.{found}
 use Rattle.sm_judging.specs.declared.judged.Judged.{Judged}
@@ -24,6 +26,7 @@ on_secret (Some row) judge = unless_scheduled row.deletion (judge row)
 abbrev pub with_secret : Rows → Moment → SecretId → (SecretRow → Judged) → Judged
 with_secret rows moment id judge = on_secret (found rows moment id) judge
 
--- the row after a change of it: its changed moment is the request's, and its job is settled
-abbrev pub finished_row : SecretRow → Moment → SecretRow
-finished_row row moment = settle (record row { changed = moment })
+-- the row after a change of it: its changed moment is the request's, its job is settled, and then the versions are
+-- dropped that need not be kept, where they are dropped with it
+abbrev pub finished_row : SecretRow → When → SecretRow
+finished_row row when = pruned (settle (record row { changed = when.moment })) when

@@ -1,6 +1,5 @@
 -- Judging UpdateSecretVersionStage: when it is refused, and what it changes.
 use Rattle.std.proofs.Common.{◌≡◌, ◌⊎◌, ℕ, Bool, true, false, not, ◌&&◌, cond, List, [], ◌∷◌, Option, Some, None, is_none, IsSome, IsTrue, refl, sym, ap, subst, ◌∙◌}
-use Rattle.sm_base.specs.declared.moment.Moment.{Moment}
 use Rattle.sm_base.specs.SecretId.{secret_id}
 use Rattle.sm_model.specs.declared.entry.Change.{Change}
 use Rattle.sm_model.specs.declared.entry.Change.TheVariants as changes
@@ -20,9 +19,10 @@ use Rattle.sm_base.specs.Texts.{same_text}
 use Rattle.sm_model.specs.Labels.{aws_current, holder}
 use Rattle.sm_versions.specs.Labels.{place}
 use Rattle.sm_versions.specs.Versions.{has_value}
-use Rattle.sm_model.specs.Versions.{has_version}
+use Rattle.sm_model.specs.Versions.{When, has_version}
 use Rattle.sm_versions.specs.Put.{has_too_many}
 use Rattle.sm_versions.specs.Move.{missing, may_move, move_to, unless_missing, move_answer}
+use Rattle.sm_versions.proofs.CountLaws.{few_counted}
 use Rattle.sm_versions.proofs.SoundLaws.{move_sound}
 use Rattle.sm_table.specs.Sweep.{sweep}
 use Rattle.sm_table.specs.Found.{found}
@@ -32,7 +32,7 @@ use Rattle.sm_judging.specs.Judged.{refusal_told, IfAccepted, IfChange}
 use Rattle.sm_judging.specs.Refusals.{refuse_if, first_refusal}
 use Rattle.sm_judging.specs.Secrets.{finished_row}
 use Rattle.sm_judging.proofs.JudgedLemmas.{on_secret_refusal, on_secret_reads}
-use Rattle.sm_judging.proofs.ChangeLemmas.{OnRow, on_secret_change, found_row_sound, found_change}
+use Rattle.sm_judging.proofs.ChangeLemmas.{OnRow, on_secret_change, found_row_sound, found_row_few, found_change}
 use Rattle.sm_labels.specs.declared.update_secret_version_stage.MoveCall.{MoveCall}
 use Rattle.sm_labels.specs.UpdateSecretVersionStage.{move_call, move_outcome, move_in, move_on, move_judgement, absent_refusal, target_refusal, move_refusal_on, move_refusal, move_effect}
 
@@ -96,21 +96,21 @@ absent_refuses row after (Some id) answer tests e = by (has_version row.versions
     by true = e
     by false = refl
 
-on_refuses : (row : SecretRow) (moment : Moment) (call : MoveCall) → refusal_told (move_on row moment call)
+on_refuses : (row : SecretRow) (when : When) (call : MoveCall) → refusal_told (move_on row when call)
     ≡ Some (move_refusal_on row call)
-on_refuses row moment call =
-    let after = finished_row (move_in call row) moment in
+on_refuses row when call =
+    let after = finished_row (move_in call row) when in
     absent_refuses row after call.from _ _
     (absent_refuses row after call.to _ _
     (held_refuses (may_move (holder row.labels call.label) call.to call.from) (move_to row call.label call.to)
     (holder row.labels call.label) after
     (target_refusal row call.label call.to) (target_refuses row after call.label call.to)))
 
-pub move_refuses : (rows : Rows) (moment : Moment) (update : UpdateSecretVersionStage)
-    → refusal_told (move_judgement rows moment update) ≡ Some (move_refusal rows moment update)
-move_refuses rows moment update =
-    on_secret_refusal (found rows moment (secret_id update.secret_id)) (λ row. move_on row moment (move_call update))
-    (λ row. move_refusal_on row (move_call update)) (λ row. on_refuses row moment (move_call update))
+pub move_refuses : (rows : Rows) (when : When) (update : UpdateSecretVersionStage)
+    → refusal_told (move_judgement rows when update) ≡ Some (move_refusal rows when.moment update)
+move_refuses rows when update =
+    on_secret_refusal (found rows when.moment (secret_id update.secret_id)) (λ row. move_on row when (move_call update))
+    (λ row. move_refusal_on row (move_call update)) (λ row. on_refuses row when (move_call update))
 
 -- ---- it always changes the row
 
@@ -125,11 +125,11 @@ outcome_changes (moves.TooManyLabels limit) after = tt
 outcome_changes moves.Memory after = tt
 
 -- no accepted UpdateSecretVersionStage is without a change
-pub move_changes : (rows : Rows) (moment : Moment) (update : UpdateSecretVersionStage)
-    → IfAccepted (move_judgement rows moment update) (λ change. is_none change ≡ false)
-move_changes rows moment update =
-    on_secret_reads (found rows moment (secret_id update.secret_id))
-    (λ row. move_on row moment (move_call update)) false
+pub move_changes : (rows : Rows) (when : When) (update : UpdateSecretVersionStage)
+    → IfAccepted (move_judgement rows when update) (λ change. is_none change ≡ false)
+move_changes rows when update =
+    on_secret_reads (found rows when.moment (secret_id update.secret_id))
+    (λ row. move_on row when (move_call update)) false
     (λ row. outcome_changes (move_answer row update.version_stage update.move_to_version_id
     update.remove_from_version_id) _)
 
@@ -146,24 +146,27 @@ outcome_change (moves.Empty id) after P h = tt
 outcome_change (moves.TooManyLabels limit) after P h = tt
 outcome_change moves.Memory after P h = tt
 
-on_change : (rows : Rows) (moment : Moment) (call : MoveCall) (row : SecretRow) → Sound rows → IsTrue (is_date moment)
-    → found rows moment call.id ≡ Some row → IfChange (move_on row moment call)
-    (OnRow rows moment call.id (move_in call))
-on_change rows moment call row sound date e =
-    outcome_change (move_answer row call.label call.to call.from) (finished_row (move_in call row) moment)
-    (OnRow rows moment call.id (move_in call))
-    (λ accepted. found_change rows moment call.id (move_in call) row sound date e (record {
+on_change : (rows : Rows) (when : When) (call : MoveCall) (row : SecretRow) → Sound rows → IsTrue (is_date when.moment)
+    → found rows when.moment call.id ≡ Some row → IfChange (move_on row when call)
+    (OnRow rows when call.id (move_in call))
+on_change rows when call row sound date e =
+    outcome_change (move_answer row call.label call.to call.from) (finished_row (move_in call row) when)
+    (OnRow rows when call.id (move_in call))
+    (λ accepted. found_change rows when call.id (move_in call) row sound date e (record {
       serial = refl;
       name = refl;
       arn = refl;
-      sound = move_sound row call.label call.to call.from accepted (found_row_sound rows moment call.id row sound e);
+      sound = move_sound row call.label call.to call.from accepted
+          (found_row_sound rows when.moment call.id row sound e);
+      few = few_counted (move_in call row) when (found_row_few rows when.moment call.id row sound e);
     }))
 
 -- a change is the entry's
-pub move_change : (rows : Rows) (moment : Moment) (update : UpdateSecretVersionStage) → Sound rows
-    → IsTrue (is_date moment)
-    → IfChange (move_judgement rows moment update) (IsChange rows moment
-    (settled (move_effect (sweep rows moment) moment update)))
-move_change rows moment update sound date =
-    on_secret_change (found rows moment (secret_id update.secret_id)) (λ row. move_on row moment (move_call update)) _
-    (λ row e. on_change rows moment (move_call update) row sound date e)
+pub move_change : (rows : Rows) (when : When) (update : UpdateSecretVersionStage) → Sound rows
+    → IsTrue (is_date when.moment)
+    → IfChange (move_judgement rows when update) (IsChange rows when.moment
+    (settled (move_effect (sweep rows when.moment) when update)))
+move_change rows when update sound date =
+    on_secret_change (found rows when.moment (secret_id update.secret_id))
+    (λ row. move_on row when (move_call update)) _
+    (λ row e. on_change rows when (move_call update) row sound date e)

@@ -19,7 +19,7 @@ use Rattle.sm_base.specs.Texts.{same_text}
 use Rattle.sm_model.specs.Labels.{aws_current, holder}
 use Rattle.sm_versions.specs.Labels.{place}
 use Rattle.sm_versions.specs.Versions.{has_value}
-use Rattle.sm_model.specs.Versions.{has_version}
+use Rattle.sm_model.specs.Versions.{When, has_version}
 use Rattle.sm_versions.specs.Put.{has_too_many}
 use Rattle.sm_versions.specs.Move.{may_move, move_answer, move_row}
 use Rattle.sm_table.specs.Found.{found}
@@ -62,15 +62,15 @@ move_outcome moves.Memory after = Memory
 abbrev pub move_in : MoveCall → SecretRow → SecretRow
 move_in call row = move_row row call.label call.to
 
-abbrev pub move_on : SecretRow → Moment → MoveCall → Judged
-move_on row moment call =
-    move_outcome (move_answer row call.label call.to call.from) (finished_row (move_in call row) moment)
+abbrev pub move_on : SecretRow → When → MoveCall → Judged
+move_on row when call =
+    move_outcome (move_answer row call.label call.to call.from) (finished_row (move_in call row) when)
 
-abbrev pub move_judged : Rows → Moment → MoveCall → Judged
-move_judged rows moment call = with_secret rows moment call.id (λ row. move_on row moment call)
+abbrev pub move_judged : Rows → When → MoveCall → Judged
+move_judged rows when call = with_secret rows when.moment call.id (λ row. move_on row when call)
 
-abbrev pub move_judgement : Rows → Moment → UpdateSecretVersionStage → Judged
-move_judgement rows moment update = move_judged rows moment (move_call update)
+abbrev pub move_judgement : Rows → When → UpdateSecretVersionStage → Judged
+move_judgement rows when update = move_judged rows when (move_call update)
 
 -- ---- when it is refused, what it does to the rows
 
@@ -105,5 +105,5 @@ move_refusal rows moment update =
     refusal_at (found rows moment (secret_id update.secret_id)) (λ row. move_refusal_on row (move_call update))
 
 -- the secret's row with the label moved, among those that are still there
-abbrev pub move_effect : Rows → Moment → UpdateSecretVersionStage → Rows
-move_effect rows moment update = change_named rows (secret_id update.secret_id) moment (move_in (move_call update))
+abbrev pub move_effect : Rows → When → UpdateSecretVersionStage → Rows
+move_effect rows when update = change_named rows (secret_id update.secret_id) when (move_in (move_call update))

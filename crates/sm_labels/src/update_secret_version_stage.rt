@@ -8,11 +8,11 @@ use sm_judging::Judged;
 use sm_judging::members::{label_of, secret_id, token_given};
 use sm_judging::row_change::finish;
 use sm_model::{
-    Change, Copied, Label, Moment, NamedSecret, NoMemory, Reply, SecretId, SecretRow, Token,
+    Change, Copied, Label, NamedSecret, NoMemory, Reply, SecretId, SecretRow, Token,
     UpdateSecretVersionStage, What, Why,
 };
 use sm_table::Table;
-use sm_versions::{Moved, move_label};
+use sm_versions::{Moved, When, move_label};
 use std::alloc::Global;
 
 /// An UpdateSecretVersionStage whose forms pass, and so has a target or a source.
@@ -29,14 +29,14 @@ pub struct MoveCall {
 pub fn judge_move(
     alloc: Global,
     table: &Table,
-    moment: Moment,
+    when: When,
     update: &UpdateSecretVersionStage,
 ) -> Result<Judged, NoMemory>
     requires { move_forms update.now ≡ None }
-    ensures { IfOk result (λ judged. judged ≡ move_judgement table.now moment update.now) }
+    ensures { IfOk result (λ judged. judged ≡ move_judgement table.now when update.now) }
 {
     let call = move_call(alloc, update)?;
-    judge_call(alloc, table, moment, &call)
+    judge_call(alloc, table, when, &call)
 }
 
 /// The members of an UpdateSecretVersionStage.
@@ -54,17 +54,12 @@ fn move_call(alloc: Global, update: &UpdateSecretVersionStage) -> Result<MoveCal
 }
 
 /// Judges an UpdateSecretVersionStage by the secret that it names.
-fn judge_call(
-    alloc: Global,
-    table: &Table,
-    moment: Moment,
-    call: &MoveCall,
-) -> Result<Judged, NoMemory>
+fn judge_call(alloc: Global, table: &Table, when: When, call: &MoveCall) -> Result<Judged, NoMemory>
     requires { IsSome call.now.to ⊎ IsSome call.now.from }
-    ensures { IfOk result (λ judged. judged ≡ move_judged table.now moment call.now) }
+    ensures { IfOk result (λ judged. judged ≡ move_judged table.now when call.now) }
 {
-    match table.find(&call.id, moment) {
-        Some(row) => move_unless_scheduled(alloc, row, moment, call),
+    match table.find(&call.id, when.moment) {
+        Some(row) => move_unless_scheduled(alloc, row, when, call),
         None => Ok(Judged::Refuse(Why::NoSecret)),
     }
 }
@@ -73,27 +68,22 @@ fn judge_call(
 fn move_unless_scheduled(
     alloc: Global,
     row: &SecretRow,
-    moment: Moment,
+    when: When,
     call: &MoveCall,
 ) -> Result<Judged, NoMemory>
     requires { IsSome call.now.to ⊎ IsSome call.now.from }
-    ensures { IfOk result (λ judged. judged ≡ unless_scheduled row.now.deletion (move_on row.now moment call.now)) }
+    ensures { IfOk result (λ judged. judged ≡ unless_scheduled row.now.deletion (move_on row.now when call.now)) }
 {
     match row.deletion {
         Some(date) => Ok(Judged::Refuse(Why::Scheduled(date))),
-        None => move_on(alloc, row, moment, call),
+        None => move_on(alloc, row, when, call),
     }
 }
 
 /// Moves the label in a copy of the row.
-fn move_on(
-    alloc: Global,
-    row: &SecretRow,
-    moment: Moment,
-    call: &MoveCall,
-) -> Result<Judged, NoMemory>
+fn move_on(alloc: Global, row: &SecretRow, when: When, call: &MoveCall) -> Result<Judged, NoMemory>
     requires { IsSome call.now.to ⊎ IsSome call.now.from }
-    ensures { IfOk result (λ judged. judged ≡ move_on row.now moment call.now) }
+    ensures { IfOk result (λ judged. judged ≡ move_on row.now when call.now) }
 {
     let mut after = row.copy(alloc)?;
     match move_label(
@@ -103,7 +93,7 @@ fn move_on(
         call.to.as_ref(),
         call.from.as_ref(),
     ) {
-        Moved::Ok => accept(alloc, after, moment),
+        Moved::Ok => accept(alloc, after, when),
         Moved::NotThere(id) => Ok(Judged::Refuse(Why::NotThere(id))),
         Moved::HeldBy(held) => Ok(Judged::Refuse(Why::HeldBy(held))),
         Moved::KeepsCurrent => Ok(Judged::Refuse(Why::KeepsCurrent)),
@@ -124,11 +114,11 @@ fn move_reply(alloc: Global, row: &SecretRow) -> Result<NamedSecret, NoMemory>
 }
 
 /// The row with the label moved, to take the place of the old one.
-fn accept(alloc: Global, after: SecretRow, moment: Moment) -> Result<Judged, NoMemory>
-    ensures { IfOk result (λ judged. judged ≡ move_outcome Moved.Ok (finished_row after moment)) }
+fn accept(alloc: Global, after: SecretRow, when: When) -> Result<Judged, NoMemory>
+    ensures { IfOk result (λ judged. judged ≡ move_outcome Moved.Ok (finished_row after when)) }
 {
     let mut after = after;
-    finish(&mut after, moment);
+    finish(&mut after, when);
     let reply = move_reply(alloc, &after)?;
     Ok(Judged::Accept(
         Reply::UpdateSecretVersionStage(reply),

@@ -8,8 +8,9 @@ use std::test::Fail;
 /// rows of a base of no secrets, after five entries; `u` before those of one secret, after seven; `w` the same at a
 /// moment that no clock reads; `m` before no secrets, after as many entries as there may be. `q` is a secret `b`
 /// without versions, `t` the same with the schedule rate(1 day), and `f` with rate(3 hours), which is no schedule. `d`
-/// is the forced deletion of a secret `x` that isn't there, which is always legal, and `y` the same a second earlier;
-/// `e` the deletion of `b` in seven days, and `c` the cancellation of a rotation of `a`.
+/// is the forced deletion of a secret `x` that isn't there, which is always legal, `p` the same where old versions are
+/// dropped, and `y` the same as `d` a second earlier; `e` the deletion of `b` in seven days, and `c` the cancellation
+/// of a rotation of `a`.
 const BODIES: &str = "\
     s f10000000000000000000000006553f10900000000000000050000000000000000\n\
     u f10000000000000002000000006553f10900000000000000070000000000000001\n\
@@ -29,6 +30,8 @@ const BODIES: &str = "\
         0000000000000000000000000000000000000000000000010000000d72617465283320686f757273290000000000000000\n\
     d 02000000006553f1090000000000000000000000000401000000000178\n\
     D 000000006553f10900000000000000000401000000000178\n\
+    p 02000000006553f1090000000000000000000000008401000000000178\n\
+    P 000000006553f10900000000000000008401000000000178\n\
     y 02000000006553f1080000000000000000000000000401000000000178\n\
     e 02000000006553f10900000000000000000000000004000100000000000000070000000162\n\
     c 02000000006553f1090000000000000000000000000c0000000161\n\

@@ -1,7 +1,7 @@
 -- A secret with another policy, or without one: it stays sound where the policy may be a secret's.
 use Rattle.std.proofs.Common.{◌≡◌, ℕ, List, Option, Some, IsTrue, refl}
 use Rattle.std.proofs.lemmas.Option.{IfSome_then}
-use Rattle.sm_base.specs.declared.moment.Moment.{Moment}
+use Rattle.sm_model.specs.Versions.{When}
 use Rattle.sm_base.specs.declared.secret_id.SecretId.{SecretId}
 use Rattle.sm_model.specs.declared.entry.Change.TheVariants as changes
 use Rattle.sm_model.specs.declared.rows.Job.{Job}
@@ -11,10 +11,11 @@ use Rattle.sm_model.specs.Bounds.{fits, is_date}
 use Rattle.sm_policy_text.specs.Documents.{is_resource_policy}
 use Rattle.sm_versions.specs.Kept.{JobFits}
 use Rattle.sm_versions.specs.Sound.{UnsettledSound}
+use Rattle.sm_versions.proofs.CountLaws.{few_counted}
 use Rattle.sm_table.specs.Found.{found}
 use Rattle.sm_table.specs.Sound.{Sound}
 use Rattle.sm_judging.specs.Secrets.{finished_row}
-use Rattle.sm_judging.proofs.ChangeLemmas.{OnRow, found_row_sound, found_change}
+use Rattle.sm_judging.proofs.ChangeLemmas.{OnRow, found_row_sound, found_row_few, found_change}
 use Rattle.sm_policies.specs.Kept.{with_policy}
 
 with_policy_job : (policy : Option (List ℕ)) (row : SecretRow) (job : Job) → JobFits row job
@@ -39,7 +40,6 @@ with_policy_sound policy row is sound =
         tags = f.tags;
         tag_once = f.tag_once;
         policy = is;
-        version_count = f.version_count;
         versions = f.versions;
         labels = f.labels;
         created = f.created;
@@ -51,13 +51,15 @@ with_policy_sound policy row is sound =
     }
 
 -- the row that was found, with this policy in place of its own
-pub keeps_policy : (rows : Rows) (moment : Moment) (id : SecretId) (policy : Option (List ℕ)) (row : SecretRow)
-    → Sound rows → IsTrue (is_date moment) → IsTrue (fits is_resource_policy policy) → found rows moment id ≡ Some row
-    → OnRow rows moment id (with_policy policy) (changes.Replace (finished_row (with_policy policy row) moment))
-keeps_policy rows moment id policy row sound date is e =
-    found_change rows moment id (with_policy policy) row sound date e (record {
+pub keeps_policy : (rows : Rows) (when : When) (id : SecretId) (policy : Option (List ℕ)) (row : SecretRow)
+    → Sound rows → IsTrue (is_date when.moment) → IsTrue (fits is_resource_policy policy)
+    → found rows when.moment id ≡ Some row
+    → OnRow rows when id (with_policy policy) (changes.Replace (finished_row (with_policy policy row) when))
+keeps_policy rows when id policy row sound date is e =
+    found_change rows when id (with_policy policy) row sound date e (record {
       serial = refl;
       name = refl;
       arn = refl;
-      sound = with_policy_sound policy row is (found_row_sound rows moment id row sound e);
+      sound = with_policy_sound policy row is (found_row_sound rows when.moment id row sound e);
+      few = few_counted (with_policy policy row) when (found_row_few rows when.moment id row sound e);
     })

@@ -10,6 +10,7 @@ use Rattle.sm_model.specs.declared.request.OfSecret.{OfSecret}
 use Rattle.sm_model.specs.declared.rows.Rows.{Rows}
 use Rattle.sm_model.specs.declared.rows.SecretRow.{SecretRow}
 use Rattle.sm_model.specs.declared.why.Why.{Why}
+use Rattle.sm_model.specs.Versions.{When}
 use Rattle.sm_table.specs.Found.{found}
 use Rattle.sm_judging.specs.declared.judged.Judged.{Judged}
 use Rattle.sm_judging.specs.declared.judged.Judged.TheVariants.{Accept}
@@ -21,14 +22,14 @@ use Rattle.sm_policies.specs.Kept.{named, with_policy}
 -- ---- the judgement
 
 -- the row without a policy takes the place of the old one
-abbrev pub delete_policy_on : SecretRow → Moment → Judged
-delete_policy_on row moment =
+abbrev pub delete_policy_on : SecretRow → When → Judged
+delete_policy_on row when =
     Accept (replies.DeleteResourcePolicy (named row))
-    (Some (changes.Replace (finished_row (with_policy None row) moment)))
+    (Some (changes.Replace (finished_row (with_policy None row) when)))
 
-abbrev pub delete_policy_judgement : Rows → Moment → OfSecret → Judged
-delete_policy_judgement rows moment delete =
-    with_secret rows moment (secret_id delete.secret_id) (λ row. delete_policy_on row moment)
+abbrev pub delete_policy_judgement : Rows → When → OfSecret → Judged
+delete_policy_judgement rows when delete =
+    with_secret rows when.moment (secret_id delete.secret_id) (λ row. delete_policy_on row when)
 
 -- ---- when it is refused, what it does to the rows
 
@@ -37,5 +38,5 @@ abbrev pub delete_policy_refusal : Rows → Moment → OfSecret → Option Why
 delete_policy_refusal rows moment delete = refusal_at (found rows moment (secret_id delete.secret_id)) (λ row. None)
 
 -- the secret's row without a policy
-abbrev pub delete_policy_effect : Rows → Moment → OfSecret → Rows
-delete_policy_effect rows moment delete = change_named rows (secret_id delete.secret_id) moment (with_policy None)
+abbrev pub delete_policy_effect : Rows → When → OfSecret → Rows
+delete_policy_effect rows when delete = change_named rows (secret_id delete.secret_id) when (with_policy None)

@@ -11,6 +11,7 @@ use Rattle.sm_model.specs.declared.rows.Rows.{Rows}
 use Rattle.sm_model.specs.declared.rows.SecretRow.{SecretRow}
 use Rattle.sm_model.specs.declared.why.Why.{Why}
 use Rattle.sm_model.specs.declared.why.Why.TheVariants.{Public}
+use Rattle.sm_model.specs.Versions.{When}
 use Rattle.sm_policy_text.specs.declared.policy.Policy.{Policy}
 use Rattle.sm_policy.specs.Decisions.{public_number}
 use Rattle.sm_policy_text.specs.Documents.{policy_of}
@@ -39,21 +40,21 @@ blocked put = if put.block_public_policy then public_statement put.resource_poli
 -- ---- the judgement
 
 -- the row with the policy, as it was given, takes the place of the old one
-abbrev pub put_policy_kept : SecretRow → Moment → List ℕ → Judged
-put_policy_kept row moment text =
+abbrev pub put_policy_kept : SecretRow → When → List ℕ → Judged
+put_policy_kept row when text =
     Accept (replies.PutResourcePolicy (named row))
-    (Some (changes.Replace (finished_row (with_policy (Some text) row) moment)))
+    (Some (changes.Replace (finished_row (with_policy (Some text) row) when)))
 
-abbrev pub put_policy_unless : Option ℕ → SecretRow → Moment → List ℕ → Judged
-put_policy_unless (Some statement) row moment text = Refuse (Public statement)
-put_policy_unless None row moment text = put_policy_kept row moment text
+abbrev pub put_policy_unless : Option ℕ → SecretRow → When → List ℕ → Judged
+put_policy_unless (Some statement) row when text = Refuse (Public statement)
+put_policy_unless None row when text = put_policy_kept row when text
 
-abbrev pub put_policy_on : SecretRow → Moment → PutResourcePolicy → Judged
-put_policy_on row moment put = put_policy_unless (blocked put) row moment put.resource_policy
+abbrev pub put_policy_on : SecretRow → When → PutResourcePolicy → Judged
+put_policy_on row when put = put_policy_unless (blocked put) row when put.resource_policy
 
-abbrev pub put_policy_judgement : Rows → Moment → PutResourcePolicy → Judged
-put_policy_judgement rows moment put =
-    with_secret rows moment (secret_id put.secret_id) (λ row. put_policy_on row moment put)
+abbrev pub put_policy_judgement : Rows → When → PutResourcePolicy → Judged
+put_policy_judgement rows when put =
+    with_secret rows when.moment (secret_id put.secret_id) (λ row. put_policy_on row when put)
 
 -- ---- when it is refused, what it does to the rows
 
@@ -63,6 +64,6 @@ put_policy_refusal rows moment put =
     refusal_at (found rows moment (secret_id put.secret_id)) (λ row. option_map Public (blocked put))
 
 -- the secret's row with the policy
-abbrev pub put_policy_effect : Rows → Moment → PutResourcePolicy → Rows
-put_policy_effect rows moment put =
-    change_named rows (secret_id put.secret_id) moment (with_policy (Some put.resource_policy))
+abbrev pub put_policy_effect : Rows → When → PutResourcePolicy → Rows
+put_policy_effect rows when put =
+    change_named rows (secret_id put.secret_id) when (with_policy (Some put.resource_policy))

@@ -7,8 +7,9 @@ ghost use Rattle.sm_policies.specs.DeleteResourcePolicy.{delete_policy_on, delet
 use crate::kept::{keep, named};
 use sm_judging::Judged;
 use sm_judging::members::secret_id;
-use sm_model::{Change, Moment, NoMemory, OfSecret, Reply, SecretRow, Why};
+use sm_model::{Change, NoMemory, OfSecret, Reply, SecretRow, Why};
 use sm_table::Table;
+use sm_versions::When;
 use std::alloc::Global;
 
 /// Judges a DeleteResourcePolicy.
@@ -16,15 +17,15 @@ use std::alloc::Global;
 pub fn judge_delete_policy(
     alloc: Global,
     table: &Table,
-    moment: Moment,
+    when: When,
     delete: &OfSecret,
 ) -> Result<Judged, NoMemory>
     requires { of_secret_forms delete.now ≡ None }
-    ensures { IfOk result (λ judged. judged ≡ delete_policy_judgement table.now moment delete.now) }
+    ensures { IfOk result (λ judged. judged ≡ delete_policy_judgement table.now when delete.now) }
 {
     let id = secret_id(alloc, &delete.secret_id)?;
-    match table.find(&id, moment) {
-        Some(row) => delete_policy_unless_scheduled(alloc, row, moment),
+    match table.find(&id, when.moment) {
+        Some(row) => delete_policy_unless_scheduled(alloc, row, when),
         None => Ok(Judged::Refuse(Why::NoSecret)),
     }
 }
@@ -33,22 +34,22 @@ pub fn judge_delete_policy(
 fn delete_policy_unless_scheduled(
     alloc: Global,
     row: &SecretRow,
-    moment: Moment,
+    when: When,
 ) -> Result<Judged, NoMemory>
-    ensures { IfOk result (λ judged. judged ≡ unless_scheduled row.now.deletion (delete_policy_on row.now moment)) }
+    ensures { IfOk result (λ judged. judged ≡ unless_scheduled row.now.deletion (delete_policy_on row.now when)) }
 {
     match row.deletion {
         Some(date) => Ok(Judged::Refuse(Why::Scheduled(date))),
-        None => delete_policy_on(alloc, row, moment),
+        None => delete_policy_on(alloc, row, when),
     }
 }
 
 /// Takes the policy off a copy of the row, whether it has one or not.
-fn delete_policy_on(alloc: Global, row: &SecretRow, moment: Moment) -> Result<Judged, NoMemory>
-    ensures { IfOk result (λ judged. judged ≡ delete_policy_on row.now moment) }
+fn delete_policy_on(alloc: Global, row: &SecretRow, when: When) -> Result<Judged, NoMemory>
+    ensures { IfOk result (λ judged. judged ≡ delete_policy_on row.now when) }
 {
     let reply = named(alloc, row)?;
-    let after = keep(alloc, row, moment, None)?;
+    let after = keep(alloc, row, when, None)?;
     Ok(Judged::Accept(
         Reply::DeleteResourcePolicy(reply),
         Some(Change::Replace(after)),

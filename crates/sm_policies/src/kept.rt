@@ -5,21 +5,22 @@ ghost use Rattle.sm_policies.specs.Kept.{named, with_policy};
 
 use sm_base::copy_two;
 use sm_judging::row_change::finish;
-use sm_model::{Copied, KeptPolicy, Moment, NamedSecret, NoMemory, SecretRow};
+use sm_model::{Copied, KeptPolicy, NamedSecret, NoMemory, SecretRow};
+use sm_versions::When;
 use std::alloc::Global;
 
 /// A copy of the row that keeps this policy, or none.
 pub(crate) fn keep(
     alloc: Global,
     row: &SecretRow,
-    moment: Moment,
+    when: When,
     policy: Option<KeptPolicy>,
 ) -> Result<SecretRow, NoMemory>
-    ensures { IfOk result (λ after. after ≡ finished_row (with_policy policy row.now) moment) }
+    ensures { IfOk result (λ after. after ≡ finished_row (with_policy policy row.now) when) }
 {
     let mut after = row.copy(alloc)?;
     after.policy = policy;
-    finish(&mut after, moment);
+    finish(&mut after, when);
     Ok(after)
 }
 

@@ -7,11 +7,10 @@ ghost use Rattle.sm_policies.specs.PutResourcePolicy.{public_statement, blocked,
 use crate::kept::{keep, named};
 use sm_judging::Judged;
 use sm_judging::members::secret_id;
-use sm_model::{
-    Change, Copied, KeptPolicy, Moment, NoMemory, PutResourcePolicy, Reply, SecretRow, Why,
-};
+use sm_model::{Change, Copied, KeptPolicy, NoMemory, PutResourcePolicy, Reply, SecretRow, Why};
 use sm_policy::is_public;
 use sm_table::Table;
+use sm_versions::When;
 use std::alloc::Global;
 
 /// Judges a PutResourcePolicy.
@@ -19,15 +18,15 @@ use std::alloc::Global;
 pub fn judge_put_policy(
     alloc: Global,
     table: &Table,
-    moment: Moment,
+    when: When,
     put: &PutResourcePolicy,
 ) -> Result<Judged, NoMemory>
     requires { put_policy_forms put.now ≡ None }
-    ensures { IfOk result (λ judged. judged ≡ put_policy_judgement table.now moment put.now) }
+    ensures { IfOk result (λ judged. judged ≡ put_policy_judgement table.now when put.now) }
 {
     let id = secret_id(alloc, &put.secret_id)?;
-    match table.find(&id, moment) {
-        Some(row) => put_policy_unless_scheduled(alloc, row, moment, put),
+    match table.find(&id, when.moment) {
+        Some(row) => put_policy_unless_scheduled(alloc, row, when, put),
         None => Ok(Judged::Refuse(Why::NoSecret)),
     }
 }
@@ -36,15 +35,15 @@ pub fn judge_put_policy(
 fn put_policy_unless_scheduled(
     alloc: Global,
     row: &SecretRow,
-    moment: Moment,
+    when: When,
     put: &PutResourcePolicy,
 ) -> Result<Judged, NoMemory>
     ensures { IfOk result
-        (λ judged. judged ≡ unless_scheduled row.now.deletion (put_policy_on row.now moment put.now)) }
+        (λ judged. judged ≡ unless_scheduled row.now.deletion (put_policy_on row.now when put.now)) }
 {
     match row.deletion {
         Some(date) => Ok(Judged::Refuse(Why::Scheduled(date))),
-        None => put_policy_on(alloc, row, moment, put),
+        None => put_policy_on(alloc, row, when, put),
     }
 }
 
@@ -52,15 +51,15 @@ fn put_policy_unless_scheduled(
 fn put_policy_on(
     alloc: Global,
     row: &SecretRow,
-    moment: Moment,
+    when: When,
     put: &PutResourcePolicy,
 ) -> Result<Judged, NoMemory>
-    ensures { IfOk result (λ judged. judged ≡ put_policy_on row.now moment put.now) }
+    ensures { IfOk result (λ judged. judged ≡ put_policy_on row.now when put.now) }
 {
     let policy = KeptPolicy::of(alloc, put.resource_policy.copy(alloc)?)?;
     match blocked(put, &policy) {
         Some(statement) => Ok(Judged::Refuse(Why::Public(statement))),
-        None => put_policy_kept(alloc, row, moment, policy),
+        None => put_policy_kept(alloc, row, when, policy),
     }
 }
 
@@ -90,13 +89,13 @@ fn public_statement(policy: &KeptPolicy) -> Option<u32>
 fn put_policy_kept(
     alloc: Global,
     row: &SecretRow,
-    moment: Moment,
+    when: When,
     policy: KeptPolicy,
 ) -> Result<Judged, NoMemory>
-    ensures { IfOk result (λ judged. judged ≡ put_policy_kept row.now moment policy) }
+    ensures { IfOk result (λ judged. judged ≡ put_policy_kept row.now when policy) }
 {
     let reply = named(alloc, row)?;
-    let after = keep(alloc, row, moment, Some(policy))?;
+    let after = keep(alloc, row, when, Some(policy))?;
     Ok(Judged::Accept(
         Reply::PutResourcePolicy(reply),
         Some(Change::Replace(after)),

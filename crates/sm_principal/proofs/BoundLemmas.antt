@@ -9,7 +9,7 @@ use Rattle.sm_base.specs.Spelling.{is_token_byte}
 use Rattle.sm_base.specs.Texts.{same_text}
 use Rattle.sm_base.specs.declared.limits.TheConstants.{KEY_LIMIT}
 use Rattle.sm_model.specs.declared.person.Person.{Person}
-use Rattle.sm_principal.specs.declared.known.Known.{Known}
+use Rattle.sm_principal.specs.Persons.{Known}
 use Rattle.sm_principal.specs.declared.known.TheConstants.{SECRET_LIMIT}
 use Rattle.sm_principal.specs.declared.people.People.{People}
 use Rattle.sm_principal.specs.declared.people.People.TheVariants.{Everybody, Listed}
@@ -34,7 +34,7 @@ first_of_four : (a b c d : Bool) → (((a && b) && c) && d) ≡ true → a ≡ t
 first_of_four true b c d h = refl
 first_of_four false b c d h = h
 
-arn_short : (arn : List ℕ) → is_person_arn arn ≡ true → length arn ≤ 154
+pub arn_short : (arn : List ℕ) → is_person_arn arn ≡ true → length arn ≤ 154
 unfolding is_person_arn
 arn_short arn is = run_short 27 154 (length arn) (list_all is_token_byte arn) (first_of_four _ _ _ _ is)
 

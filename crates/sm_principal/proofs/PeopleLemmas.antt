@@ -1,6 +1,6 @@
 -- The people text, line by line.
 use Rattle.std.proofs.Common.{◌≡◌, ℕ, ◌+◌, ◌<◌, ◌==◌, cond, Bool, true, false, List, [], ◌∷◌, length, Option, Some, None, Result, Ok, Err, refl, ap, sym, ◌∙◌, arith}
-use Rattle.sm_principal.specs.declared.known.Known.{Known}
+use Rattle.sm_principal.specs.Persons.{Known}
 use Rattle.sm_principal.specs.Lines.{pushed, parted, lines_of, with_line, persons_from}
 use Rattle.sm_principal.proofs.LineLemmas.{line_first, line_alone}
 

@@ -6,7 +6,7 @@ use Rattle.std.proofs.lemmas.Bool.Decides.{nat_tests}
 use Rattle.sm_base.specs.PersonArn.{is_person_arn}
 use Rattle.sm_base.specs.Spelling.{is_token_byte}
 use Rattle.sm_base.specs.Texts.{same_text}
-use Rattle.sm_principal.specs.declared.known.Known.{Known}
+use Rattle.sm_principal.specs.Persons.{Known}
 use Rattle.sm_principal.specs.Lines.{is_key_byte, is_key, pushed, parted, kind_of, known_with, fits, known_if, with_arn, with_kind, with_key, known_of}
 use Rattle.sm_principal.specs.Spellings.{kind_text, secret_text, line_text, IsFormed, ReadsLines, ReadsNoOther}
 use Rattle.sm_principal.proofs.LineLemmas.{both, key_bytes_all, arn_bytes_all}

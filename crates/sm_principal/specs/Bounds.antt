@@ -2,7 +2,7 @@
 use Rattle.std.specs.Prelude.{◌≡◌, ℕ, ◌≤◌, List, length, All, Option, IfSome, Ok, ⊤}
 use Rattle.sm_base.specs.declared.limits.TheConstants.{KEY_LIMIT}
 use Rattle.sm_model.specs.declared.person.Person.{Person}
-use Rattle.sm_principal.specs.declared.known.Known.{Known}
+use Rattle.sm_principal.specs.Persons.{Known}
 use Rattle.sm_principal.specs.declared.known.TheConstants.{SECRET_LIMIT}
 use Rattle.sm_principal.specs.declared.people.People.{People}
 use Rattle.sm_principal.specs.declared.people.People.TheVariants.{Everybody, Listed}

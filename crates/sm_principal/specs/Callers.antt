@@ -5,7 +5,7 @@ use Rattle.std.specs.List.{list_any}
 use Rattle.std.specs.Cmp.Lexicographic.{pointwise}
 use Rattle.sm_base.specs.Texts.{same_text}
 use Rattle.sm_model.specs.declared.person.Person.{Person}
-use Rattle.sm_principal.specs.declared.known.Known.{Known}
+use Rattle.sm_principal.specs.Persons.{Known}
 use Rattle.sm_principal.specs.declared.caller.CallerRefused.{CallerRefused}
 use Rattle.sm_principal.specs.declared.caller.CallerRefused.TheVariants as refused
 use Rattle.sm_principal.specs.declared.people.People.{People}

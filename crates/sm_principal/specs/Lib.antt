@@ -1,3 +1,4 @@
+pub mod Persons
 pub mod Callers
 pub mod Lines
 pub mod Outcomes

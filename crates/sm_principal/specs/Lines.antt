@@ -8,7 +8,7 @@ use Rattle.sm_base.specs.Spelling.{is_run, is_token_byte}
 use Rattle.sm_base.specs.Texts.{same_text}
 use Rattle.sm_base.specs.declared.limits.TheConstants.{KEY_LIMIT}
 use Rattle.sm_model.specs.declared.person.Person.{Person}
-use Rattle.sm_principal.specs.declared.known.Known.{Known}
+use Rattle.sm_principal.specs.Persons.{Known}
 use Rattle.sm_principal.specs.declared.known.TheConstants.{SECRET_LIMIT}
 
 -- an ASCII letter, a digit or _

@@ -1,6 +1,6 @@
 -- What was returned, beside what is to be returned.
 use Rattle.std.specs.Prelude.{◌≡◌, ℕ, List, Option, Some, None, Result, Ok, Err, ⊤}
-use Rattle.sm_principal.specs.declared.known.Known.{Known}
+use Rattle.sm_principal.specs.Persons.{Known}
 use Rattle.sm_principal.specs.declared.lines.Line.{Line}
 use Rattle.sm_principal.specs.declared.lines.Line.TheVariants as lines
 use Rattle.sm_principal.specs.declared.lines.LineRefused.{LineRefused}

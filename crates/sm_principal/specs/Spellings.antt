@@ -1,7 +1,7 @@
 -- How the line of a person is spelled.
 use Rattle.std.specs.Prelude.{◌≡◌, ℕ, Bool, true, false, List, [], ◌∷◌, ◌++◌, codes, Option, Some, None}
 use Rattle.sm_base.specs.PersonArn.{is_person_arn}
-use Rattle.sm_principal.specs.declared.known.Known.{Known}
+use Rattle.sm_principal.specs.Persons.{Known}
 use Rattle.sm_principal.specs.Lines.{is_key, fits, known_of}
 
 -- full or guest

@@ -1,5 +1,5 @@
 //! The person that a message's Authorization field names (Signature Version 4: `Credential=<key>/<date>/..`).
-ghost use Rattle.std.specs.Prelude.{◌≡◌, IsTrue, None, Some, drop, if◌then◌else◌, option_copied, option_map};
+ghost use Rattle.std.specs.Prelude.{◌≡◌, ◌≤◌, IfOk, IsTrue, None, Some, drop, length, if◌then◌else◌, option_copied, option_map};
 ghost use Rattle.sm_base.specs.Outcomes.{OrMemory};
 ghost use Rattle.sm_principal.specs.Callers.{begins, after_credential, key_of, key_in, root, known_named, known_or, caller_named, caller_of, told_caller};
 ghost use Rattle.sm_principal.specs.Lines.{is_key};
@@ -71,7 +71,7 @@ pub(crate) fn known_named<'a>(key: &[u8], known: &'a [Known]) -> Option<&'a Know
     ensures { option_copied result ≡ known_named key.now known.now }
 {
     for one in known {
-        if same_text(one.person.key.as_bytes(), key) {
+        if same_text(one.person().key.as_bytes(), key) {
             return Some(one);
         }
     }
@@ -80,7 +80,8 @@ pub(crate) fn known_named<'a>(key: &[u8], known: &'a [Known]) -> Option<&'a Know
 
 #[tactic(auto, unfolding(crate::specs::Callers::root_arn))]
 fn root() -> Person
-    ensures { result ≡ root }
+    ensures root { result ≡ root }
+    ensures short { length result.arn ≤ 154 }
 {
     Person {
         key: Text::fixed(""),
@@ -93,10 +94,11 @@ fn root() -> Person
 #[tactic(auto, using(crate::proofs::LineLemmas::key_is_text))]
 fn copy_of(alloc: Global, key: &[u8], known: &[Known]) -> Result<Person, CallerRefused>
     requires { IsTrue (is_key key.now) }
-    ensures { OrMemory (told_caller result) (known_or key.now (known_named key.now known.now)) }
+    ensures caller { OrMemory (told_caller result) (known_or key.now (known_named key.now known.now)) }
+    ensures short { IfOk result (λ person. length person.arn ≤ 154) }
 {
     match known_named(key, known) {
-        Some(one) => match one.person.copy(alloc) {
+        Some(one) => match one.person().copy(alloc) {
             Ok(person) => Ok(person),
             Err(_) => Err(CallerRefused::Memory),
         },
@@ -110,7 +112,8 @@ fn copy_of(alloc: Global, key: &[u8], known: &[Known]) -> Result<Person, CallerR
 /// Who asks, of these persons, by the key that the field spells.
 #[tactic(auto, using(crate::proofs::CallerLemmas::key_is_key))]
 fn caller_named(alloc: Global, known: &[Known], header: &[u8]) -> Result<Person, CallerRefused>
-    ensures { OrMemory (told_caller result) (caller_named known.now (key_in header.now)) }
+    ensures caller { OrMemory (told_caller result) (caller_named known.now (key_in header.now)) }
+    ensures short { IfOk result (λ person. length person.arn ≤ 154) }
 {
     match key_in(header) {
         Some(key) => copy_of(alloc, key, known),
@@ -119,9 +122,10 @@ fn caller_named(alloc: Global, known: &[Known], header: &[u8]) -> Result<Person,
 }
 
 impl People {
-    /// Who asks by a message's Authorization field, where it has one.
+    /// Who asks by a message's Authorization field, where it has one. The person's ARN has at most 154 bytes.
     pub fn caller(&self, alloc: Global, header: Option<&[u8]>) -> Result<Person, CallerRefused>
-        ensures { OrMemory (told_caller result) (caller_of self.now (option_map (λ t. t.now) header.entry)) }
+        ensures caller { OrMemory (told_caller result) (caller_of self.now (option_map (λ t. t.now) header.entry)) }
+        ensures short { IfOk result (λ person. length person.arn ≤ 154) }
     {
         match self {
             People::Everybody => Ok(root()),

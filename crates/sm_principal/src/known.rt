@@ -1,5 +1,5 @@
 //! A person whom a people text names, and the secret by which that person signs.
-ghost use Rattle.std.specs.Prelude.{◌≡◌, IfOk, nat_le, ◌&&◌, length, option_copied};
+ghost use Rattle.std.specs.Prelude.{◌≡◌, ◌≤◌, IfOk, nat_le, ◌&&◌, is_some, length, option_copied};
 ghost use Rattle.std.specs.List.{list_all};
 ghost use Rattle.sm_base.specs.Spelling.{is_token_byte};
 ghost use Rattle.sm_principal.specs.Lines.{is_secret};
@@ -7,17 +7,64 @@ ghost use Rattle.sm_principal.specs.Lines.{is_secret};
 use sm_base::{Bytes, NoMemory};
 use sm_model::Person;
 use std::alloc::Global;
+use std::marker::Model;
 
 /// The greatest length of a secret, in bytes.
 pub const SECRET_LIMIT: usize = 128;
 
-/// A person, and the secret by which that person signs, where there is one (AWS General Reference, "AWS security
-/// credentials": the access key id is the person's key). The secret is no part of the person, so that no reply, no
-/// refusal and no line of a log can have it.
+/// A person, whose ARN has at most 154 bytes, and the secret by which that person signs, where there is one (AWS
+/// General Reference, "AWS security credentials": the access key id is the person's key). The secret is no part of the
+/// person, so that no reply, no refusal and no line of a log can have it.
 #[derive(Drop)]
 pub struct Known {
-    pub person: Person,
-    pub secret: Option<Bytes>,
+    person: Person,
+    secret: Option<Bytes>,
+}
+
+impl Model for Known {
+    ghost use Rattle.std.specs.Prelude.{◌≤◌, length};
+    ghost use Rattle.sm_principal.specs.Persons as persons;
+
+    ghost Value = { persons.Known };
+
+    ghost view = { λ known. record { person = known.person; secret = known.secret } };
+
+    ghost invariant = { λ known. length known.person.arn ≤ 154 };
+}
+
+impl Known {
+    /// A person and a secret, where there is one.
+    pub(crate) fn with(person: Person, secret: Option<Bytes>) -> Known
+        requires { length person.arn ≤ 154 }
+        ensures { result ≡ record { person = person; secret = secret } }
+    {
+        Known { person, secret }
+    }
+
+    /// The person.
+    pub fn person(&self) -> &Person
+        ensures person { result.now ≡ self.now.person }
+        ensures short { length self.now.person.arn ≤ 154 }
+    {
+        &self.person
+    }
+
+    /// The secret, where there is one.
+    pub fn secret(&self) -> Option<&[u8]>
+        ensures { option_copied result ≡ self.now.secret }
+    {
+        match &self.secret {
+            Some(secret) => Some(secret.as_slice()),
+            None => None,
+        }
+    }
+
+    /// Whether there is a secret.
+    pub(crate) fn has_secret(&self) -> bool
+        ensures { result ≡ is_some self.now.secret }
+    {
+        self.secret.is_some()
+    }
 }
 
 #[tactic(auto, unfolding(sm_base::specs::Spelling::is_token_byte))]

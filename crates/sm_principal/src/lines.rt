@@ -77,7 +77,7 @@ fn kind_of(text: &[u8]) -> Option<bool>
 }
 
 /// A person of a key, a kind and an ARN that are in their forms, and a secret.
-#[tactic(auto, using(crate::proofs::LineLemmas::key_is_text, crate::proofs::LineLemmas::arn_is_text))]
+#[tactic(auto, using(crate::proofs::LineLemmas::key_is_text, crate::proofs::LineLemmas::arn_is_text, crate::proofs::BoundLemmas::arn_short))]
 fn known_with(alloc: Global, key: &[u8], full: bool, arn: &[u8], secret: Option<&[u8]>) -> Line
     requires key { IsTrue (is_key key.now) }
     requires arn { IsTrue (is_person_arn arn.now) }
@@ -90,10 +90,7 @@ fn known_with(alloc: Global, key: &[u8], full: bool, arn: &[u8], secret: Option<
         return Line::Memory;
     };
     match kept(alloc, secret) {
-        Ok(secret) => Line::Is(Known {
-            person: Person { key, arn, full },
-            secret,
-        }),
+        Ok(secret) => Line::Is(Known::with(Person { key, arn, full }, secret)),
         Err(_) => Line::Memory,
     }
 }
@@ -165,7 +162,7 @@ pub(crate) fn has_key(known: &[Known], key: &[u8]) -> bool
 {
     known
         .iter()
-        .any(|other| same_text(other.person.key.as_bytes(), key))
+        .any(|other| same_text(other.person().key.as_bytes(), key))
 }
 
 /// The persons known, with those of one line more.
@@ -184,7 +181,7 @@ pub(crate) fn with_line(
         Line::Bad => return Err(LineRefused::Bad),
         Line::Memory => return Err(LineRefused::Memory),
     };
-    if has_key(known.as_slice(), one.person.key.as_bytes()) {
+    if has_key(known.as_slice(), one.person().key.as_bytes()) {
         return Err(LineRefused::Bad);
     }
     let mut known = known;

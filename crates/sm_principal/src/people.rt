@@ -91,7 +91,7 @@ impl People {
 fn have_secret(known: &[Known]) -> bool
     ensures { result ≡ list_any has_secret known.now }
 {
-    known.iter().any(|one| one.secret.is_some())
+    known.iter().any(|one| one.has_secret())
 }
 
 /// The secret of a person, where there is one.
@@ -99,10 +99,7 @@ fn secret_in(known: Option<&Known>) -> Option<&[u8]>
     ensures { option_copied result ≡ secret_in (option_copied known.entry) }
 {
     match known {
-        Some(known) => match &known.secret {
-            Some(secret) => Some(secret.as_slice()),
-            None => None,
-        },
+        Some(known) => known.secret(),
         None => None,
     }
 }

@@ -19,6 +19,8 @@ use Rattle.sm_model.specs.declared.rows.VersionRow.{VersionRow}
 use Rattle.sm_model.specs.declared.value.Value.{Value}
 use Rattle.sm_model.specs.Labels.{aws_current}
 use Rattle.sm_versions.specs.Put.{put_row_on, put_row}
+use Rattle.sm_model.specs.Versions.{When}
+use Rattle.sm_versions.specs.Prune.{pruned}
 use Rattle.sm_versions.specs.Settle.{settle}
 use Rattle.sm_versions.specs.Versions.{version_of}
 use Rattle.sm_dates.specs.Days.{days_after}
@@ -45,7 +47,7 @@ use Rattle.sm_upkeep.specs.DeleteSecret.{window_days, scheduled_at, without_row,
 use Rattle.sm_upkeep.specs.RestoreSecret.{unscheduled}
 use Rattle.sm_upkeep.specs.TagResource.{tagged}
 use Rattle.sm_upkeep.specs.UntagResource.{untagged}
-use Rattle.sm_core.specs.Effects.{request_effect, act_effect, effect}
+use Rattle.sm_core.specs.Effects.{when_of, request_effect, act_effect, effect}
 use Rattle.sm_sound.specs.Bases.{IsPlain, EachPlain}
 
 -- ---- one secret
@@ -151,26 +153,26 @@ settled_plain [] each = each
 settled_plain (r ∷ rs) each =
     (record { regions = each.0.regions }, settled_plain rs each.1)
 
-with_row_plain : (secrets : List SecretRow) (found : Option SecretRow) (moment : Moment)
+with_row_plain : (secrets : List SecretRow) (found : Option SecretRow) (when : When)
     (change : SecretRow → SecretRow) → KeepsRegions change → ((row : SecretRow) → found ≡ Some row → IsIn secrets row)
-    → EachPlain secrets → EachPlain (with_row secrets found moment change)
-with_row_plain secrets None moment change keeps among each = each
-with_row_plain secrets (Some row) moment change keeps among each =
+    → EachPlain secrets → EachPlain (with_row secrets found when change)
+with_row_plain secrets None when change keeps among each = each
+with_row_plain secrets (Some row) when change keeps among each =
     let plain : IsPlain (change row) =
     plain_on row (change row) (keeps row) (plain_in secrets row each (among row refl)) in
-    replaced_plain secrets (record (change row) { changed = moment })
+    replaced_plain secrets (pruned (record (change row) { changed = when.moment }) when)
     (record { regions = plain.regions }) each
 
-named_plain : (rows : Rows) (id : SecretId) (moment : Moment) (change : SecretRow → SecretRow) → KeepsRegions change
-    → EachPlain rows.secrets → EachPlain (change_named rows id moment change).secrets
-named_plain rows id moment change keeps each =
-    with_row_plain rows.secrets (named_by rows.secrets id) moment change keeps
+named_plain : (rows : Rows) (id : SecretId) (when : When) (change : SecretRow → SecretRow) → KeepsRegions change
+    → EachPlain rows.secrets → EachPlain (change_named rows id when change).secrets
+named_plain rows id when change keeps each =
+    with_row_plain rows.secrets (named_by rows.secrets id) when change keeps
     (λ row e. named_by_in rows.secrets id row e) each
 
-with_arn_plain : (rows : Rows) (arn : List ℕ) (moment : Moment) (change : SecretRow → SecretRow) → KeepsRegions change
-    → EachPlain rows.secrets → EachPlain (change_with_arn rows arn moment change).secrets
-with_arn_plain rows arn moment change keeps each =
-    with_row_plain rows.secrets (row_with_arn rows.secrets arn) moment change keeps
+with_arn_plain : (rows : Rows) (arn : List ℕ) (when : When) (change : SecretRow → SecretRow) → KeepsRegions change
+    → EachPlain rows.secrets → EachPlain (change_with_arn rows arn when change).secrets
+with_arn_plain rows arn when change keeps each =
+    with_row_plain rows.secrets (row_with_arn rows.secrets arn) when change keeps
     (λ row e. with_arn_in rows.secrets arn row e) each
 
 without_plain : (secrets : List SecretRow) (found : Option SecretRow) → EachPlain secrets
@@ -180,82 +182,83 @@ without_plain secrets (Some row) each = dropped_plain secrets row.serial each
 
 -- ---- each request
 
-delete_plain : (rows : Rows) (moment : Moment) (delete : DeleteSecret) → EachPlain rows.secrets
-    → EachPlain (delete_effect rows moment delete).secrets
-delete_plain rows moment delete each = by delete.force_delete_without_recovery
+delete_plain : (rows : Rows) (when : When) (delete : DeleteSecret) → EachPlain rows.secrets
+    → EachPlain (delete_effect rows when delete).secrets
+delete_plain rows when delete each = by delete.force_delete_without_recovery
   where
     id : SecretId
     id = secret_id delete.secret_id
 
     change : SecretRow → SecretRow
-    change = scheduled_at (days_after moment (window_days delete.recovery_window_in_days))
+    change = scheduled_at (days_after when.moment (window_days delete.recovery_window_in_days))
 
-    by : (forced : Bool) → EachPlain (cond forced (drop_named rows id) (change_named rows id moment change)).secrets
+    by : (forced : Bool) → EachPlain (cond forced (drop_named rows id) (change_named rows id when change)).secrets
     by true = without_plain rows.secrets (named_by rows.secrets id) each
-    by false = named_plain rows id moment change (λ row. refl) each
+    by false = named_plain rows id when change (λ row. refl) each
 
-put_of_plain : (rows : Rows) (moment : Moment) (call : Option PutCall) → EachPlain rows.secrets
-    → EachPlain (put_effect_of rows moment call).secrets
-put_of_plain rows moment None each = each
-put_of_plain rows moment (Some call) each =
-    named_plain rows call.id moment (put_into call moment)
-    (λ row. put_keeps call.value.token call.value.value (labels_placed row call.labels) moment row) each
+put_of_plain : (rows : Rows) (when : When) (call : Option PutCall) → EachPlain rows.secrets
+    → EachPlain (put_effect_of rows when call).secrets
+put_of_plain rows when None each = each
+put_of_plain rows when (Some call) each =
+    named_plain rows call.id when (put_into call when.moment)
+    (λ row. put_keeps call.value.token call.value.value (labels_placed row call.labels) when.moment row) each
 
-request_plain : (rows : Rows) (moment : Moment) (drawn : List ℕ) (request : Request) → EachPlain rows.secrets
-    → EachPlain (request_effect rows moment drawn request).secrets
-request_plain rows moment drawn (requests.CreateSecret create) each =
-    push_plain rows.secrets (created_row rows.next moment (create_call drawn create))
-    (created_plain rows.next moment (create_call drawn create)) each
-request_plain rows moment drawn (requests.DeleteResourcePolicy delete) each =
-    named_plain rows _ moment (with_policy None) (λ row. refl) each
-request_plain rows moment drawn (requests.DeleteSecret delete) each = delete_plain rows moment delete each
-request_plain rows moment drawn (requests.PutResourcePolicy put) each =
-    named_plain rows _ moment (with_policy (Some put.resource_policy))
+request_plain : (rows : Rows) (when : When) (drawn : List ℕ) (request : Request) → EachPlain rows.secrets
+    → EachPlain (request_effect rows when drawn request).secrets
+request_plain rows when drawn (requests.CreateSecret create) each =
+    push_plain rows.secrets (created_row rows.next when.moment (create_call drawn create))
+    (created_plain rows.next when.moment (create_call drawn create)) each
+request_plain rows when drawn (requests.DeleteResourcePolicy delete) each =
+    named_plain rows _ when (with_policy None) (λ row. refl) each
+request_plain rows when drawn (requests.DeleteSecret delete) each = delete_plain rows when delete each
+request_plain rows when drawn (requests.PutResourcePolicy put) each =
+    named_plain rows _ when (with_policy (Some put.resource_policy))
     (λ row. refl) each
-request_plain rows moment drawn (requests.PutSecretValue put) each =
-    put_of_plain rows moment (put_call drawn put) each
-request_plain rows moment drawn (requests.RestoreSecret restore) each =
-    named_plain rows _ moment unscheduled (λ row. refl) each
-request_plain rows moment drawn (requests.TagResource tag) each =
-    named_plain rows _ moment (tagged tag.tags) (λ row. refl) each
-request_plain rows moment drawn (requests.UntagResource untag) each =
-    named_plain rows _ moment (untagged untag.tag_keys) (λ row. refl) each
-request_plain rows moment drawn (requests.UpdateSecret update) each =
+request_plain rows when drawn (requests.PutSecretValue put) each =
+    put_of_plain rows when (put_call drawn put) each
+request_plain rows when drawn (requests.RestoreSecret restore) each =
+    named_plain rows _ when unscheduled (λ row. refl) each
+request_plain rows when drawn (requests.TagResource tag) each =
+    named_plain rows _ when (tagged tag.tags) (λ row. refl) each
+request_plain rows when drawn (requests.UntagResource untag) each =
+    named_plain rows _ when (untagged untag.tag_keys) (λ row. refl) each
+request_plain rows when drawn (requests.UpdateSecret update) each =
     let call = update_call drawn update in
-    named_plain rows _ moment (update_into call moment)
-    (λ row. with_value_keeps call.value moment row) each
-request_plain rows moment drawn (requests.UpdateSecretVersionStage update) each =
-    named_plain rows _ moment (move_in (move_call update)) (λ row. refl) each
-request_plain rows moment drawn (requests.BatchGetSecretValue r) each = each
-request_plain rows moment drawn (requests.CancelRotateSecret cancel) each =
-    named_plain rows _ moment cancelled (λ row. refl) each
-request_plain rows moment drawn (requests.DescribeSecret r) each = each
-request_plain rows moment drawn (requests.GetRandomPassword r) each = each
-request_plain rows moment drawn (requests.GetResourcePolicy r) each = each
-request_plain rows moment drawn (requests.GetSecretValue r) each = each
-request_plain rows moment drawn (requests.ListSecretVersionIds r) each = each
-request_plain rows moment drawn (requests.ListSecrets r) each = each
-request_plain rows moment drawn (requests.RemoveRegionsFromReplication r) each = each
-request_plain rows moment drawn (requests.ReplicateSecretToRegions r) each = each
-request_plain rows moment drawn (requests.StopReplicationToReplica r) each = each
-request_plain rows moment drawn (requests.RotateSecret rotate) each =
-    named_plain rows _ moment (rotates (plan_of rotate) (token_to_start drawn rotate) moment)
-    (rotates_keeps (plan_of rotate) (token_to_start drawn rotate) moment) each
-request_plain rows moment drawn (requests.ValidateResourcePolicy r) each = each
+    named_plain rows _ when (update_into call when.moment)
+    (λ row. with_value_keeps call.value when.moment row) each
+request_plain rows when drawn (requests.UpdateSecretVersionStage update) each =
+    named_plain rows _ when (move_in (move_call update)) (λ row. refl) each
+request_plain rows when drawn (requests.BatchGetSecretValue r) each = each
+request_plain rows when drawn (requests.CancelRotateSecret cancel) each =
+    named_plain rows _ when cancelled (λ row. refl) each
+request_plain rows when drawn (requests.DescribeSecret r) each = each
+request_plain rows when drawn (requests.GetRandomPassword r) each = each
+request_plain rows when drawn (requests.GetResourcePolicy r) each = each
+request_plain rows when drawn (requests.GetSecretValue r) each = each
+request_plain rows when drawn (requests.ListSecretVersionIds r) each = each
+request_plain rows when drawn (requests.ListSecrets r) each = each
+request_plain rows when drawn (requests.RemoveRegionsFromReplication r) each = each
+request_plain rows when drawn (requests.ReplicateSecretToRegions r) each = each
+request_plain rows when drawn (requests.StopReplicationToReplica r) each = each
+request_plain rows when drawn (requests.RotateSecret rotate) each =
+    named_plain rows _ when (rotates (plan_of rotate) (token_to_start drawn rotate) when.moment)
+    (rotates_keeps (plan_of rotate) (token_to_start drawn rotate) when.moment) each
+request_plain rows when drawn (requests.ValidateResourcePolicy r) each = each
 
 -- ---- each entry
 
-act_plain : (rows : Rows) (moment : Moment) (drawn : List ℕ) (act : Act) → EachPlain rows.secrets
-    → EachPlain (act_effect rows moment drawn act).secrets
-act_plain rows moment drawn (Asked request) each = request_plain rows moment drawn request each
-act_plain rows moment drawn (Begun arn) each =
-    with_arn_plain rows arn moment _ (λ row. refl) each
-act_plain rows moment drawn (Reported arn at answer) each =
-    with_arn_plain rows arn moment (answered answer moment) (λ row. applied_keeps row row.job answer moment) each
+act_plain : (rows : Rows) (when : When) (drawn : List ℕ) (act : Act) → EachPlain rows.secrets
+    → EachPlain (act_effect rows when drawn act).secrets
+act_plain rows when drawn (Asked request) each = request_plain rows when drawn request each
+act_plain rows when drawn (Begun arn) each =
+    with_arn_plain rows arn when _ (λ row. refl) each
+act_plain rows when drawn (Reported arn at answer) each =
+    with_arn_plain rows arn when (answered answer when.moment)
+    (λ row. applied_keeps row row.job answer when.moment) each
 
 -- an entry keeps secrets plain
 pub effect_plain : (rows : Rows) (entry : Entry) → EachPlain rows.secrets → EachPlain (effect rows entry).secrets
 effect_plain rows entry each =
-    settled_plain (act_effect (sweep rows entry.moment) entry.moment entry.drawn entry.act).secrets
-    (act_plain (sweep rows entry.moment) entry.moment entry.drawn entry.act
+    settled_plain (act_effect (sweep rows entry.moment) (when_of entry) entry.drawn entry.act).secrets
+    (act_plain (sweep rows entry.moment) (when_of entry) entry.drawn entry.act
     (swept_plain rows.secrets entry.moment each))

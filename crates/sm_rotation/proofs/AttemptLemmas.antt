@@ -11,12 +11,11 @@ use Rattle.sm_model.specs.declared.rows.Job.{Job}
 use Rattle.sm_model.specs.declared.rows.Stage.{Stage}
 use Rattle.sm_model.specs.declared.rows.Stage.TheVariants.{Create, Set, Test, Finish}
 use Rattle.sm_model.specs.declared.rows.SecretRow.{SecretRow}
-use Rattle.sm_versions.specs.declared.values.PutDone.{PutDone}
-use Rattle.sm_versions.specs.declared.values.PutDone.TheVariants.{Added, Same, Exists, TooMany, TooManyLabels, Memory}
+use Rattle.sm_versions.specs.declared.values.PutDone.TheVariants.{Added, Same, Exists}
 use Rattle.sm_base.specs.Texts.{same_text}
 use Rattle.sm_versions.specs.Labels.{labels_on}
 use Rattle.sm_versions.specs.Versions.{has_value, value_of, version_of, same_value, filled}
-use Rattle.sm_model.specs.Versions.{has_version}
+use Rattle.sm_model.specs.Versions.{When, has_version}
 use Rattle.sm_versions.specs.Settle.{is_live, is_create}
 use Rattle.sm_versions.specs.Put.{put_held, put_answer, put_answer_on, new_version, added_row, filled_row, put_row, put_row_on}
 use Rattle.sm_versions.specs.Kept.{JobKept, CurrentKept, is_finish}
@@ -105,14 +104,14 @@ fills_empty row token value labels (Some kept) h =
     absurd (no_repeat (same_value kept value) (labels_on row.labels token) h)
 
 put_vouched_on : (replies : Replies) (row : SecretRow) (token : List ℕ) (value : Value) (labels : List (List ℕ))
-    (moment : Moment) (found : Option VersionRow) → version_of row.versions token ≡ found
-    → put_answer_on row token value labels found ≡ Added → CurrentKept row → RowVouched replies row
-    → RowVouched replies (put_row_on row token value labels moment found)
-put_vouched_on replies row token value labels moment None e done kept h = record {
-  versions = vouched_push replies row.arn row.versions (new_version row token value moment) h.versions refl;
-  job = job_pushed replies row token value labels moment row.job kept.job h.job;
+    (when : When) (found : Option VersionRow) → version_of row.versions token ≡ found
+    → put_answer_on row token value labels when found ≡ Added → CurrentKept row → RowVouched replies row
+    → RowVouched replies (put_row_on row token value labels when.moment found)
+put_vouched_on replies row token value labels when None e done kept h = record {
+  versions = vouched_push replies row.arn row.versions (new_version row token value when.moment) h.versions refl;
+  job = job_pushed replies row token value labels when.moment row.job kept.job h.job;
 }
-put_vouched_on replies row token value labels moment (Some version) e done kept h =
+put_vouched_on replies row token value labels when (Some version) e done kept h =
     let empty : has_value row.versions token ≡ false =
     ap is_some (version_of_some row.versions token version e).1
     ∙ fills_empty row token value labels version.value done in
@@ -123,7 +122,7 @@ put_vouched_on replies row token value labels moment (Some version) e done kept 
 
 -- a put that is done
 pub put_vouched : (replies : Replies) (row : SecretRow) (token : List ℕ) (value : Value) (labels : List (List ℕ))
-    (moment : Moment) → put_answer row token value labels ≡ Added → CurrentKept row → RowVouched replies row
-    → RowVouched replies (put_row row token value labels moment)
-put_vouched replies row token value labels moment done kept h =
-    put_vouched_on replies row token value labels moment (version_of row.versions token) refl done kept h
+    (when : When) → put_answer row token value labels when ≡ Added → CurrentKept row → RowVouched replies row
+    → RowVouched replies (put_row row token value labels when.moment)
+put_vouched replies row token value labels when done kept h =
+    put_vouched_on replies row token value labels when (version_of row.versions token) refl done kept h

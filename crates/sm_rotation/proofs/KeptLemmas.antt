@@ -16,9 +16,8 @@ use Rattle.sm_base.specs.Texts.{same_text}
 use Rattle.sm_model.specs.Labels.{aws_current, aws_pending, holder}
 use Rattle.sm_versions.specs.Labels.{place}
 use Rattle.sm_versions.specs.Versions.{has_value, value_of, version_of, filled}
-use Rattle.sm_model.specs.Versions.{has_version}
+use Rattle.sm_model.specs.Versions.{When, has_version, is_full_when}
 use Rattle.sm_versions.specs.Settle.{is_live, is_create}
-use Rattle.sm_versions.specs.Put.{is_full}
 use Rattle.sm_versions.specs.Kept.{VersionsKept, JobFits, JobKept, KeptUnsettled, CurrentKept, has_none, holder_has_value, is_finish}
 use Rattle.sm_versions.proofs.TextLemmas.{same_text_itself}
 use Rattle.sm_versions.proofs.PlaceLemmas.{Sound, sound_place, sound_without, holder_named, holder_place, holder_without_other}
@@ -40,10 +39,10 @@ current_is_itself = same_text_itself aws_current
 -- ---- a start
 
 -- what a start that begins has found
-pub record Begins (row : SecretRow) (token : List ℕ) : Type 0 where
+pub record Begins (row : SecretRow) (token : List ℕ) (when : When) : Type 0 where
   pub current : is_some (holder row.labels aws_current) ≡ true
   pub new : has_version row.versions token ≡ false
-  pub room : is_full row ≡ false
+  pub room : is_full_when row when ≡ false
 
 has_room : (full : Bool) (n : ℕ) → cond full (TooMany n) Begun ≡ Begun → full ≡ false
 has_room true n h = absurd (cc)
@@ -58,23 +57,25 @@ is_free : (same : Bool) (pending : List ℕ) (rest : Began) → cond same rest (
 is_free true pending rest h = h
 is_free false pending rest h = absurd (cc)
 
-held_begins : (row : SecretRow) (token : List ℕ) (pending current : Option (List ℕ))
-    → begin_held row token pending current ≡ Begun → (is_some current ≡ true) × (begin_new row token ≡ Begun)
-held_begins row token pending None h = absurd (cc)
-held_begins row token None (Some current) h = (refl, h)
-held_begins row token (Some pending) (Some current) h =
-    (refl, is_free (same_text pending current) pending (begin_new row token) h)
+held_begins : (row : SecretRow) (token : List ℕ) (when : When) (pending current : Option (List ℕ))
+    → begin_held row token when pending current ≡ Begun
+    → (is_some current ≡ true) × (begin_new row token when ≡ Begun)
+held_begins row token when pending None h = absurd (cc)
+held_begins row token when None (Some current) h = (refl, h)
+held_begins row token when (Some pending) (Some current) h =
+    (refl, is_free (same_text pending current) pending (begin_new row token when) h)
 
 not_repeat : (made : Bool) (rest : Began) → cond made Same rest ≡ Begun → rest ≡ Begun
 not_repeat true rest h = absurd (cc)
 not_repeat false rest h = h
 
-pub begins_from : (row : SecretRow) (token : List ℕ) → begin_answer row token ≡ Begun → Begins row token
-begins_from row token h =
-    let held = held_begins row token (holder row.labels aws_pending) (holder row.labels aws_current)
+pub begins_from : (row : SecretRow) (token : List ℕ) (when : When) → begin_answer row token when ≡ Begun
+    → Begins row token when
+begins_from row token when h =
+    let held = held_begins row token when (holder row.labels aws_pending) (holder row.labels aws_current)
     (not_repeat (is_of_rotation (version_of row.versions token)) _ h) in
-    let new = is_new (has_version row.versions token) token (begin_if_room row) held.1 in
-    record { current = held.0; new = new.0; room = has_room (is_full row) _ new.1 }
+    let new = is_new (has_version row.versions token) token (begin_if_room row when) held.1 in
+    record { current = held.0; new = new.0; room = has_room (is_full_when row when) _ new.1 }
 
 -- the holder of AWSCURRENT keeps its value, when an empty version is added
 current_pushed : (vs : List VersionRow) (w : VersionRow) (held : Option (List ℕ)) → is_some held ≡ true
@@ -88,10 +89,10 @@ current_pushed vs w (Some h) there named before =
     ap is_some (value_of_push vs w h ∙ ap (λ b. cond b (value_of vs h) (cond (same_text w.id h) w.value None)) here)
     ∙ valued
 
-versions_kept_begun : (row : SecretRow) (token : List ℕ) (moment : Moment) → Begins row token → VersionsKept row
-    → VersionsKept (begin_row row token moment)
-versions_kept_begun row token moment begins kept =
-    let w : VersionRow = pending_version row token moment in
+versions_kept_begun : (row : SecretRow) (token : List ℕ) (when : When) → Begins row token when → VersionsKept row
+    → VersionsKept (begin_row row token when.moment)
+versions_kept_begun row token when begins kept =
+    let w : VersionRow = pending_version row token when.moment in
     let ws : List VersionRow = row.versions ++ w ∷ [] in
     let there : has_version ws token ≡ true =
     has_version_push row.versions w token ∙ or_right (has_version row.versions token) _ (same_text_itself token) in
@@ -115,10 +116,10 @@ versions_kept_begun row token moment begins kept =
     }
 
 -- a start keeps what stands before settling
-pub begin_keeps : (row : SecretRow) (token : List ℕ) (moment : Moment) → Begins row token → KeptUnsettled row
-    → KeptUnsettled (begin_row row token moment)
-begin_keeps row token moment begins kept = record {
-  versions = versions_kept_begun row token moment begins kept.versions;
+pub begin_keeps : (row : SecretRow) (token : List ℕ) (when : When) → Begins row token when → KeptUnsettled row
+    → KeptUnsettled (begin_row row token when.moment)
+begin_keeps row token when begins kept = record {
+  versions = versions_kept_begun row token when begins kept.versions;
   job = record { first = omega arith; last = omega arith; tested = refl; valued = refl };
 }
 
@@ -132,14 +133,14 @@ began_is (TooMany n) h = absurd (false≢true h)
 began_is Memory h = absurd (false≢true h)
 
 -- the same of the row that a call leaves
-pub after_begin : (P : SecretRow → Type 0) (began : Began) (row new : SecretRow) (token : List ℕ) (moment : Moment)
-    → (Begins row token → P row → P (begin_row row token moment)) → began ≡ begin_answer row token
-    → new ≡ cond (is_begun began) (begin_row row token moment) row → P row → P new
-after_begin P began row new token moment keeps answer e kept = by (is_begun began) refl e
+pub after_begin : (P : SecretRow → Type 0) (began : Began) (row new : SecretRow) (token : List ℕ) (when : When)
+    → (Begins row token when → P row → P (begin_row row token when.moment)) → began ≡ begin_answer row token when
+    → new ≡ cond (is_begun began) (begin_row row token when.moment) row → P row → P new
+after_begin P began row new token when keeps answer e kept = by (is_begun began) refl e
   where
-    by : (b : Bool) → b ≡ is_begun began → new ≡ cond b (begin_row row token moment) row → P new
+    by : (b : Bool) → b ≡ is_begun began → new ≡ cond b (begin_row row token when.moment) row → P new
     by true begun f = subst P (sym f)
-        (keeps (begins_from row token (sym answer ∙ began_is began (sym begun))) kept)
+        (keeps (begins_from row token when (sym answer ∙ began_is began (sym begun))) kept)
     by false begun f = subst P (sym f) kept
 
 -- ---- a step that leaves the versions

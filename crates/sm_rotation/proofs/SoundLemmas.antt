@@ -1,5 +1,5 @@
 -- What a start and a step of a rotation keep of a sound secret.
-use Rattle.std.proofs.Common.{◌≡◌, ℕ, suc, ◌+◌, ◌*◌, ◌≤◌, Bool, true, false, ◌&&◌, nat_lt, cond, List, [], ◌∷◌, ◌++◌, length, Option, Some, None, IfSome, refl, sym, ap, arith, length-append}
+use Rattle.std.proofs.Common.{◌≡◌, ℕ, ◌+◌, ◌*◌, ◌≤◌, Bool, true, false, ◌&&◌, nat_lt, cond, List, [], ◌∷◌, ◌++◌, length, Option, Some, None, IfSome, refl, sym, arith}
 use Rattle.std.proofs.lemmas.Grind.{common_steps}
 use Rattle.std.proofs.lemmas.Bool.{and_parts, and_from}
 use Rattle.std.proofs.lemmas.Bool.Decides.{nat_tests}
@@ -16,6 +16,7 @@ use Rattle.sm_model.specs.declared.rows.Stage.TheVariants.{Create, Set, Test, Fi
 use Rattle.sm_model.specs.declared.rows.Rotation.{Rotation}
 use Rattle.sm_model.specs.declared.rows.VersionRow.{VersionRow}
 use Rattle.sm_model.specs.declared.rows.SecretRow.{SecretRow}
+use Rattle.sm_model.specs.Versions.{When, counted}
 use Rattle.sm_model.specs.Bounds.{fits, is_small, is_attempt, are_days, is_date, is_rotation_date, is_description}
 use Rattle.sm_cron.specs.Spelling.{is_schedule_expression}
 use Rattle.sm_dates.specs.Days.{rotation_after}
@@ -25,14 +26,15 @@ use Rattle.sm_base.specs.Texts.{same_text}
 use Rattle.sm_model.specs.Labels.{aws_current, aws_previous, aws_pending, holder}
 use Rattle.sm_versions.specs.Labels.{own_count, without, moved, with_previous, with_current, place}
 use Rattle.sm_versions.specs.Versions.{filled}
-use Rattle.sm_versions.specs.Put.{is_full}
 use Rattle.sm_versions.specs.Kept.{JobKept}
 use Rattle.sm_versions.specs.Sound.{is_version, each_version, is_rotation, is_job, RowFits, UnsettledSound, RowSound}
-use Rattle.sm_versions.proofs.SoundLaws.{settle_sound}
-use Rattle.sm_rotation.specs.Begin.{pending_version, first_job, begin_row}
+use Rattle.sm_versions.proofs.SoundLaws.{settle_sound, length_filled}
+use Rattle.sm_versions.proofs.CountLaws.{added_counted, labelled_place}
+use Rattle.sm_rotation.specs.declared.starting.Began.TheVariants.{Ok as Begun}
+use Rattle.sm_rotation.specs.Begin.{begin_answer, pending_version, first_job, begin_row}
 use Rattle.sm_rotation.specs.Step.{is_yes, made_value, onward, retried, after_create, after_set, after_test, after_finish, marked, finished_labels, finished, step_at, step, applied_row}
 use Rattle.sm_rotation.proofs.MarkLemmas.{length_marked}
-use Rattle.sm_rotation.proofs.KeptLemmas.{Begins, begin_keeps, step_keeps}
+use Rattle.sm_rotation.proofs.KeptLemmas.{Begins, begins_from, begin_keeps, step_keeps}
 
 -- ---- the parts that a rotation changes
 
@@ -44,7 +46,6 @@ pub record Parts : Type 0 where
   pub job : Option Job
 
 pub record PartsFit (p : Parts) : Type 0 where
-  pub count : length p.versions ≤ VERSIONS_LIMIT
   pub versions : each_version p.versions ≡ true
   pub labels : own_count p.labels ≤ LABELS_LIMIT
   pub rotation : is_rotation p.rotation ≡ true
@@ -69,7 +70,6 @@ parts_fit row p f fit = record {
   tags = f.tags;
   tag_once = f.tag_once;
   policy = f.policy;
-  version_count = fit.count;
   versions = fit.versions;
   labels = fit.labels;
   created = f.created;
@@ -159,15 +159,6 @@ each_filled (v ∷ vs) id value each small =
     by true here head tail rest = and_from _ _ here tail
     by false here head tail rest = and_from _ _ head rest
 
-length_filled : (vs : List VersionRow) (id : List ℕ) (value : Value) → length (filled vs id value) ≡ length vs
-length_filled [] id value = refl
-length_filled (v ∷ vs) id value = by (same_text v.id id) (length_filled vs id value)
-  where
-    by : (b : Bool) → length (filled vs id value) ≡ length vs
-        → length (cond b (record v { value = Some value } ∷ vs) (v ∷ filled vs id value)) ≡ length (v ∷ vs)
-    by true rest = refl
-    by false rest = ap (λ n. suc n) rest
-
 each_marked : (vs : List VersionRow) (id : List ℕ) (tested : Option ℕ) → each_version vs ≡ true
     → fits is_attempt tested ≡ true → each_version (marked vs id tested) ≡ true
 each_marked [] id tested each fit = refl
@@ -206,12 +197,9 @@ rotation_finished rotation moment h fit =
 
 -- ---- a start
 
-room_for_one : (row : SecretRow) → is_full row ≡ false → length row.versions + 1 ≤ VERSIONS_LIMIT
-room_for_one row h = grind (arith, nat_tests)
-
-begin_fits : (row : SecretRow) (token : List ℕ) (moment : Moment) → moment.0 ≤ LAST_READING → Begins row token
+begin_fits : (row : SecretRow) (token : List ℕ) (moment : Moment) → moment.0 ≤ LAST_READING
     → RowFits row → RowFits (begin_row row token moment)
-begin_fits row token moment h begins f =
+begin_fits row token moment h f =
     let w : VersionRow = pending_version row token moment in
     parts_fit row
     (record {
@@ -222,7 +210,6 @@ begin_fits row token moment h begins f =
       job = Some (first_job token moment);
     }) f
     (record {
-      count = omega (arith, length-append row.versions (w ∷ []), room_for_one row begins.room);
       versions = each_push row.versions w f.versions (reading_is_date moment h);
       labels = omega (arith, fewer_placed row.labels aws_pending token pending_is_aws, f.labels);
       rotation = f.rotation;
@@ -230,12 +217,20 @@ begin_fits row token moment h begins f =
     })
 
 -- a start keeps a sound secret sound before settling
-pub begin_sound : (row : SecretRow) (token : List ℕ) (moment : Moment) → moment.0 ≤ LAST_READING → Begins row token
-    → UnsettledSound row → UnsettledSound (begin_row row token moment)
-begin_sound row token moment h begins sound = record {
-  kept = begin_keeps row token moment begins sound.kept;
-  fits = begin_fits row token moment h begins sound.fits;
+pub begin_sound : (row : SecretRow) (token : List ℕ) (when : When) → when.moment.0 ≤ LAST_READING
+    → Begins row token when → UnsettledSound row → UnsettledSound (begin_row row token when.moment)
+begin_sound row token when h begins sound = record {
+  kept = begin_keeps row token when begins sound.kept;
+  fits = begin_fits row token when.moment h sound.fits;
 }
+
+-- of the row after a start no more versions count than there may be
+pub begin_counted : (row : SecretRow) (token : List ℕ) (when : When) → begin_answer row token when ≡ Begun
+    → length (counted (begin_row row token when.moment) when) ≤ VERSIONS_LIMIT
+begin_counted row token when begun =
+    let begins : Begins row token when = begins_from row token when begun in
+    added_counted row (begin_row row token when.moment) (pending_version row token when.moment) when begins.room
+    begins.new refl (λ x other. labelled_place row.labels aws_pending token x other)
 
 -- ---- a step
 
@@ -250,7 +245,7 @@ job_fits row job f fit =
       rotation = row.rotation;
       job = job;
     }) f
-    (record { count = f.version_count; versions = f.versions; labels = f.labels; rotation = f.rotation; job = fit })
+    (record { versions = f.versions; labels = f.labels; rotation = f.rotation; job = fit })
 
 tested_fits : (job : Job) → is_job job ≡ true → fits is_attempt job.tested ≡ true
 tested_fits job h = (and_parts (fits is_attempt job.tested) (is_date job.retry_at) h).0
@@ -294,7 +289,6 @@ create_fits row job moment (Some value) h few fit small f =
       job = Some (onward job Set moment);
     }) f
     (record {
-      count = rw (length_filled row.versions job.token value) f.version_count;
       versions = each_filled row.versions job.token value f.versions small;
       labels = f.labels;
       rotation = f.rotation;
@@ -330,7 +324,6 @@ finished_fits row job moment h fit f =
       job = None;
     }) f
     (record {
-      count = rw (length_marked row.versions job.token job.tested) f.version_count;
       versions = each_marked row.versions job.token job.tested f.versions (tested_fits job fit);
       labels = omega (arith, fewer_finished row.labels job.token, f.labels);
       rotation = rotation_finished row.rotation moment h f.rotation;
@@ -360,6 +353,28 @@ step_at_fits row job moment answer Test h kept fit f =
     (test_is_job job moment answer h (attempt_from row job kept) kept.last fit)
 step_at_fits row job moment answer Finish h kept fit f = finish_fits row job moment answer h kept.last fit f
 
+create_count : (row : SecretRow) (job : Job) (moment : Moment) (value : Option Value)
+    → length (after_create row job moment value).versions ≡ length row.versions
+create_count row job moment None = refl
+create_count row job moment (Some value) = length_filled row.versions job.token value
+
+finish_count : (row : SecretRow) (job : Job) (moment : Moment) (answer : Answer)
+    → length (after_finish row job moment answer).versions ≡ length row.versions
+finish_count row job moment answer = by (is_yes answer)
+  where
+    by : (b : Bool) → length (cond b (finished row job moment) (record row { job = retried job moment })).versions
+        ≡ length row.versions
+    by true = length_marked row.versions job.token job.tested
+    by false = refl
+
+-- a step leaves as many versions as there were
+step_count : (row : SecretRow) (job : Job) (moment : Moment) (answer : Answer) (stage : Stage)
+    → length (step_at row job moment answer stage).versions ≡ length row.versions
+step_count row job moment answer Create = create_count row job moment (made_value answer)
+step_count row job moment answer Set = refl
+step_count row job moment answer Test = refl
+step_count row job moment answer Finish = finish_count row job moment answer
+
 applied_sound_on : (row : SecretRow) (job : Option Job) (answer : Answer) (moment : Moment) → moment.0 ≤ LAST_READING
     → RowSound row → IfSome job (JobKept row) → fits is_job job ≡ true
     → RowSound (applied_row row job answer moment)
@@ -370,6 +385,7 @@ applied_sound_on row (Some job) answer moment h sound kept fit =
       kept = step_keeps row job answer moment sound.kept.versions kept;
       fits = step_at_fits row job moment answer job.stage h kept fit sound.fits;
     })
+    (omega (arith, step_count row job moment answer job.stage, sound.version_count))
 
 -- an answer keeps a sound secret sound
 pub applied_sound : (row : SecretRow) (answer : Answer) (moment : Moment) → moment.0 ≤ LAST_READING → RowSound row

@@ -1,5 +1,5 @@
 -- Each attempt that a secret remembers is one at which the test accepted, after a start and after a step too.
-use Rattle.std.proofs.Common.{◌≡◌, ◌≢◌, ◌⊎◌, inl, inr, ℕ, Bool, true, false, not, ◌&&◌, nat_lt, ◌+◌, ◌*◌, cond, List, [], ◌∷◌, ◌++◌, Option, Some, None, is_some, IfSome, refl, sym, ap, subst, ◌∙◌}
+use Rattle.std.proofs.Common.{◌≡◌, ◌≢◌, ◌⊎◌, inl, inr, ℕ, Bool, true, false, not, ◌&&◌, nat_lt, ◌+◌, ◌*◌, cond, List, [], ◌∷◌, ◌++◌, filter, Option, Some, None, is_some, IfSome, refl, sym, ap, subst, ◌∙◌}
 use Rattle.std.proofs.lemmas.Bool.{and_parts, and_from, false≢true}
 use Rattle.sm_base.specs.declared.moment.Moment.{Moment}
 use Rattle.sm_model.specs.Bounds.{fits}
@@ -16,6 +16,9 @@ use Rattle.sm_base.specs.Texts.{same_text}
 use Rattle.sm_versions.specs.Versions.{value_of, has_value, filled}
 use Rattle.sm_versions.specs.Settle.{is_live, is_create, advanced_job, settled_job, settle}
 use Rattle.sm_versions.specs.Kept.{JobKept, CurrentKept, is_finish}
+use Rattle.sm_model.specs.Versions.{When, is_kept, kept}
+use Rattle.sm_versions.specs.Prune.{pruned}
+use Rattle.sm_versions.proofs.PruneLaws.{value_of_filtered, pending_kept, live_held, settle_pruned}
 use Rattle.sm_versions.proofs.TextLemmas.{same_text_tells}
 use Rattle.sm_rotation.specs.Begin.{pending_version, begin_row}
 use Rattle.sm_rotation.specs.Step.{is_yes, made_value, onward, retried, after_create, after_set, after_test, after_finish, marked, finished, step_at, step, applied_row}
@@ -189,6 +192,60 @@ pub settle_vouched : (replies : Replies) (row : SecretRow) → RowVouched replie
     → RowVouched replies (settle row)
 settle_vouched replies row h =
     record { versions = h.versions; job = settled_vouched replies row row.job h.job }
+
+-- ---- old versions dropped
+
+vouched_filtered : (replies : Replies) (arn : List ℕ) (keep : VersionRow → Bool) (vs : List VersionRow)
+    → each_vouched replies arn vs ≡ true → each_vouched replies arn (filter keep vs) ≡ true
+vouched_filtered replies arn keep [] each = refl
+vouched_filtered replies arn keep (v ∷ vs) each =
+    let parts = and_parts (is_vouched replies arn v) (each_vouched replies arn vs) each in
+    by (keep v) parts.0 (vouched_filtered replies arn keep vs parts.1)
+  where
+    by : (b : Bool) → is_vouched replies arn v ≡ true → each_vouched replies arn (filter keep vs) ≡ true
+        → each_vouched replies arn (cond b (v ∷ filter keep vs) (filter keep vs)) ≡ true
+    by true head rest = and_from _ _ head rest
+    by false head rest = rest
+
+-- the version of a job that is live is kept
+settled_kept : (replies : Replies) (row : SecretRow) (moment : Moment) (job : Option Job)
+    → fits (is_vouched_job replies row) (settled_job row job) ≡ true
+    → fits (is_vouched_job replies (kept row moment)) (settled_job row job) ≡ true
+settled_kept replies row moment None h = refl
+settled_kept replies row moment (Some job) h = by (is_live row job) refl h
+  where
+    same : is_live row job ≡ true → value_of (kept row moment).versions job.token ≡ value_of row.versions job.token
+    same live = value_of_filtered (is_kept row moment) row.versions job.token
+        (pending_kept row moment job.token (live_held row job live))
+
+    advanced : (b : Bool) → is_live row job ≡ true
+        → is_vouched_job replies row (cond b (record job { stage = Set; attempt = 1 }) job) ≡ true
+        → is_vouched_job replies (kept row moment) (cond b (record job { stage = Set; attempt = 1 }) job) ≡ true
+    advanced true live g = rw (same live) g
+    advanced false live g = rw (same live) g
+
+    by : (b : Bool) → b ≡ is_live row job
+        → fits (is_vouched_job replies row) (cond b (Some (advanced_job row job)) None) ≡ true
+        → fits (is_vouched_job replies (kept row moment)) (cond b (Some (advanced_job row job)) None) ≡ true
+    by true e g = advanced (is_create job.stage && has_value row.versions job.token) (sym e) g
+    by false e g = refl
+
+-- versions that need not be kept are dropped from a secret before it is settled, or after that
+pub prune_vouched : (replies : Replies) (row : SecretRow) (when : When) → RowVouched replies row
+    → RowVouched replies (settle (pruned row when))
+prune_vouched replies row when h =
+    subst (λ (r : SecretRow). RowVouched replies r) (sym (settle_pruned row when)) (by when.prunes)
+  where
+    settled : RowVouched replies (settle row)
+    settled = settle_vouched replies row h
+
+    by : (b : Bool)
+        → RowVouched replies (record (settle row) { versions = cond b (kept row when.moment).versions row.versions })
+    by true = record {
+      versions = vouched_filtered replies row.arn (is_kept row when.moment) row.versions settled.versions;
+      job = settled_kept replies row when.moment row.job settled.job;
+    }
+    by false = record { versions = settled.versions; job = settled.job }
 
 -- ---- an answer
 

@@ -13,8 +13,7 @@ use Rattle.sm_base.specs.Texts.{same_text}
 use Rattle.sm_model.specs.Labels.{aws_current, aws_pending, holder}
 use Rattle.sm_versions.specs.Labels.{place}
 use Rattle.sm_versions.specs.Versions.{version_of}
-use Rattle.sm_model.specs.Versions.{has_version}
-use Rattle.sm_versions.specs.Put.{is_full}
+use Rattle.sm_model.specs.Versions.{When, has_version, is_full_when}
 use Rattle.sm_rotation.specs.declared.starting.Began.{Began}
 use Rattle.sm_rotation.specs.declared.starting.Began.TheVariants.{Ok as Begun, Same, NoCurrent, Pending, Exists, TooMany, Memory}
 
@@ -24,25 +23,25 @@ is_of_rotation None = false
 is_of_rotation (Some version) = version.by_rotation
 
 -- the last test: a version may be added
-abbrev pub begin_if_room : SecretRow → Began
-begin_if_room row = if is_full row then TooMany VERSIONS_LIMIT else Begun
+abbrev pub begin_if_room : SecretRow → When → Began
+begin_if_room row when = if is_full_when row when then TooMany VERSIONS_LIMIT else Begun
 
 -- the tests on the versions: none has the token
-abbrev pub begin_new : SecretRow → List ℕ → Began
-begin_new row token = if has_version row.versions token then Exists token else begin_if_room row
+abbrev pub begin_new : SecretRow → List ℕ → When → Began
+begin_new row token when = if has_version row.versions token then Exists token else begin_if_room row when
 
 -- the tests by the holders of AWSPENDING and AWSCURRENT: AWSPENDING is on no other version than the current one
-abbrev pub begin_held : SecretRow → List ℕ → Option (List ℕ) → Option (List ℕ) → Began
-begin_held row token pending None = NoCurrent
-begin_held row token None (Some current) = begin_new row token
-begin_held row token (Some pending) (Some current) =
-    if same_text pending current then begin_new row token else Pending pending
+abbrev pub begin_held : SecretRow → List ℕ → When → Option (List ℕ) → Option (List ℕ) → Began
+begin_held row token when pending None = NoCurrent
+begin_held row token when None (Some current) = begin_new row token when
+begin_held row token when (Some pending) (Some current) =
+    if same_text pending current then begin_new row token when else Pending pending
 
 -- what a start answers where there is memory
-abbrev pub begin_answer : SecretRow → List ℕ → Began
-begin_answer row token =
+abbrev pub begin_answer : SecretRow → List ℕ → When → Began
+begin_answer row token when =
     if is_of_rotation (version_of row.versions token) then Same
-    else begin_held row token (holder row.labels aws_pending) (holder row.labels aws_current)
+    else begin_held row token when (holder row.labels aws_pending) (holder row.labels aws_current)
 
 -- the version that a rotation is to fill
 abbrev pub pending_version : SecretRow → List ℕ → Moment → VersionRow

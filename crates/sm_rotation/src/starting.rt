@@ -4,17 +4,19 @@ ghost use Rattle.sm_base.specs.Outcomes.{OrMemory};
 ghost use Rattle.sm_base.specs.declared.moment.TheConstants.{LAST_READING};
 ghost use Rattle.sm_model.specs.Labels.{aws_pending};
 ghost use Rattle.sm_versions.specs.Labels.{place};
-ghost use Rattle.sm_versions.specs.Put.{is_full};
+ghost use Rattle.sm_model.specs.Versions.{is_full_when};
 ghost use Rattle.sm_versions.specs.Versions.{version_of};
 ghost use Rattle.sm_versions.specs.Kept.{KeptUnsettled};
 ghost use Rattle.sm_versions.specs.Sound.{UnsettledSound};
 ghost use Rattle.sm_rotation.specs.Begin.{is_of_rotation, begin_if_room, begin_new, begin_held, begin_answer, pending_version, first_job, begin_row, is_begun, has_begun, begin_told};
 ghost use Rattle.sm_rotation.specs.Vouched.{Replies, RowVouched};
 
-use sm_base::limits::{NO_SERIAL, VERSIONS_LIMIT};
+use sm_base::limits::VERSIONS_LIMIT;
 use sm_model::{Copied, Job, List, Moment, NoMemory, Pair, SecretRow, Stage, Token, VersionRow};
+use sm_versions::When;
 use sm_versions::labels::{current, holder, is_same_id, pending};
 use sm_versions::placing::place;
+use sm_versions::pruning::is_full;
 use sm_versions::versions::{has_version, version_of};
 use std::alloc::Global;
 
@@ -31,7 +33,7 @@ pub enum Began {
     Pending(Token),
     /// A version has this token already.
     Exists(Token),
-    /// The secret has this many versions, and no more may be added.
+    /// So many versions of the secret count, and no more may be added.
     TooMany(u64),
     Memory,
 }
@@ -46,18 +48,11 @@ fn is_of_rotation(row: &SecretRow, token: &Token) -> bool
     }
 }
 
-/// Whether no version may be added.
-pub fn is_full(row: &SecretRow) -> bool
-    ensures { result ≡ is_full row.now }
-{
-    row.versions.len() >= VERSIONS_LIMIT as usize || row.next_version == NO_SERIAL
-}
-
 /// The last test: a version may be added.
-fn begin_if_room(row: &SecretRow) -> Began
-    ensures { result ≡ begin_if_room row.now }
+fn begin_if_room(row: &SecretRow, when: When) -> Began
+    ensures { result ≡ begin_if_room row.now when }
 {
-    if is_full(row) {
+    if is_full(row, when) {
         Began::TooMany(VERSIONS_LIMIT)
     } else {
         Began::Ok
@@ -65,13 +60,13 @@ fn begin_if_room(row: &SecretRow) -> Began
 }
 
 /// The tests on the versions.
-fn begin_new(alloc: Global, row: &SecretRow, token: &Token) -> Result<Began, NoMemory>
-    ensures { IfOk result (λ began. began ≡ begin_new row.now token.now) }
+fn begin_new(alloc: Global, row: &SecretRow, token: &Token, when: When) -> Result<Began, NoMemory>
+    ensures { IfOk result (λ began. began ≡ begin_new row.now token.now when) }
 {
     if has_version(&row.versions, token) {
         return Ok(Began::Exists(token.copy(alloc)?));
     }
-    Ok(begin_if_room(row))
+    Ok(begin_if_room(row, when))
 }
 
 /// The tests by the holders of AWSPENDING and AWSCURRENT.
@@ -79,18 +74,19 @@ fn begin_held(
     alloc: Global,
     row: &SecretRow,
     token: &Token,
+    when: When,
     pending: Option<&Token>,
     current: Option<&Token>,
 ) -> Result<Began, NoMemory>
     ensures { IfOk result (λ began. began
-        ≡ begin_held row.now token.now (option_copied pending.entry) (option_copied current.entry)) }
+        ≡ begin_held row.now token.now when (option_copied pending.entry) (option_copied current.entry)) }
 {
     match (pending, current) {
         (_, None) => Ok(Began::NoCurrent),
-        (None, Some(_)) => begin_new(alloc, row, token),
+        (None, Some(_)) => begin_new(alloc, row, token, when),
         (Some(pending), Some(current)) => {
             if is_same_id(pending, current) {
-                begin_new(alloc, row, token)
+                begin_new(alloc, row, token, when)
             } else {
                 Ok(Began::Pending(pending.copy(alloc)?))
             }
@@ -99,8 +95,13 @@ fn begin_held(
 }
 
 /// What a start answers.
-fn begin_answer(alloc: Global, row: &SecretRow, token: &Token) -> Result<Began, NoMemory>
-    ensures { IfOk result (λ began. began ≡ begin_answer row.now token.now) }
+fn begin_answer(
+    alloc: Global,
+    row: &SecretRow,
+    token: &Token,
+    when: When,
+) -> Result<Began, NoMemory>
+    ensures { IfOk result (λ began. began ≡ begin_answer row.now token.now when) }
 {
     if is_of_rotation(row, token) {
         return Ok(Began::Same);
@@ -110,6 +111,7 @@ fn begin_answer(alloc: Global, row: &SecretRow, token: &Token) -> Result<Began, 
         alloc,
         row,
         token,
+        when,
         holder(pairs, &pending()),
         holder(pairs, &current()),
     )
@@ -157,14 +159,14 @@ fn first_job(alloc: Global, token: &Token, moment: Moment) -> Result<Job, NoMemo
 }
 
 /// Adds the version with AWSPENDING and the job.
-fn start(alloc: Global, row: &mut SecretRow, token: &Token, moment: Moment) -> Result<(), NoMemory>
-    requires { is_full row.old ≡ false }
-    ensures done { OnOk result (row.new ≡ begin_row row.old token.now moment) }
+fn start(alloc: Global, row: &mut SecretRow, token: &Token, when: When) -> Result<(), NoMemory>
+    requires { is_full_when row.old when ≡ false }
+    ensures done { OnOk result (row.new ≡ begin_row row.old token.now when.moment) }
     ensures err { OnErr result (row.new ≡ row.old) }
 {
     let placed = pending_placed(alloc, &row.labels, token)?;
-    let version = pending_version(alloc, row, token, moment)?;
-    let job = first_job(alloc, token, moment)?;
+    let version = pending_version(alloc, row, token, when.moment)?;
+    let job = first_job(alloc, token, when.moment)?;
     row.versions.push(alloc, version)?;
     row.next_version += 1;
     row.labels = placed;
@@ -177,28 +179,29 @@ fn try_begin(
     alloc: Global,
     row: &mut SecretRow,
     token: &Token,
-    moment: Moment,
+    when: When,
 ) -> Result<Began, NoMemory>
-    ensures answer { IfOk result (λ began. began ≡ begin_answer row.old token.now) }
-    ensures row { row.new ≡ (if has_begun result then begin_row row.old token.now moment else row.old) }
+    ensures answer { IfOk result (λ began. began ≡ begin_answer row.old token.now when) }
+    ensures row { row.new ≡ (if has_begun result then begin_row row.old token.now when.moment else row.old) }
 {
-    let began = begin_answer(alloc, row, token)?;
+    let began = begin_answer(alloc, row, token, when)?;
     if let Began::Ok = began {
-        start(alloc, row, token, moment)?;
+        start(alloc, row, token, when)?;
     }
     Ok(began)
 }
 
-/// Starts a rotation of the secret at the moment, to a version whose id is the token.
-pub fn begin(alloc: Global, row: &mut SecretRow, token: &Token, moment: Moment) -> Began
-    requires { moment.0 ≤ LAST_READING }
-    ensures answer { OrMemory (begin_told result) (begin_answer row.old token.now) }
-    ensures row { row.new ≡ (if is_begun result then begin_row row.old token.now moment else row.old) }
+/// Starts a rotation of the secret at the moment, to a version whose id is the token. That version may be one more than
+/// a secret may have, until those are dropped that did not count.
+pub fn begin(alloc: Global, row: &mut SecretRow, token: &Token, when: When) -> Began
+    requires { when.moment.0 ≤ LAST_READING }
+    ensures answer { OrMemory (begin_told result) (begin_answer row.old token.now when) }
+    ensures row { row.new ≡ (if is_begun result then begin_row row.old token.now when.moment else row.old) }
     ensures kept { KeptUnsettled row.old → KeptUnsettled row.new }
     ensures sound { UnsettledSound row.old → UnsettledSound row.new }
     ensures vouched { (replies : Replies) → RowVouched replies row.old → RowVouched replies row.new }
 {
-    match try_begin(alloc, row, token, moment) {
+    match try_begin(alloc, row, token, when) {
         Ok(began) => began,
         Err(NoMemory) => Began::Memory,
     }

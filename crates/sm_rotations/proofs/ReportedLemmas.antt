@@ -13,7 +13,9 @@ use Rattle.sm_model.specs.declared.rows.SecretRow.{SecretRow}
 use Rattle.sm_model.specs.declared.rows.Stage.{Stage}
 use Rattle.sm_model.specs.declared.rows.Stage.TheVariants.{Create, Set, Test, Finish}
 use Rattle.sm_model.specs.declared.value.Value.{Value}
+use Rattle.sm_model.specs.Versions.{When}
 use Rattle.sm_model.specs.Bounds.{is_date}
+use Rattle.sm_versions.proofs.CountLaws.{few_counted}
 use Rattle.sm_versions.proofs.SoundLaws.{unsettled_sound}
 use Rattle.sm_rotation.specs.Step.{is_yes, made_value, retried, after_create, finished, step_at, applied_row}
 use Rattle.sm_rotation.proofs.SoundLemmas.{applied_sound}
@@ -64,28 +66,30 @@ by_step : (at : Bool) (P : Change → Type 0) (change : Change) → P change
 by_step true P change h = (refl, h)
 by_step false P change h = λ legal. false≢true legal
 
-by_row : (rows : Rows) (moment : Moment) (arn : List ℕ) (at : At) (answer : Answer) (row : Option SecretRow)
-    → Sound rows → moment.0 ≤ LAST_READING → IsTrue (is_date moment) → found_arn rows moment arn ≡ row
-    → Agrees (IsSomeAnd row (λ r. IsTrue (is_at_step r.job at))) (OnArn rows moment arn (answered answer moment))
-    (reported_found row moment at answer)
-by_row rows moment arn at answer None sound early date e = λ legal. legal
-by_row rows moment arn at answer (Some row) sound early date e =
-    let same = applied_same row row.job answer moment in
-    let before = arn_row_sound rows moment arn row sound e in
-    by_step (is_at_step row.job at) (OnArn rows moment arn (answered answer moment))
-    (changes.Replace (finished_row (answered answer moment row) moment))
-    (arn_change rows moment arn (answered answer moment) row sound date e (record {
+by_row : (rows : Rows) (when : When) (arn : List ℕ) (at : At) (answer : Answer) (row : Option SecretRow)
+    → Sound rows → when.moment.0 ≤ LAST_READING → IsTrue (is_date when.moment) → found_arn rows when.moment arn ≡ row
+    → Agrees (IsSomeAnd row (λ r. IsTrue (is_at_step r.job at))) (OnArn rows when arn (answered answer when.moment))
+    (reported_found row when at answer)
+by_row rows when arn at answer None sound early date e = λ legal. legal
+by_row rows when arn at answer (Some row) sound early date e =
+    let same = applied_same row row.job answer when.moment in
+    let before = arn_row_sound rows when.moment arn row sound e in
+    let after = applied_sound row answer when.moment early before in
+    by_step (is_at_step row.job at) (OnArn rows when arn (answered answer when.moment))
+    (changes.Replace (finished_row (answered answer when.moment row) when))
+    (arn_change rows when arn (answered answer when.moment) row sound date e (record {
       serial = same.serial;
       name = same.name;
       arn = same.arn;
-      sound = unsettled_sound (answered answer moment row) (applied_sound row answer moment early before);
+      sound = unsettled_sound (answered answer when.moment row) after;
+      few = few_counted (answered answer when.moment row) when after.version_count;
     }))
 
 -- there is a change exactly where the answer is legal, and it is the entry's
-pub reported_agrees : (rows : Rows) (moment : Moment) (arn : List ℕ) (at : At) (answer : Answer) → Sound rows
-    → moment.0 ≤ LAST_READING → IsTrue (is_date moment)
-    → Agrees (MayReport rows moment arn at)
-    (IsChange rows moment (settled (reported_effect (sweep rows moment) moment arn answer)))
-    (reported_change rows moment arn at answer)
-reported_agrees rows moment arn at answer sound early date =
-    by_row rows moment arn at answer (found_arn rows moment arn) sound early date refl
+pub reported_agrees : (rows : Rows) (when : When) (arn : List ℕ) (at : At) (answer : Answer) → Sound rows
+    → when.moment.0 ≤ LAST_READING → IsTrue (is_date when.moment)
+    → Agrees (MayReport rows when.moment arn at)
+    (IsChange rows when.moment (settled (reported_effect (sweep rows when.moment) when arn answer)))
+    (reported_change rows when arn at answer)
+reported_agrees rows when arn at answer sound early date =
+    by_row rows when arn at answer (found_arn rows when.moment arn) sound early date refl

@@ -24,15 +24,15 @@ use Rattle.sm_forms.proofs.RotateSecretLemmas.{rotate_lambda, rotate_rules, rota
 use Rattle.sm_base.specs.Texts.{same_text}
 use Rattle.sm_model.specs.Labels.{aws_current, aws_pending, holder}
 use Rattle.sm_versions.specs.Versions.{version_of}
-use Rattle.sm_model.specs.Versions.{has_version}
-use Rattle.sm_versions.specs.Put.{is_full}
+use Rattle.sm_model.specs.Versions.{When, has_version, is_full_when}
 use Rattle.sm_cron.specs.Spelling.{is_schedule_expression}
 use Rattle.sm_versions.specs.Sound.{UnsettledSound}
+use Rattle.sm_versions.proofs.CountLaws.{few_counted}
 use Rattle.sm_rotation.specs.declared.starting.Began.{Began}
 use Rattle.sm_rotation.specs.declared.starting.Began.TheVariants as starts
 use Rattle.sm_rotation.specs.Begin.{is_of_rotation, begin_held, begin_answer, begin_row}
 use Rattle.sm_rotation.proofs.KeptLemmas.{begins_from}
-use Rattle.sm_rotation.proofs.SoundLemmas.{begin_sound}
+use Rattle.sm_rotation.proofs.SoundLemmas.{begin_sound, begin_counted}
 use Rattle.sm_dates.proofs.RotationLemmas.{rotation_after_fits}
 use Rattle.sm_table.specs.Sweep.{sweep}
 use Rattle.sm_table.specs.Found.{found}
@@ -43,7 +43,7 @@ use Rattle.sm_judging.specs.Judged.{refusal_told, IfAccepted, IfChange}
 use Rattle.sm_judging.specs.Refusals.{refuse_if, first_refusal}
 use Rattle.sm_judging.specs.Secrets.{finished_row}
 use Rattle.sm_judging.proofs.JudgedLemmas.{on_secret_refusal, on_secret_repeat}
-use Rattle.sm_judging.proofs.ChangeLemmas.{OnRow, on_secret_change, found_row_sound, found_change}
+use Rattle.sm_judging.proofs.ChangeLemmas.{OnRow, on_secret_change, found_row_sound, found_row_few, found_change}
 use Rattle.sm_rotations.specs.declared.rotate_secret.KeptRules.{KeptRules}
 use Rattle.sm_rotations.specs.declared.rotate_secret.Plan.{Plan}
 use Rattle.sm_rotations.specs.RotateSecret.{days_of, rules_given, plan_of, token_to_start, days_or, schedule_or, turned_on, turned_on_in, dated, waits, rotates, started_by, start_judged, rotate_on, rotate_judgement, starts_again, pending_refusal, start_refusal, rotate_refusal_on, rotate_refusal, rotate_repeat, rotate_effect}
@@ -59,8 +59,8 @@ room_for_start true (Some token) n h room = tt
 room_for_start false token n h room = absurd (false≢true h)
 
 -- the judgement by what the start answers
-abbrev outcome : Began → SecretRow → SecretRow → Moment → Plan → List ℕ → Judged
-outcome began row after moment plan token = start_judged (started_by began after) row moment plan token
+abbrev outcome : Began → SecretRow → SecretRow → When → Plan → List ℕ → Judged
+outcome began row after when plan token = start_judged (started_by began after) row when plan token
 
 -- what is answered by the tests on the versions
 abbrev new_answer : Bool → Bool → List ℕ → Began
@@ -69,9 +69,9 @@ new_answer there full token =
 
 -- ---- refusals
 
-module _ (row after : SecretRow) (moment : Moment) (plan : Plan) (token : List ℕ) where
+module _ (row after : SecretRow) (when : When) (plan : Plan) (token : List ℕ) where
   new_refuses : (there full : Bool)
-      → refusal_told (outcome (new_answer there full token) row after moment plan token)
+      → refusal_told (outcome (new_answer there full token) row after when plan token)
       ≡ Some (first_refusal
       (refuse_if there (VersionExists token) ∷ refuse_if full (Limit VERSIONS_LIMIT Versions) ∷ []))
   new_refuses true full = refl
@@ -80,7 +80,7 @@ module _ (row after : SecretRow) (moment : Moment) (plan : Plan) (token : List �
 
   -- the test of the holder of AWSPENDING, which is another version than the current one or not
   pending_refuses : (same there full : Bool) (pending : List ℕ)
-      → refusal_told (outcome (cond same (new_answer there full token) (starts.Pending pending)) row after moment plan
+      → refusal_told (outcome (cond same (new_answer there full token) (starts.Pending pending)) row after when plan
       token)
       ≡ Some (first_refusal
       (refuse_if (not same) (Pending pending) ∷ refuse_if there (VersionExists token)
@@ -89,92 +89,92 @@ module _ (row after : SecretRow) (moment : Moment) (plan : Plan) (token : List �
   pending_refuses false there full pending = refl
 
   held_refuses : (pending current : Option (List ℕ))
-      → refusal_told (outcome (begin_held row token pending current) row after moment plan token)
+      → refusal_told (outcome (begin_held row token when pending current) row after when plan token)
       ≡ Some (first_refusal
       (refuse_if (is_none current) NoCurrent ∷ pending_refusal pending current
       ∷ refuse_if (has_version row.versions token) (VersionExists token)
-      ∷ refuse_if (is_full row) (Limit VERSIONS_LIMIT Versions) ∷ []))
+      ∷ refuse_if (is_full_when row when) (Limit VERSIONS_LIMIT Versions) ∷ []))
   held_refuses pending None = refl
-  held_refuses None (Some current) = new_refuses (has_version row.versions token) (is_full row)
+  held_refuses None (Some current) = new_refuses (has_version row.versions token) (is_full_when row when)
   held_refuses (Some pending) (Some current) =
-      pending_refuses (same_text pending current) (has_version row.versions token) (is_full row) pending
+      pending_refuses (same_text pending current) (has_version row.versions token) (is_full_when row when) pending
 
   -- a repeat is not refused
   unless_repeat : (made : Bool) (answer : Began) (test : Option Why)
-      → refusal_told (outcome answer row after moment plan token) ≡ Some test
-      → refusal_told (outcome (cond made starts.Same answer) row after moment plan token)
+      → refusal_told (outcome answer row after when plan token) ≡ Some test
+      → refusal_told (outcome (cond made starts.Same answer) row after when plan token)
       ≡ Some (cond made None test)
   unless_repeat true answer test e = refl
   unless_repeat false answer test e = e
 
-  start_refuses : refusal_told (outcome (begin_answer row token) row after moment plan token)
-      ≡ Some (rotate_refusal_on row (Some token))
+  start_refuses : refusal_told (outcome (begin_answer row token when) row after when plan token)
+      ≡ Some (rotate_refusal_on row when (Some token))
   start_refuses =
-      unless_repeat (is_of_rotation (version_of row.versions token)) _ (start_refusal row token)
+      unless_repeat (is_of_rotation (version_of row.versions token)) _ (start_refusal row when token)
       (held_refuses (holder row.labels aws_pending) (holder row.labels aws_current))
 
-on_refuses : (row : SecretRow) (moment : Moment) (plan : Plan) (token : Option (List ℕ))
-    → refusal_told (rotate_on row moment plan token) ≡ Some (rotate_refusal_on row token)
-on_refuses row moment plan None = refl
-on_refuses row moment plan (Some token) = start_refuses row (begin_row row token moment) moment plan token
+on_refuses : (row : SecretRow) (when : When) (plan : Plan) (token : Option (List ℕ))
+    → refusal_told (rotate_on row when plan token) ≡ Some (rotate_refusal_on row when token)
+on_refuses row when plan None = refl
+on_refuses row when plan (Some token) = start_refuses row (begin_row row token when.moment) when plan token
 
-pub rotate_refuses : (rows : Rows) (moment : Moment) (drawn : List ℕ) (rotate : RotateSecret)
-    → refusal_told (rotate_judgement rows moment drawn rotate) ≡ Some (rotate_refusal rows moment drawn rotate)
-rotate_refuses rows moment drawn rotate =
-    on_secret_refusal (found rows moment (secret_id rotate.secret_id))
-    (λ row. rotate_on row moment (plan_of rotate) (token_to_start drawn rotate))
-    (λ row. rotate_refusal_on row (token_to_start drawn rotate))
-    (λ row. on_refuses row moment (plan_of rotate) (token_to_start drawn rotate))
+pub rotate_refuses : (rows : Rows) (when : When) (drawn : List ℕ) (rotate : RotateSecret)
+    → refusal_told (rotate_judgement rows when drawn rotate) ≡ Some (rotate_refusal rows when drawn rotate)
+rotate_refuses rows when drawn rotate =
+    on_secret_refusal (found rows when.moment (secret_id rotate.secret_id))
+    (λ row. rotate_on row when (plan_of rotate) (token_to_start drawn rotate))
+    (λ row. rotate_refusal_on row when (token_to_start drawn rotate))
+    (λ row. on_refuses row when (plan_of rotate) (token_to_start drawn rotate))
 
 -- ---- repeats
 
-module _ (row after : SecretRow) (moment : Moment) (plan : Plan) (token : List ℕ) where
+module _ (row after : SecretRow) (when : When) (plan : Plan) (token : List ℕ) where
   new_repeats : (there full : Bool)
-      → IfAccepted (outcome (new_answer there full token) row after moment plan token)
+      → IfAccepted (outcome (new_answer there full token) row after when plan token)
       (λ change. is_none change ≡ false)
   new_repeats true full = tt
   new_repeats false true = tt
   new_repeats false false = refl
 
   pending_repeats : (same there full : Bool) (pending : List ℕ)
-      → IfAccepted (outcome (cond same (new_answer there full token) (starts.Pending pending)) row after moment plan
+      → IfAccepted (outcome (cond same (new_answer there full token) (starts.Pending pending)) row after when plan
       token)
       (λ change. is_none change ≡ false)
   pending_repeats true there full pending = new_repeats there full
   pending_repeats false there full pending = tt
 
   held_repeats : (pending current : Option (List ℕ))
-      → IfAccepted (outcome (begin_held row token pending current) row after moment plan token)
+      → IfAccepted (outcome (begin_held row token when pending current) row after when plan token)
       (λ change. is_none change ≡ false)
   held_repeats pending None = tt
-  held_repeats None (Some current) = new_repeats (has_version row.versions token) (is_full row)
+  held_repeats None (Some current) = new_repeats (has_version row.versions token) (is_full_when row when)
   held_repeats (Some pending) (Some current) =
-      pending_repeats (same_text pending current) (has_version row.versions token) (is_full row) pending
+      pending_repeats (same_text pending current) (has_version row.versions token) (is_full_when row when) pending
 
   by_made : (made : Bool) (answer : Began)
-      → IfAccepted (outcome answer row after moment plan token) (λ change. is_none change ≡ false)
-      → IfAccepted (outcome (cond made starts.Same answer) row after moment plan token)
+      → IfAccepted (outcome answer row after when plan token) (λ change. is_none change ≡ false)
+      → IfAccepted (outcome (cond made starts.Same answer) row after when plan token)
       (λ change. is_none change ≡ made)
   by_made true answer h = refl
   by_made false answer h = h
 
-on_repeats : (row : SecretRow) (moment : Moment) (plan : Plan) (token : Option (List ℕ))
-    → IfAccepted (rotate_on row moment plan token) (λ change. is_none change ≡ starts_again row token)
-on_repeats row moment plan None = refl
-on_repeats row moment plan (Some token) =
-    let after : SecretRow = begin_row row token moment in
-    by_made row after moment plan token (is_of_rotation (version_of row.versions token)) _
-    (held_repeats row after moment plan token (holder row.labels aws_pending) (holder row.labels aws_current))
+on_repeats : (row : SecretRow) (when : When) (plan : Plan) (token : Option (List ℕ))
+    → IfAccepted (rotate_on row when plan token) (λ change. is_none change ≡ starts_again row token)
+on_repeats row when plan None = refl
+on_repeats row when plan (Some token) =
+    let after : SecretRow = begin_row row token when.moment in
+    by_made row after when plan token (is_of_rotation (version_of row.versions token)) _
+    (held_repeats row after when plan token (holder row.labels aws_pending) (holder row.labels aws_current))
 
 -- nothing is changed exactly by a repeat
-pub rotate_repeats : (rows : Rows) (moment : Moment) (drawn : List ℕ) (rotate : RotateSecret)
-    → IfAccepted (rotate_judgement rows moment drawn rotate)
-    (λ change. is_none change ≡ rotate_repeat rows moment drawn rotate)
-rotate_repeats rows moment drawn rotate =
-    on_secret_repeat (found rows moment (secret_id rotate.secret_id))
-    (λ row. rotate_on row moment (plan_of rotate) (token_to_start drawn rotate))
+pub rotate_repeats : (rows : Rows) (when : When) (drawn : List ℕ) (rotate : RotateSecret)
+    → IfAccepted (rotate_judgement rows when drawn rotate)
+    (λ change. is_none change ≡ rotate_repeat rows when.moment drawn rotate)
+rotate_repeats rows when drawn rotate =
+    on_secret_repeat (found rows when.moment (secret_id rotate.secret_id))
+    (λ row. rotate_on row when (plan_of rotate) (token_to_start drawn rotate))
     (λ row. starts_again row (token_to_start drawn rotate))
-    (λ row. on_repeats row moment (plan_of rotate) (token_to_start drawn rotate))
+    (λ row. on_repeats row when (plan_of rotate) (token_to_start drawn rotate))
 
 -- ---- the row
 
@@ -261,47 +261,50 @@ waits_sound plan moment row early fit sound =
 
 -- ---- the change
 
-outcome_change : (began : Began) (row after : SecretRow) (moment : Moment) (plan : Plan) (token : List ℕ)
+outcome_change : (began : Began) (row after : SecretRow) (when : When) (plan : Plan) (token : List ℕ)
     (P : Change → Type 0)
-    → (began ≡ starts.Ok → P (changes.Replace (finished_row (turned_on_in plan after) moment)))
-    → IfChange (outcome began row after moment plan token) P
-outcome_change starts.Ok row after moment plan token P h = h refl
-outcome_change starts.Same row after moment plan token P h = tt
-outcome_change starts.NoCurrent row after moment plan token P h = tt
-outcome_change (starts.Pending id) row after moment plan token P h = tt
-outcome_change (starts.Exists id) row after moment plan token P h = tt
-outcome_change (starts.TooMany limit) row after moment plan token P h = tt
-outcome_change starts.Memory row after moment plan token P h = tt
+    → (began ≡ starts.Ok → P (changes.Replace (finished_row (turned_on_in plan after) when)))
+    → IfChange (outcome began row after when plan token) P
+outcome_change starts.Ok row after when plan token P h = h refl
+outcome_change starts.Same row after when plan token P h = tt
+outcome_change starts.NoCurrent row after when plan token P h = tt
+outcome_change (starts.Pending id) row after when plan token P h = tt
+outcome_change (starts.Exists id) row after when plan token P h = tt
+outcome_change (starts.TooMany limit) row after when plan token P h = tt
+outcome_change starts.Memory row after when plan token P h = tt
 
-on_change : (rows : Rows) (moment : Moment) (id : SecretId) (plan : Plan) (token : Option (List ℕ)) (row : SecretRow)
-    → Sound rows → moment.0 ≤ LAST_READING → IsTrue (is_date moment) → PlanFits plan → found rows moment id ≡ Some row
-    → IfChange (rotate_on row moment plan token) (OnRow rows moment id (rotates plan token moment))
-on_change rows moment id plan None row sound early date fit e =
-    found_change rows moment id (rotates plan None moment) row sound date e (record {
+on_change : (rows : Rows) (when : When) (id : SecretId) (plan : Plan) (token : Option (List ℕ)) (row : SecretRow)
+    → Sound rows → when.moment.0 ≤ LAST_READING → IsTrue (is_date when.moment) → PlanFits plan
+    → found rows when.moment id ≡ Some row
+    → IfChange (rotate_on row when plan token) (OnRow rows when id (rotates plan token when.moment))
+on_change rows when id plan None row sound early date fit e =
+    found_change rows when id (rotates plan None when.moment) row sound date e (record {
       serial = refl;
       name = refl;
       arn = refl;
-      sound = waits_sound plan moment row early fit (found_row_sound rows moment id row sound e);
+      sound = waits_sound plan when.moment row early fit (found_row_sound rows when.moment id row sound e);
+      few = few_counted (waits plan when.moment row) when (found_row_few rows when.moment id row sound e);
     })
-on_change rows moment id plan (Some token) row sound early date fit e =
-    outcome_change (begin_answer row token) row (begin_row row token moment) moment plan token
-    (OnRow rows moment id (rotates plan (Some token) moment))
-    (λ begins. found_change rows moment id (rotates plan (Some token) moment) row sound date e (record {
+on_change rows when id plan (Some token) row sound early date fit e =
+    outcome_change (begin_answer row token when) row (begin_row row token when.moment) when plan token
+    (OnRow rows when id (rotates plan (Some token) when.moment))
+    (λ begins. found_change rows when id (rotates plan (Some token) when.moment) row sound date e (record {
       serial = refl;
       name = refl;
       arn = refl;
-      sound = turned_on_sound plan (begin_row row token moment) fit
-          (begin_sound row token moment early (begins_from row token begins)
-          (found_row_sound rows moment id row sound e));
+      sound = turned_on_sound plan (begin_row row token when.moment) fit
+          (begin_sound row token when early (begins_from row token when begins)
+          (found_row_sound rows when.moment id row sound e));
+      few = begin_counted row token when begins;
     }))
 
 -- a change is the entry's
-pub rotate_change : (rows : Rows) (moment : Moment) (drawn : List ℕ) (rotate : RotateSecret) → Sound rows
-    → moment.0 ≤ LAST_READING → IsTrue (is_date moment) → rotate_forms rotate ≡ None
-    → IfChange (rotate_judgement rows moment drawn rotate) (IsChange rows moment
-    (settled (rotate_effect (sweep rows moment) moment drawn rotate)))
-rotate_change rows moment drawn rotate sound early date forms =
-    on_secret_change (found rows moment (secret_id rotate.secret_id))
-    (λ row. rotate_on row moment (plan_of rotate) (token_to_start drawn rotate)) _
-    (λ row e. on_change rows moment (secret_id rotate.secret_id) (plan_of rotate) (token_to_start drawn rotate) row
+pub rotate_change : (rows : Rows) (when : When) (drawn : List ℕ) (rotate : RotateSecret) → Sound rows
+    → when.moment.0 ≤ LAST_READING → IsTrue (is_date when.moment) → rotate_forms rotate ≡ None
+    → IfChange (rotate_judgement rows when drawn rotate) (IsChange rows when.moment
+    (settled (rotate_effect (sweep rows when.moment) when drawn rotate)))
+rotate_change rows when drawn rotate sound early date forms =
+    on_secret_change (found rows when.moment (secret_id rotate.secret_id))
+    (λ row. rotate_on row when (plan_of rotate) (token_to_start drawn rotate)) _
+    (λ row e. on_change rows when (secret_id rotate.secret_id) (plan_of rotate) (token_to_start drawn rotate) row
     sound early date (plan_fits rotate forms) e)

@@ -60,7 +60,6 @@ rerotated_sound rotation job row rotates kept fit sound =
         tags = f.tags;
         tag_once = f.tag_once;
         policy = f.policy;
-        version_count = f.version_count;
         versions = f.versions;
         labels = f.labels;
         created = f.created;

@@ -7,6 +7,7 @@ use Rattle.sm_model.specs.declared.entry.Change.TheVariants as changes
 use Rattle.sm_model.specs.declared.rows.Rows.{Rows}
 use Rattle.sm_model.specs.declared.rows.SecretRow.{SecretRow}
 use Rattle.sm_model.specs.Bounds.{is_date}
+use Rattle.sm_model.specs.Versions.{When}
 use Rattle.sm_versions.specs.Sound.{RowSound}
 use Rattle.sm_table.specs.Sweep.{swept, sweep}
 use Rattle.sm_table.specs.Found.{row_with_arn, row_with_short_arn, or_else, row_by_arn, found_arn}
@@ -18,8 +19,9 @@ use Rattle.sm_judging.proofs.ChangeLemmas.{InPlaceOf, found_change}
 use Rattle.sm_rotations.specs.WholeArns.{change_with_arn}
 
 -- a change of the row that has exactly this ARN
-abbrev pub OnArn : Rows → Moment → List ℕ → (SecretRow → SecretRow) → Change → Type 0
-OnArn rows moment arn change = IsChange rows moment (settled (change_with_arn (sweep rows moment) arn moment change))
+abbrev pub OnArn : Rows → When → List ℕ → (SecretRow → SecretRow) → Change → Type 0
+OnArn rows when arn change =
+    IsChange rows when.moment (settled (change_with_arn (sweep rows when.moment) arn when change))
 
 some_sound : (found : Option SecretRow) (row : SecretRow) → found ≡ Some row → IfSome found RowSound → RowSound row
 some_sound found row e all =
@@ -38,15 +40,16 @@ whole_wins None other row e = absurd (cc)
 whole_wins (Some r) other row e = refl
 
 -- the row that was found, changed
-pub arn_change : (rows : Rows) (moment : Moment) (arn : List ℕ) (change : SecretRow → SecretRow) (row : SecretRow)
-    → Sound rows → IsTrue (is_date moment) → found_arn rows moment arn ≡ Some row → InPlaceOf row (change row)
-    → OnArn rows moment arn change (changes.Replace (finished_row (change row) moment))
-arn_change rows moment arn change row sound date e new =
-    let secrets : List SecretRow = swept rows.secrets moment in
+pub arn_change : (rows : Rows) (when : When) (arn : List ℕ) (change : SecretRow → SecretRow) (row : SecretRow)
+    → Sound rows → IsTrue (is_date when.moment) → found_arn rows when.moment arn ≡ Some row
+    → InPlaceOf row (change row) when
+    → OnArn rows when arn change (changes.Replace (finished_row (change row) when))
+arn_change rows when arn change row sound date e new =
+    let secrets : List SecretRow = swept rows.secrets when.moment in
     let wins : row_by_arn secrets arn ≡ row_with_arn secrets arn =
     whole_wins (row_with_arn secrets arn) (row_with_short_arn secrets arn) row e in
-    subst (λ (o : Option SecretRow). IsChange rows moment
-    (settled (record (sweep rows moment) { secrets = with_row secrets o moment change }))
-    (changes.Replace (finished_row (change row) moment)))
+    subst (λ (o : Option SecretRow). IsChange rows when.moment
+    (settled (record (sweep rows when.moment) { secrets = with_row secrets o when change }))
+    (changes.Replace (finished_row (change row) when)))
     wins
-    (found_change rows moment (Arn arn) change row sound date (wins ∙ e) new)
+    (found_change rows when (Arn arn) change row sound date (wins ∙ e) new)

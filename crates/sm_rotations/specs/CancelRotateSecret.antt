@@ -12,6 +12,7 @@ use Rattle.sm_model.specs.declared.rows.Rotation.{Rotation}
 use Rattle.sm_model.specs.declared.rows.Rows.{Rows}
 use Rattle.sm_model.specs.declared.rows.SecretRow.{SecretRow}
 use Rattle.sm_model.specs.declared.why.Why.{Why}
+use Rattle.sm_model.specs.Versions.{When}
 use Rattle.sm_table.specs.Found.{found}
 use Rattle.sm_judging.specs.declared.judged.Judged.{Judged}
 use Rattle.sm_judging.specs.declared.judged.Judged.TheVariants.{Accept}
@@ -40,14 +41,14 @@ cancel_reply row = record { arn = row.arn; name = row.name; version_id = job_tok
 
 -- ---- the judgement
 
-abbrev pub cancel_on : SecretRow → Moment → Judged
-cancel_on row moment =
+abbrev pub cancel_on : SecretRow → When → Judged
+cancel_on row when =
     Accept (replies.CancelRotateSecret (cancel_reply row))
-    (Some (changes.Replace (finished_row (cancelled row) moment)))
+    (Some (changes.Replace (finished_row (cancelled row) when)))
 
-abbrev pub cancel_judgement : Rows → Moment → OfSecret → Judged
-cancel_judgement rows moment cancel =
-    with_secret rows moment (secret_id cancel.secret_id) (λ row. cancel_on row moment)
+abbrev pub cancel_judgement : Rows → When → OfSecret → Judged
+cancel_judgement rows when cancel =
+    with_secret rows when.moment (secret_id cancel.secret_id) (λ row. cancel_on row when)
 
 -- ---- when it is refused, what it does to the rows
 
@@ -56,5 +57,5 @@ abbrev pub cancel_refusal : Rows → Moment → OfSecret → Option Why
 cancel_refusal rows moment cancel = refusal_at (found rows moment (secret_id cancel.secret_id)) (λ row. None)
 
 -- the secret's row with its rotation off
-abbrev pub cancel_effect : Rows → Moment → OfSecret → Rows
-cancel_effect rows moment cancel = change_named rows (secret_id cancel.secret_id) moment cancelled
+abbrev pub cancel_effect : Rows → When → OfSecret → Rows
+cancel_effect rows when cancel = change_named rows (secret_id cancel.secret_id) when cancelled

@@ -20,8 +20,7 @@ use Rattle.sm_model.specs.declared.why.Why.TheVariants.{NoCurrent, Pending, Vers
 use Rattle.sm_dates.specs.Days.{rotation_after}
 use Rattle.sm_model.specs.Labels.{aws_current, aws_pending, holder}
 use Rattle.sm_versions.specs.Versions.{version_of}
-use Rattle.sm_model.specs.Versions.{has_version}
-use Rattle.sm_versions.specs.Put.{is_full}
+use Rattle.sm_model.specs.Versions.{When, has_version, is_full_when}
 use Rattle.sm_model.specs.Due.{is_free_or_held_by}
 use Rattle.sm_rotation.specs.declared.starting.Began.{Began}
 use Rattle.sm_rotation.specs.declared.starting.Began.TheVariants as starts
@@ -135,31 +134,31 @@ started_by (starts.Exists id) after = Refused (VersionExists id)
 started_by (starts.TooMany limit) after = Refused (Limit limit Versions)
 started_by starts.Memory after = Refused Memory
 
-abbrev pub started : SecretRow → List ℕ → Moment → Start
-started row token moment = started_by (begin_answer row token) (begin_row row token moment)
+abbrev pub started : SecretRow → List ℕ → When → Start
+started row token when = started_by (begin_answer row token when) (begin_row row token when.moment)
 
 -- the judgement by what the start comes to
-abbrev pub start_judged : Start → SecretRow → Moment → Plan → List ℕ → Judged
-start_judged (Begun after) row moment plan token =
-    rotate_accepted (finished_row (turned_on_in plan after) moment) (Some token)
-start_judged Repeat row moment plan token = rotate_repeated row token
-start_judged (Refused why) row moment plan token = Refuse why
+abbrev pub start_judged : Start → SecretRow → When → Plan → List ℕ → Judged
+start_judged (Begun after) row when plan token =
+    rotate_accepted (finished_row (turned_on_in plan after) when) (Some token)
+start_judged Repeat row when plan token = rotate_repeated row token
+start_judged (Refused why) row when plan token = Refuse why
 
-abbrev pub start_on : SecretRow → Moment → Plan → List ℕ → Judged
-start_on row moment plan token = start_judged (started row token moment) row moment plan token
+abbrev pub start_on : SecretRow → When → Plan → List ℕ → Judged
+start_on row when plan token = start_judged (started row token when) row when plan token
 
-abbrev pub wait_on : SecretRow → Moment → Plan → Judged
-wait_on row moment plan = rotate_accepted (finished_row (waits plan moment row) moment) None
+abbrev pub wait_on : SecretRow → When → Plan → Judged
+wait_on row when plan = rotate_accepted (finished_row (waits plan when.moment row) when) None
 
-abbrev pub rotate_on : SecretRow → Moment → Plan → Option (List ℕ) → Judged
-rotate_on row moment plan None = wait_on row moment plan
-rotate_on row moment plan (Some token) = start_on row moment plan token
+abbrev pub rotate_on : SecretRow → When → Plan → Option (List ℕ) → Judged
+rotate_on row when plan None = wait_on row when plan
+rotate_on row when plan (Some token) = start_on row when plan token
 
-abbrev pub rotate_judged : Rows → Moment → RotateCall → Judged
-rotate_judged rows moment call = with_secret rows moment call.id (λ row. rotate_on row moment call.plan call.token)
+abbrev pub rotate_judged : Rows → When → RotateCall → Judged
+rotate_judged rows when call = with_secret rows when.moment call.id (λ row. rotate_on row when call.plan call.token)
 
-abbrev pub rotate_judgement : Rows → Moment → List ℕ → RotateSecret → Judged
-rotate_judgement rows moment drawn rotate = rotate_judged rows moment (rotate_call drawn rotate)
+abbrev pub rotate_judgement : Rows → When → List ℕ → RotateSecret → Judged
+rotate_judgement rows when drawn rotate = rotate_judged rows when (rotate_call drawn rotate)
 
 -- ---- when it is refused, when it is a repeat, what it does to the rows
 
@@ -174,31 +173,32 @@ pending_refusal None current = None
 pending_refusal (Some pending) current = refuse_if (not (is_free_or_held_by (Some pending) current)) (Pending pending)
 
 -- For a start that is no repeat some version is current, AWSPENDING is on no other, none has the token, and one more
--- may be added.
-abbrev pub start_refusal : SecretRow → List ℕ → Option Why
-start_refusal row token =
+-- may be added then.
+abbrev pub start_refusal : SecretRow → When → List ℕ → Option Why
+start_refusal row when token =
     first_refusal
     (refuse_if (is_none (holder row.labels aws_current)) NoCurrent
     ∷ pending_refusal (holder row.labels aws_pending) (holder row.labels aws_current)
     ∷ refuse_if (has_version row.versions token) (VersionExists token)
-    ∷ refuse_if (is_full row) (Limit VERSIONS_LIMIT Versions)
+    ∷ refuse_if (is_full_when row when) (Limit VERSIONS_LIMIT Versions)
     ∷ [])
 
-abbrev pub rotate_refusal_on : SecretRow → Option (List ℕ) → Option Why
-rotate_refusal_on row None = None
-rotate_refusal_on row (Some token) = if starts_again row (Some token) then None else start_refusal row token
+abbrev pub rotate_refusal_on : SecretRow → When → Option (List ℕ) → Option Why
+rotate_refusal_on row when None = None
+rotate_refusal_on row when (Some token) =
+    if starts_again row (Some token) then None else start_refusal row when token
 
-abbrev pub rotate_refusal : Rows → Moment → List ℕ → RotateSecret → Option Why
-rotate_refusal rows moment drawn rotate =
-    refusal_at (found rows moment (secret_id rotate.secret_id))
-    (λ row. rotate_refusal_on row (token_to_start drawn rotate))
+abbrev pub rotate_refusal : Rows → When → List ℕ → RotateSecret → Option Why
+rotate_refusal rows when drawn rotate =
+    refusal_at (found rows when.moment (secret_id rotate.secret_id))
+    (λ row. rotate_refusal_on row when (token_to_start drawn rotate))
 
 abbrev pub rotate_repeat : Rows → Moment → List ℕ → RotateSecret → Bool
 rotate_repeat rows moment drawn rotate =
     repeat_at (found rows moment (secret_id rotate.secret_id)) (λ row. starts_again row (token_to_start drawn rotate))
 
 -- the secret's row with its rotation on, and started where that is asked for, among those that are still there
-abbrev pub rotate_effect : Rows → Moment → List ℕ → RotateSecret → Rows
-rotate_effect rows moment drawn rotate =
-    change_named rows (secret_id rotate.secret_id) moment
-    (rotates (plan_of rotate) (token_to_start drawn rotate) moment)
+abbrev pub rotate_effect : Rows → When → List ℕ → RotateSecret → Rows
+rotate_effect rows when drawn rotate =
+    change_named rows (secret_id rotate.secret_id) when
+    (rotates (plan_of rotate) (token_to_start drawn rotate) when.moment)

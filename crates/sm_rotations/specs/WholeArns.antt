@@ -2,13 +2,13 @@
 -- was drawn for it.
 -- AWS Secrets Manager User Guide: "Lambda rotation functions" (SecretId).
 use Rattle.std.specs.Prelude.{ℕ, List}
-use Rattle.sm_base.specs.declared.moment.Moment.{Moment}
 use Rattle.sm_model.specs.declared.rows.Rows.{Rows}
 use Rattle.sm_model.specs.declared.rows.SecretRow.{SecretRow}
+use Rattle.sm_model.specs.Versions.{When}
 use Rattle.sm_table.specs.Found.{row_with_arn}
 use Rattle.sm_judging.specs.Changes.{with_row}
 
 -- the rows with the one that has exactly this ARN changed
-abbrev pub change_with_arn : Rows → List ℕ → Moment → (SecretRow → SecretRow) → Rows
-change_with_arn rows arn moment change =
-    record rows { secrets = with_row rows.secrets (row_with_arn rows.secrets arn) moment change }
+abbrev pub change_with_arn : Rows → List ℕ → When → (SecretRow → SecretRow) → Rows
+change_with_arn rows arn when change =
+    record rows { secrets = with_row rows.secrets (row_with_arn rows.secrets arn) when change }

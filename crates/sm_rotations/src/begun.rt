@@ -8,9 +8,10 @@ ghost use Rattle.sm_rotation.specs.declared.starting.Began.TheVariants.{Ok as Be
 ghost use Rattle.sm_rotations.specs.Begun.{begun_on, begun_found, begun_change};
 
 use sm_judging::row_change::finish;
-use sm_model::{Arn, Change, Copied, Moment, NoMemory, SecretRow, Token};
+use sm_model::{Arn, Change, Copied, NoMemory, SecretRow, Token};
 use sm_rotation::{Began, begin, is_due};
 use sm_table::Table;
+use sm_versions::When;
 use std::alloc::Global;
 
 /// How many random bytes make a token.
@@ -21,19 +22,19 @@ pub const TOKEN_BYTES: usize = 16;
 pub fn judge_begun(
     alloc: Global,
     table: &Table,
-    moment: Moment,
+    when: When,
     drawn: &[u8],
     arn: &Arn,
 ) -> Result<Option<Change>, NoMemory>
-    requires { moment.0 ≤ LAST_READING }
-    ensures { IfOk result (λ change. change ≡ begun_change table.now moment drawn.now arn.now) }
+    requires { when.moment.0 ≤ LAST_READING }
+    ensures { IfOk result (λ change. change ≡ begun_change table.now when drawn.now arn.now) }
 {
     if drawn.len() != TOKEN_BYTES {
         return Ok(None);
     }
     let token = token_of(alloc, drawn)?;
-    match table.find_arn(arn, moment) {
-        Some(row) => begin_if_due(alloc, row, moment, &token),
+    match table.find_arn(arn, when.moment) {
+        Some(row) => begin_if_due(alloc, row, when, &token),
         None => Ok(None),
     }
 }
@@ -52,34 +53,29 @@ fn token_of(alloc: Global, drawn: &[u8]) -> Result<Token, NoMemory>
 fn begin_if_due(
     alloc: Global,
     row: &SecretRow,
-    moment: Moment,
+    when: When,
     token: &Token,
 ) -> Result<Option<Change>, NoMemory>
-    requires { moment.0 ≤ LAST_READING }
-    ensures { IfOk result (λ change. change ≡ begun_on row.now moment token.now) }
+    requires { when.moment.0 ≤ LAST_READING }
+    ensures { IfOk result (λ change. change ≡ begun_on row.now when token.now) }
 {
-    if !is_due(row, token, moment) {
+    if !is_due(row, token, when) {
         return Ok(None);
     }
-    let after = begun(alloc, row, moment, token)?;
+    let after = begun(alloc, row, when, token)?;
     Ok(Some(Change::Replace(after)))
 }
 
 /// A copy of the row, in which the rotation is started and the change finished.
-fn begun(
-    alloc: Global,
-    row: &SecretRow,
-    moment: Moment,
-    token: &Token,
-) -> Result<SecretRow, NoMemory>
-    requires moment { moment.0 ≤ LAST_READING }
-    requires begins { begin_answer row.now token.now ≡ Begun }
-    ensures { IfOk result (λ after. after ≡ finished_row (begin_row row.now token.now moment) moment) }
+fn begun(alloc: Global, row: &SecretRow, when: When, token: &Token) -> Result<SecretRow, NoMemory>
+    requires moment { when.moment.0 ≤ LAST_READING }
+    requires begins { begin_answer row.now token.now when ≡ Begun }
+    ensures { IfOk result (λ after. after ≡ finished_row (begin_row row.now token.now when.moment) when) }
 {
     let mut after = row.copy(alloc)?;
-    match begin(alloc, &mut after, token, moment) {
+    match begin(alloc, &mut after, token, when) {
         Began::Ok => {
-            finish(&mut after, moment);
+            finish(&mut after, when);
             Ok(after)
         }
         Began::Memory => Err(NoMemory),

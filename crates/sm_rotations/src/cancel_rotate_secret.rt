@@ -9,9 +9,10 @@ use sm_judging::Judged;
 use sm_judging::members::secret_id;
 use sm_judging::row_change::finish;
 use sm_model::{
-    Change, Copied, Job, Moment, NoMemory, OfSecret, Reply, SecretRow, Token, VersionedSecret, Why,
+    Change, Copied, Job, NoMemory, OfSecret, Reply, SecretRow, Token, VersionedSecret, Why,
 };
 use sm_table::Table;
+use sm_versions::When;
 use std::alloc::Global;
 
 /// Judges a CancelRotateSecret.
@@ -19,41 +20,37 @@ use std::alloc::Global;
 pub fn judge_cancel(
     alloc: Global,
     table: &Table,
-    moment: Moment,
+    when: When,
     cancel: &OfSecret,
 ) -> Result<Judged, NoMemory>
     requires { of_secret_forms cancel.now ≡ None }
-    ensures { IfOk result (λ judged. judged ≡ cancel_judgement table.now moment cancel.now) }
+    ensures { IfOk result (λ judged. judged ≡ cancel_judgement table.now when cancel.now) }
 {
     let id = secret_id(alloc, &cancel.secret_id)?;
-    match table.find(&id, moment) {
-        Some(row) => cancel_unless_scheduled(alloc, row, moment),
+    match table.find(&id, when.moment) {
+        Some(row) => cancel_unless_scheduled(alloc, row, when),
         None => Ok(Judged::Refuse(Why::NoSecret)),
     }
 }
 
 /// Cancels the rotation of this row, unless its secret is scheduled for deletion.
-fn cancel_unless_scheduled(
-    alloc: Global,
-    row: &SecretRow,
-    moment: Moment,
-) -> Result<Judged, NoMemory>
-    ensures { IfOk result (λ judged. judged ≡ unless_scheduled row.now.deletion (cancel_on row.now moment)) }
+fn cancel_unless_scheduled(alloc: Global, row: &SecretRow, when: When) -> Result<Judged, NoMemory>
+    ensures { IfOk result (λ judged. judged ≡ unless_scheduled row.now.deletion (cancel_on row.now when)) }
 {
     match row.deletion {
         Some(date) => Ok(Judged::Refuse(Why::Scheduled(date))),
-        None => cancel_on(alloc, row, moment),
+        None => cancel_on(alloc, row, when),
     }
 }
 
 /// Turns rotation off in a copy of the row, and drops its job.
-fn cancel_on(alloc: Global, row: &SecretRow, moment: Moment) -> Result<Judged, NoMemory>
-    ensures { IfOk result (λ judged. judged ≡ cancel_on row.now moment) }
+fn cancel_on(alloc: Global, row: &SecretRow, when: When) -> Result<Judged, NoMemory>
+    ensures { IfOk result (λ judged. judged ≡ cancel_on row.now when) }
 {
     let reply = cancel_reply(alloc, row)?;
     let mut after = row.copy(alloc)?;
     cancel(&mut after);
-    finish(&mut after, moment);
+    finish(&mut after, when);
     Ok(Judged::Accept(
         Reply::CancelRotateSecret(reply),
         Some(Change::Replace(after)),

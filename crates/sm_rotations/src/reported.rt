@@ -7,10 +7,11 @@ ghost use Rattle.sm_table.specs.Sound.{Sound};
 ghost use Rattle.sm_versions.specs.Kept.{CurrentKept};
 
 use sm_judging::row_change::finish;
-use sm_model::{Answer, Arn, At, Change, Copied, Job, Moment, NoMemory, SecretRow};
+use sm_model::{Answer, Arn, At, Change, Copied, Job, NoMemory, SecretRow};
 use sm_rotation::stepping::is_at;
 use sm_rotation::{Applied, apply};
 use sm_table::Table;
+use sm_versions::When;
 use std::alloc::Global;
 
 /// The change that a rotator's answer makes in the secret with exactly this ARN, where its job is at the step that was
@@ -18,17 +19,17 @@ use std::alloc::Global;
 pub fn judge_reported(
     alloc: Global,
     table: &Table,
-    moment: Moment,
+    when: When,
     arn: &Arn,
     at: &At,
     answer: &Answer,
 ) -> Result<Option<Change>, NoMemory>
     requires sound { Sound table.now }
-    requires moment { moment.0 ≤ LAST_READING }
-    ensures { IfOk result (λ change. change ≡ reported_change table.now moment arn.now at.now answer.now) }
+    requires moment { when.moment.0 ≤ LAST_READING }
+    ensures { IfOk result (λ change. change ≡ reported_change table.now when arn.now at.now answer.now) }
 {
-    match table.find_arn(arn, moment) {
-        Some(row) => apply_if_at(alloc, row, moment, at, answer),
+    match table.find_arn(arn, when.moment) {
+        Some(row) => apply_if_at(alloc, row, when, at, answer),
         None => Ok(None),
     }
 }
@@ -47,18 +48,18 @@ fn is_at_step(job: &Option<Job>, at: &At) -> bool
 fn apply_if_at(
     alloc: Global,
     row: &SecretRow,
-    moment: Moment,
+    when: When,
     at: &At,
     answer: &Answer,
 ) -> Result<Option<Change>, NoMemory>
     requires kept { CurrentKept row.now }
-    requires moment { moment.0 ≤ LAST_READING }
-    ensures { IfOk result (λ change. change ≡ reported_on row.now moment at.now answer.now) }
+    requires moment { when.moment.0 ≤ LAST_READING }
+    ensures { IfOk result (λ change. change ≡ reported_on row.now when at.now answer.now) }
 {
     if !is_at_step(&row.job, at) {
         return Ok(None);
     }
-    let after = answered(alloc, row, moment, at, answer)?;
+    let after = answered(alloc, row, when, at, answer)?;
     Ok(Some(Change::Replace(after)))
 }
 
@@ -66,19 +67,19 @@ fn apply_if_at(
 fn answered(
     alloc: Global,
     row: &SecretRow,
-    moment: Moment,
+    when: When,
     at: &At,
     answer: &Answer,
 ) -> Result<SecretRow, NoMemory>
     requires kept { CurrentKept row.now }
-    requires moment { moment.0 ≤ LAST_READING }
+    requires moment { when.moment.0 ≤ LAST_READING }
     requires at { IsTrue (is_at_step row.now.job at.now) }
-    ensures { IfOk result (λ after. after ≡ finished_row (answered answer.now moment row.now) moment) }
+    ensures { IfOk result (λ after. after ≡ finished_row (answered answer.now when.moment row.now) when) }
 {
     let mut after = row.copy(alloc)?;
-    match apply(alloc, &mut after, at, answer, moment) {
+    match apply(alloc, &mut after, at, answer, when.moment) {
         Applied::Done => {
-            finish(&mut after, moment);
+            finish(&mut after, when);
             Ok(after)
         }
         Applied::Memory => Err(NoMemory),

@@ -19,6 +19,7 @@ use sm_model::{
 };
 use sm_rotation::{Began, begin};
 use sm_table::Table;
+use sm_versions::When;
 use std::alloc::Global;
 
 /// The rules of rotation as a secret keeps them.
@@ -60,18 +61,18 @@ pub enum Start {
 pub fn judge_rotate(
     alloc: Global,
     table: &Table,
-    moment: Moment,
+    when: When,
     drawn: &[u8],
     rotate: &RotateSecret,
 ) -> Result<Judged, NoMemory>
     requires forms { rotate_forms rotate.now ≡ None }
-    requires moment { moment.0 ≤ LAST_READING }
+    requires moment { when.moment.0 ≤ LAST_READING }
     requires drawn { token_bytes_if rotate.now.rotate_immediately rotate.now.client_request_token
         ≤ length drawn.now }
-    ensures { IfOk result (λ judged. judged ≡ rotate_judgement table.now moment drawn.now rotate.now) }
+    ensures { IfOk result (λ judged. judged ≡ rotate_judgement table.now when drawn.now rotate.now) }
 {
     let call = rotate_call(alloc, drawn, rotate)?;
-    judge_call(alloc, table, moment, &call)
+    judge_call(alloc, table, when, &call)
 }
 
 // ---- the members
@@ -154,14 +155,14 @@ fn rotate_call(alloc: Global, drawn: &[u8], rotate: &RotateSecret) -> Result<Rot
 fn judge_call(
     alloc: Global,
     table: &Table,
-    moment: Moment,
+    when: When,
     call: &RotateCall,
 ) -> Result<Judged, NoMemory>
-    requires { moment.0 ≤ LAST_READING }
-    ensures { IfOk result (λ judged. judged ≡ rotate_judged table.now moment call.now) }
+    requires { when.moment.0 ≤ LAST_READING }
+    ensures { IfOk result (λ judged. judged ≡ rotate_judged table.now when call.now) }
 {
-    match table.find(&call.id, moment) {
-        Some(row) => rotate_unless_scheduled(alloc, row, moment, call),
+    match table.find(&call.id, when.moment) {
+        Some(row) => rotate_unless_scheduled(alloc, row, when, call),
         None => Ok(Judged::Refuse(Why::NoSecret)),
     }
 }
@@ -170,16 +171,16 @@ fn judge_call(
 fn rotate_unless_scheduled(
     alloc: Global,
     row: &SecretRow,
-    moment: Moment,
+    when: When,
     call: &RotateCall,
 ) -> Result<Judged, NoMemory>
-    requires { moment.0 ≤ LAST_READING }
+    requires { when.moment.0 ≤ LAST_READING }
     ensures { IfOk result
-        (λ judged. judged ≡ unless_scheduled row.now.deletion (rotate_on row.now moment call.now.plan call.now.token)) }
+        (λ judged. judged ≡ unless_scheduled row.now.deletion (rotate_on row.now when call.now.plan call.now.token)) }
 {
     match row.deletion {
         Some(date) => Ok(Judged::Refuse(Why::Scheduled(date))),
-        None => rotate_on(alloc, row, moment, call),
+        None => rotate_on(alloc, row, when, call),
     }
 }
 
@@ -187,15 +188,15 @@ fn rotate_unless_scheduled(
 fn rotate_on(
     alloc: Global,
     row: &SecretRow,
-    moment: Moment,
+    when: When,
     call: &RotateCall,
 ) -> Result<Judged, NoMemory>
-    requires { moment.0 ≤ LAST_READING }
-    ensures { IfOk result (λ judged. judged ≡ rotate_on row.now moment call.now.plan call.now.token) }
+    requires { when.moment.0 ≤ LAST_READING }
+    ensures { IfOk result (λ judged. judged ≡ rotate_on row.now when call.now.plan call.now.token) }
 {
     match &call.token {
-        Some(token) => start_on(alloc, row, moment, &call.plan, token),
-        None => wait_on(alloc, row, moment, &call.plan),
+        Some(token) => start_on(alloc, row, when, &call.plan, token),
+        None => wait_on(alloc, row, when, &call.plan),
     }
 }
 
@@ -203,27 +204,27 @@ fn rotate_on(
 fn start_on(
     alloc: Global,
     row: &SecretRow,
-    moment: Moment,
+    when: When,
     plan: &Plan,
     token: &Token,
 ) -> Result<Judged, NoMemory>
-    requires { moment.0 ≤ LAST_READING }
-    ensures { IfOk result (λ judged. judged ≡ start_on row.now moment plan.now token.now) }
+    requires { when.moment.0 ≤ LAST_READING }
+    ensures { IfOk result (λ judged. judged ≡ start_on row.now when plan.now token.now) }
 {
-    match started(alloc, row, moment, token)? {
-        Start::Begun(after) => accept_start(alloc, after, moment, plan, token),
+    match started(alloc, row, when, token)? {
+        Start::Begun(after) => accept_start(alloc, after, when, plan, token),
         Start::Repeat => repeat(alloc, row, token),
         Start::Refused(why) => Ok(Judged::Refuse(why)),
     }
 }
 
 /// Starts the rotation in a copy of the row.
-fn started(alloc: Global, row: &SecretRow, moment: Moment, token: &Token) -> Result<Start, NoMemory>
-    requires { moment.0 ≤ LAST_READING }
-    ensures { IfOk result (λ start. start ≡ started row.now token.now moment) }
+fn started(alloc: Global, row: &SecretRow, when: When, token: &Token) -> Result<Start, NoMemory>
+    requires { when.moment.0 ≤ LAST_READING }
+    ensures { IfOk result (λ start. start ≡ started row.now token.now when) }
 {
     let mut after = row.copy(alloc)?;
-    match begin(alloc, &mut after, token, moment) {
+    match begin(alloc, &mut after, token, when) {
         Began::Ok => Ok(Start::Begun(after)),
         Began::Same => Ok(Start::Repeat),
         Began::NoCurrent => Ok(Start::Refused(Why::NoCurrent)),
@@ -238,26 +239,26 @@ fn started(alloc: Global, row: &SecretRow, moment: Moment, token: &Token) -> Res
 fn accept_start(
     alloc: Global,
     after: SecretRow,
-    moment: Moment,
+    when: When,
     plan: &Plan,
     token: &Token,
 ) -> Result<Judged, NoMemory>
     ensures { IfOk result (λ judged. judged
-        ≡ rotate_accepted (finished_row (turned_on_in plan.now after) moment) (Some token.now)) }
+        ≡ rotate_accepted (finished_row (turned_on_in plan.now after) when) (Some token.now)) }
 {
     let rotation = turned_on(alloc, plan, &after.rotation)?;
     let version_id = token.copy(alloc)?;
-    accept(alloc, after, rotation, moment, Some(version_id))
+    accept(alloc, after, rotation, when, Some(version_id))
 }
 
 /// Turns the rotation on in a copy of the row, which then waits for its next date.
-fn wait_on(alloc: Global, row: &SecretRow, moment: Moment, plan: &Plan) -> Result<Judged, NoMemory>
-    requires { moment.0 ≤ LAST_READING }
-    ensures { IfOk result (λ judged. judged ≡ wait_on row.now moment plan.now) }
+fn wait_on(alloc: Global, row: &SecretRow, when: When, plan: &Plan) -> Result<Judged, NoMemory>
+    requires { when.moment.0 ≤ LAST_READING }
+    ensures { IfOk result (λ judged. judged ≡ wait_on row.now when plan.now) }
 {
-    let rotation = dated(moment, turned_on(alloc, plan, &row.rotation)?);
+    let rotation = dated(when.moment, turned_on(alloc, plan, &row.rotation)?);
     let after = row.copy(alloc)?;
-    accept(alloc, after, rotation, moment, None)
+    accept(alloc, after, rotation, when, None)
 }
 
 // ---- the row
@@ -355,15 +356,15 @@ fn accept(
     alloc: Global,
     after: SecretRow,
     rotation: Rotation,
-    moment: Moment,
+    when: When,
     version_id: Option<Token>,
 ) -> Result<Judged, NoMemory>
     ensures { IfOk result (λ judged. judged
-        ≡ rotate_accepted (finished_row (with_rotation rotation after) moment) version_id) }
+        ≡ rotate_accepted (finished_row (with_rotation rotation after) when) version_id) }
 {
     let mut after = after;
     replace(&mut after.rotation, rotation);
-    finish(&mut after, moment);
+    finish(&mut after, when);
     let reply = rotated(alloc, &after, version_id)?;
     Ok(Judged::Accept(Reply::RotateSecret(reply), Some(Change::Replace(after))))
 }

@@ -4,6 +4,8 @@
 #[cfg(test)]
 mod list_table;
 #[cfg(test)]
+mod pruning;
+#[cfg(test)]
 mod rows;
 #[cfg(test)]
 mod twins;

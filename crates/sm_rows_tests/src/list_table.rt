@@ -1,7 +1,7 @@
 //! Rows in a list that is gone through for each look-up: what a table answers is held against it.
 use sm_model::{Arn, Change, Moment, Name, SecretId, SecretRow};
 use sm_table::deletion::is_gone;
-use sm_versions::is_due_for_some;
+use sm_versions::{When, is_due_for_some};
 use std::alloc::Global;
 use std::test::Fail;
 
@@ -94,7 +94,11 @@ impl ListTable {
 
     /// The serial of the first row whose rotation is due at the moment.
     pub fn first_due(&self, moment: Moment) -> Option<u64> {
-        match self.rows.iter().find(|row| is_due_for_some(row, moment)) {
+        match self
+            .rows
+            .iter()
+            .find(|row| is_due_for_some(row, When::pruning(moment)))
+        {
             Some(row) => Some(row.serial),
             None => None,
         }

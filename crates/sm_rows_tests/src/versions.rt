@@ -3,7 +3,7 @@ use sm_model::{
     Arn, Job, Label, List, Moment, Name, Rotation, SecretRow, SharedList, Stage, Text, Token,
     Value, VersionRow,
 };
-use sm_versions::{Found, Moved, PutDone, find, move_label, put, settle};
+use sm_versions::{Found, Moved, PutDone, When, find, move_label, put, settle};
 use std::alloc::Global;
 use std::test::Fail;
 
@@ -41,7 +41,7 @@ fn given(alloc: Global, number: u32) -> Result<Option<Token>, Fail> {
     Ok(Some(token(alloc, number)?))
 }
 
-fn labels(alloc: Global, names: &str) -> Result<Vec<Label>, Fail> {
+pub fn labels(alloc: Global, names: &str) -> Result<Vec<Label>, Fail> {
     let mut labels = Vec::new(alloc);
     for name in names.split_whitespace() {
         labels.push(Label::read(alloc, name.as_bytes())?)?;
@@ -49,11 +49,11 @@ fn labels(alloc: Global, names: &str) -> Result<Vec<Label>, Fail> {
     Ok(labels)
 }
 
-fn text(alloc: Global, text: &str) -> Result<Value, Fail> {
+pub fn text(alloc: Global, text: &str) -> Result<Value, Fail> {
     Ok(Value::Text(Text::from_str(alloc, text)?))
 }
 
-fn fresh(alloc: Global) -> Result<SecretRow, Fail> {
+pub fn fresh(alloc: Global) -> Result<SecretRow, Fail> {
     let name = Name::read(alloc, b"db/app")?;
     Ok(SecretRow {
         serial: 0,
@@ -105,7 +105,7 @@ fn names_text(alloc: Global, labels: &List<Label>) -> Result<String, Fail> {
     Ok(shown)
 }
 
-fn put_text(alloc: Global, done: &PutDone) -> Result<String, Fail> {
+pub fn put_text(alloc: Global, done: &PutDone) -> Result<String, Fail> {
     match done {
         PutDone::Added => Ok(String::from_str(alloc, "added")?),
         PutDone::Same(labels) => names_text(alloc, labels),
@@ -157,7 +157,7 @@ fn run_put(
         &token,
         &value,
         labels.as_slice(),
-        Moment(1700000001),
+        When::pruning(Moment(1700000001)),
     );
     put_text(alloc, &done)
 }

@@ -23,9 +23,9 @@ const SECOND_VALUE: &str =
 const CANCELLED: &[u8; 36] = b"SMJRNL01\x01\x00\x00\x00\x16\x00\x00\x00\x00\x65\x53\xf1\x00\x00\
         \x00\x00\x00\x00\x00\x00\x00\x0c\x00\x00\x00\x01a\x00";
 
-/// The call of the disk that syncs the gate of the second entry: opening a new journal takes six calls, and each entry
-/// six more.
-pub const SYNC_OF_THE_PUT: u64 = 18;
+/// The call of the disk that syncs the gate of the second entry: looking for a root takes two calls, opening a new
+/// journal six, and each entry six more.
+pub const SYNC_OF_THE_PUT: u64 = 20;
 
 /// A conversation over an empty disk whose call of that number fails, and how many entries crashes behind it recover:
 /// with each file as it was synced last, with it as it reads, and with other bytes where it was not synced.

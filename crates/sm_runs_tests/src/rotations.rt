@@ -21,7 +21,7 @@ const ROTATES: &str =
 
 /// The operation, the body and the reply to each message: a rotation is done when the next message is read, and its
 /// token starts no other.
-const EXCHANGES: [(&str, &str, &str); 6] = [
+const EXCHANGES: [(&str, &str, &str); 8] = [
     (
         CREATE,
         MADE,
@@ -46,6 +46,22 @@ const EXCHANGES: [(&str, &str, &str); 6] = [
             \"VersionId\":\"22222222-2222-4222-8222-222222222222\",\"VersionStages\":[\"AWSCURRENT\"]}]}",
     ),
     ("RotateSecret", ROTATE, ROTATES),
+    (
+        "RotateSecret",
+        "{\"SecretId\":\"app/db\",\"RotateImmediately\":false,\
+            \"RotationRules\":{\"ScheduleExpression\":\"rate(10 days)\"}}",
+        "{\"ARN\":\"arn:aws:secretsmanager:us-east-1:000000000000:secret:app/db-ABCDEF\",\"Name\":\"app/db\"}",
+    ),
+    (
+        "DescribeSecret",
+        r#"{"SecretId":"app/db"}"#,
+        "{\"ARN\":\"arn:aws:secretsmanager:us-east-1:000000000000:secret:app/db-ABCDEF\",\
+            \"CreatedDate\":1700000000,\"LastChangedDate\":1700000000,\"LastRotatedDate\":1700000000,\
+            \"Name\":\"app/db\",\"NextRotationDate\":1700864000,\"RotationEnabled\":true,\
+            \"RotationRules\":{\"ScheduleExpression\":\"rate(10 days)\"},\"Tags\":[],\
+            \"VersionIdsToStages\":{\"11111111-1111-4111-8111-111111111111\":[\"AWSPREVIOUS\"],\
+            \"22222222-2222-4222-8222-222222222222\":[\"AWSCURRENT\"]}}",
+    ),
     (
         "CancelRotateSecret",
         r#"{"SecretId":"app/db"}"#,
@@ -73,7 +89,7 @@ fn a_rotation_is_done_behind_its_message(rt: HostRuntime) -> Result<(), Fail> {
     assert!(rt; written.as_slice() == output.as_slice());
     let (_, said, _) = run_words(rt.alloc(), "--mode check --number 0", b"", &WELL, disk)?;
     let wanted =
-        "secrets 1 versions 2 entries 7\napp/db 2023-11-14 versions 2 labels 2 live idle\n";
+        "secrets 1 versions 2 entries 8\napp/db 2023-11-14 versions 2 labels 2 live idle\n";
     assert!(rt; said.as_slice() == wanted.as_bytes());
     Ok(())
 }

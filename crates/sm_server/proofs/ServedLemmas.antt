@@ -3,7 +3,6 @@ use Rattle.std.proofs.Common.{◌≡◌, ◌≤◌, ◌+◌, min, ℕ, List, [],
 use Rattle.std.proofs.lemmas.Bool.{false≢true}
 use Rattle.sm_base.specs.Faults.{Rose}
 use Rattle.sm_disk.specs.declared.disk.Disk.{Ghosts as DiskGhosts}
-use Rattle.sm_journal.specs.Openings.{ReadsAs}
 use Rattle.sm_journal.specs.declared.answers.OpenRefused.{OpenRefused}
 use Rattle.sm_journal.specs.declared.answers.OpenRefused.TheVariants as refusals
 use Rattle.sm_lock.specs.declared.storied.Storied.{Ghosts as StoriedGhosts}
@@ -12,13 +11,13 @@ use Rattle.sm_model.specs.declared.entry.Mark.{Mark}
 use Rattle.sm_base.specs.declared.limits.TheConstants.{JOURNAL_LIMIT}
 use Rattle.sm_principal.specs.declared.people.People.{People as Persons}
 use Rattle.sm_rotator.specs.declared.rotator.Rotator.{Ghosts as RotatorGhosts}
-use Rattle.sm_store.specs.Entries.{HasEntries}
-use Rattle.sm_store.specs.declared.files.TheConstants.{JOURNAL}
+use Rattle.sm_opening.specs.Openings.{IsRefused}
+use Rattle.sm_store.specs.Held.{Held}
 use Rattle.sm_account.specs.declared.account.Account.{Account}
 use Rattle.sm_account.specs.Accounts.{base, began, disk, failed, history, taken}
 use Rattle.sm_account.specs.Books.{FaultsBound, count_limit, faults_of}
 use Rattle.sm_account.specs.History.{faults_in}
-use Rattle.sm_account.specs.Openings.{IsOpenedOver, IsRefused}
+use Rattle.sm_account.specs.Openings.{IsOpenedOver, TakenFrom}
 use Rattle.sm_account.specs.States.{Base, base_of}
 use Rattle.sm_spells.specs.Spells.{History}
 use Rattle.sm_words.specs.declared.settings.Mode.{Mode}
@@ -118,23 +117,20 @@ module _ {E K C W R A O D : Type 0} {g : StoriedGhosts A O Mark} (views : Views 
   -- an account that was opened over a disk
   pub opened_over : (first : D) (doors : ℕ) (before after : Account D R G V) (status : Status)
       → IsOpenedOver first doors JOURNAL_LIMIT before
-      → ReadsAs JOURNAL (λ bytes. HasEntries bytes (taken before)) (G.sight first)
+      → TakenFrom G first JOURNAL_LIMIT (taken before) (disk before)
       → LeavesAt views G people before after status old new
       → OpenedOver views G people first status after old new
-  opened_over first doors before after status opened list left =
+  opened_over first doors before after status opened found left =
       let began_is : began after ≡ first = left.began_stays ∙ opened.began_is in
       let faults : FaultsBound (G.faults first) (history after) (G.faults (disk after)) =
       subst (λ d. FaultsBound (G.faults d) (history after) (G.faults (disk after))) began_is left.faults in
       record {
-        recovered = subst (λ (t : List Entry). ReadsAs JOURNAL (λ bytes. HasEntries bytes t) (G.sight first))
-            (sym left.taken_stays) list;
+        opened = disk before;
+        recovered = subst (λ (t : Held). TakenFrom G first JOURNAL_LIMIT t (disk before)) (sym left.taken_stays) found;
         began_is = began_is;
         base_is = left.base_stays ∙ opened.base_is
-            ∙ ap (λ (t : List Entry). base_of t JOURNAL_LIMIT) (sym left.taken_stays);
-        images = left.images;
-        legal = left.legal;
-        in_time = left.in_time;
-        next = left.next;
+            ∙ ap (λ (t : Held). base_of t JOURNAL_LIMIT) (sym left.taken_stays);
+        on_disk = left.on_disk;
         risen = λ there. risen_for (failed after) (G.faults first) (faults_in (history after)) (G.faults (disk after))
             there left.told faults;
         faults = faults;

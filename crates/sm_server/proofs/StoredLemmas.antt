@@ -1,6 +1,6 @@
 -- What stands on the disk after a run.
 use Rattle.std.proofs.Math.Logic.{∥∥₁_map}
-use Rattle.std.proofs.Common.{◌≡◌, ◌⊎◌, ◌≤◌, ℕ, false, [], ◌∷◌, ◌++◌, Option, Some, None, IfSome, IsSome, is_some, ap, sym, subst, ◌∙◌, inl, inr, arith}
+use Rattle.std.proofs.Common.{◌≡◌, ◌⊎◌, ◌≤◌, ℕ, false, [], Option, Some, None, IfSome, IsSome, is_some, ap, sym, subst, ◌∙◌, inl, inr, arith}
 use Rattle.sm_base.specs.Faults.{Rose}
 use Rattle.sm_disk.specs.declared.disk.Disk.{Ghosts}
 use Rattle.sm_model.specs.declared.entry.Entry.{Entry}
@@ -12,9 +12,14 @@ use Rattle.sm_account.specs.Accounts.{base, failed, history, rows, taken}
 use Rattle.sm_account.specs.Allowed.{StayVouched}
 use Rattle.sm_account.specs.History.{entries_in}
 use Rattle.sm_account.specs.declared.account.Account.{Account}
-use Rattle.sm_account.proofs.StateLaws.{replay_joined}
+use Rattle.sm_account.proofs.HeldLemmas.{made_rows}
+use Rattle.sm_account.specs.Books.{with_entries}
+use Rattle.sm_opening.specs.Lawful.{made_of}
+use Rattle.sm_opening.proofs.LawfulLaws.{makes_one_more}
+use Rattle.sm_record.specs.declared.base.Base.{Base as Made}
+use Rattle.sm_store.specs.Held.{Held}
 use Rattle.sm_core.specs.Effects.{effect}
-use Rattle.sm_core.specs.Histories.{no_rows, replay}
+use Rattle.sm_core.specs.Histories.{replay}
 use Rattle.sm_core.specs.Vouching.{Vouched}
 use Rattle.sm_rotation.specs.Vouched.{Replies}
 use Rattle.sm_rotator.specs.declared.rotator.Rotator.{Ghosts as RotatorGhosts}
@@ -49,8 +54,8 @@ cause_since before failed began opened now none unsure lower some =
 -- what always holds of an account says that its secrets stay vouched
 module _ {D R : Type 0} {G : Ghosts D} {V : RotatorGhosts R} (replies : Replies) (account : Account D R G V)
     (rows_are : rows account ≡ replay (base account).rows (entries_in (history account))) where
-  all_are : rows account ≡ replay no_rows (taken account ++ entries_in (history account))
-  all_are = rows_are ∙ sym (replay_joined no_rows (taken account) (entries_in (history account)))
+  all_are : rows account ≡ (made_of (with_entries (taken account) (entries_in (history account)))).rows
+  all_are = rows_are ∙ sym (made_rows (taken account) (entries_in (history account)))
 
   stays : StayVouched replies account.books → StaysVouched replies (taken account) (history account) (failed account)
   stays vouched = record {
@@ -63,14 +68,17 @@ module _ {D R : Type 0} {G : Ghosts D} {V : RotatorGhosts R} (replies : Replies)
       → ∥ StaysVouched replies (taken account) (history account) (failed account) ∥₁
   stays_vouched vouched = ∥∥₁_map vouched stays
 
+-- no base, and no entries
+abbrev pub nothing_held : Held
+nothing_held = record { base = None; entries = [] }
+
 -- nothing was recovered, and nothing happened
-pub none_vouched : (replies : Replies) → ∥ StaysVouched replies [] [] None ∥₁
+pub none_vouched : (replies : Replies) → ∥ StaysVouched replies nothing_held [] None ∥₁
 none_vouched replies = ∣ record { now = λ first. first; next = λ first. tt } ∣₁
 
 pub vouched_again : VouchedAgain
 vouched_again replies story stays entries (inl all) first = rw all (stays.now first)
 vouched_again replies story stays entries (inr (entry, failed, more)) first =
-    let last : IfSome (Some entry) (λ e. Vouched replies (effect (replay no_rows (all_of story)) e)) =
-    subst (λ f. IfSome f (λ e. Vouched replies (effect (replay no_rows (all_of story)) e))) failed
-    (stays.next first) in
-    rw more (rw (replay_joined no_rows (all_of story) (entry ∷ [])) last)
+    let last : IfSome (Some entry) (λ e. Vouched replies (effect (made_of (all_of story)).rows e)) =
+    subst (λ f. IfSome f (λ e. Vouched replies (effect (made_of (all_of story)).rows e))) failed (stays.next first) in
+    rw more (subst (λ (made : Made). Vouched replies made.rows) (sym (makes_one_more (all_of story) entry)) last)

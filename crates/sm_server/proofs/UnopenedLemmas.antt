@@ -5,7 +5,7 @@ use Rattle.sm_base.specs.Faults.{Rose}
 use Rattle.sm_disk.specs.declared.disk.Disk.{Ghosts}
 use Rattle.sm_journal.specs.declared.answers.OpenRefused.{OpenRefused}
 use Rattle.sm_journal.specs.declared.answers.OpenRefused.TheVariants.{Damaged, Failed, Memory}
-use Rattle.sm_account.specs.Openings.{IsRefused}
+use Rattle.sm_opening.specs.Openings.{IsRefused}
 use Rattle.sm_rotation.specs.Vouched.{Replies}
 use Rattle.sm_words.specs.declared.settings.Mode.{Mode}
 use Rattle.sm_words.specs.declared.settings.Mode.TheVariants.{Exec, Serve, Check, Drill, Agent}
@@ -27,12 +27,12 @@ use Rattle.sm_server.specs.Ran.{Course, Story, course_of, AreAnswered, EndedAt, 
 use Rattle.sm_server.specs.Status.{WasFollowed, WasUnderstood}
 use Rattle.sm_server.specs.Stored.{status_unopened, disk_unopened, Leaves, StaysVouched, WantsBy}
 use Rattle.sm_server.specs.Turns.{brought_nothing}
-use Rattle.sm_server.proofs.StoredLemmas.{none_vouched}
+use Rattle.sm_server.proofs.StoredLemmas.{none_vouched, nothing_held}
 use Rattle.sm_server.proofs.RunLemmas.{counts_in, trace_of, passed_by}
 
 -- nothing was opened, and nothing happened
 abbrev pub no_story : Task → Persons → Story
-no_story task people = record { task = task; people = people; taken = []; history = []; failed = None }
+no_story task people = record { task = task; people = people; taken = nothing_held; history = []; failed = None }
 
 -- between these nothing was read, written, read from the clock or drawn, and only the disk's count may have risen
 pub record Still (before after : Outside) : Type 0 where
@@ -87,10 +87,9 @@ module _ {D : Type 0} (G : Ghosts D) (replies : Replies) (task : Task) (people :
   -- the disk's count did not fall
   pub later_unopened : (refused : OpenRefused D) → IsRefused G old refused
       → G.faults old ≤ G.faults (disk_unopened refused)
-  later_unopened (Damaged now damage) (inl r) = r.1
-  later_unopened (Damaged now damage) (inr r) = r.1
-  later_unopened (Failed now) r = r.1
-  later_unopened (Memory now) r = r.1
+  later_unopened (Damaged now damage) r = r.later
+  later_unopened (Failed now) r = r.later
+  later_unopened (Memory now) r = r.later
 
   -- The run whose account was not opened, and what it leaves.
   abbrev pub Unopened : Status → Outside → Outside → D → Type 0
@@ -98,7 +97,7 @@ module _ {D : Type 0} (G : Ghosts D) (replies : Replies) (task : Task) (people :
       (runs : Runs (course_of replies (no_story task people)) status before after)
       × Leaves G status (no_story task people) old now
       × (status ≡ statuses.Memory → WantsBy G ⊤ (no_story task people) runs.input runs.trace old now)
-      × ∥ StaysVouched replies [] [] None ∥₁
+      × ∥ StaysVouched replies nothing_held [] None ∥₁
 
   pub unopened : (refused : OpenRefused D) (now : D) (before after : Outside) → IsRefused G old refused
       → disk_unopened refused ≡ now → before.counts.disk ≡ G.faults old → after.counts.disk ≡ G.faults now
@@ -113,7 +112,7 @@ module _ {D : Type 0} (G : Ghosts D) (replies : Replies) (task : Task) (people :
   )
   unopened (Failed d) now before after r same first last still =
       let d_last : after.counts.disk ≡ G.faults d = last ∙ ap G.faults (sym same) in
-      let rose : Rose before.counts.disk after.counts.disk = omega (arith, r.2, first, d_last) in (
+      let rose : Rose before.counts.disk after.counts.disk = omega (arith, r.cause, first, d_last) in (
         runs_still replies task people before after still statuses.OpenFault (refl, (refl, refl, refl), rose),
         subst (λ x. Leaves G statuses.OpenFault (no_story task people) old x) same r,
         λ wants. absurd (cc),
@@ -193,7 +192,7 @@ module _ (replies : Replies) (task : Task) (people : Persons) where
       (runs : Runs (course_of replies (no_story task people)) status outside outside)
       × Leaves G status (no_story task people) disk disk
       × (status ≡ statuses.Memory → WantsBy G Followed (no_story task people) runs.input runs.trace disk disk)
-      × ∥ StaysVouched replies [] [] None ∥₁
+      × ∥ StaysVouched replies nothing_held [] None ∥₁
 
   none_wanted : {D : Type 0} (G : Ghosts D) (Followed : Type 0) (disk : D) (outside : Outside)
       → Unfollowed G Followed disk outside statuses.Memory

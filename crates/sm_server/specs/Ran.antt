@@ -1,11 +1,13 @@
 -- What a run of the program over one stream does.
-use Rattle.std.specs.Prelude.{◌≡◌, ℕ, List, [], length, Option}
+use Rattle.std.specs.Prelude.{◌≡◌, ℕ, List, [], Option}
 use Rattle.std.specs.Io.KnownBytes.{prepend_known}
 use Rattle.sm_base.specs.Faults.{Rose}
 use Rattle.sm_base.specs.declared.bad_kind.BadKind.{BadKind}
 use Rattle.sm_model.specs.declared.entry.Entry.{Entry}
 use Rattle.sm_base.specs.declared.limits.TheConstants.{JOURNAL_LIMIT}
+use Rattle.sm_opening.specs.Lawful.{made_of}
 use Rattle.sm_rotation.specs.Vouched.{Replies}
+use Rattle.sm_store.specs.Held.{Held}
 use Rattle.sm_account.specs.States.{Base, base_of}
 use Rattle.sm_http.specs.Messages.{Message}
 use Rattle.sm_principal.specs.declared.people.People.{People as Persons}
@@ -102,12 +104,12 @@ Ended course OpenFault input left trace =
     (input ≡ []) × NothingDone course.history trace × Rose trace.disk.before trace.disk.after
 Ended course status input left trace = EndedAt course.task course status input left trace
 
--- what a run does, who may ask, the entries that the disk recovered at the opening, the history since, and the entry
--- whose write failed last, while that may stand on the disk
+-- what a run does, who may ask, what the opening took from the disk, the history since, and the entry whose write
+-- failed last, while that may stand on the disk
 pub record Story : Type 0 where
   pub task : Task
   pub people : Persons
-  pub taken : List Entry
+  pub taken : Held
   pub history : History
   pub failed : Option Entry
 
@@ -118,7 +120,7 @@ course_of replies story = record {
   replies = replies;
   people = story.people;
   base = base_of story.taken JOURNAL_LIMIT;
-  entries = length story.taken;
+  entries = (made_of story.taken).entries;
   history = story.history;
 }
 

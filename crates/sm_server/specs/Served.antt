@@ -3,23 +3,20 @@ use Rattle.std.specs.Prelude.{◌≡◌, ◌⊎◌, ◌≤◌, ℕ, Bool, true, 
 use Rattle.std.specs.List.{count_by}
 use Rattle.sm_base.specs.Faults.{Rose}
 use Rattle.sm_disk.specs.declared.disk.Disk.{Ghosts as DiskGhosts}
-use Rattle.sm_disk.specs.OneFile.{EachHas}
-use Rattle.sm_journal.specs.Openings.{ReadsAs}
 use Rattle.sm_journal.specs.declared.answers.OpenRefused.TheVariants as refusals
 use Rattle.sm_lock.specs.declared.storied.Storied.{Ghosts as StoriedGhosts}
 use Rattle.sm_model.specs.declared.entry.Mark.{Mark}
 use Rattle.sm_base.specs.declared.limits.TheConstants.{JOURNAL_LIMIT}
 use Rattle.sm_principal.specs.declared.people.People.{People as Persons}
 use Rattle.sm_rotator.specs.declared.rotator.Rotator.{Ghosts as RotatorGhosts}
-use Rattle.sm_store.specs.Entries.{HasEntries, HasEither}
-use Rattle.sm_store.specs.declared.files.TheConstants.{JOURNAL}
+use Rattle.sm_opening.specs.Openings.{IsRefused}
 use Rattle.sm_account.specs.declared.account.Account.{Account}
 use Rattle.sm_account.specs.Accounts.{all_of, base, began, disk, failed, history, taken}
-use Rattle.sm_account.specs.Books.{IsLegal, FaultsBound, MayFollowIf, faults_of}
+use Rattle.sm_account.specs.Books.{FaultsBound, faults_of}
+use Rattle.sm_account.specs.Crashes.{HoldsOnDisk}
 use Rattle.sm_account.specs.History.{faults_in}
-use Rattle.sm_account.specs.Openings.{IsRefused}
+use Rattle.sm_account.specs.Openings.{TakenFrom}
 use Rattle.sm_account.specs.States.{base_of}
-use Rattle.sm_core.specs.Histories.{InTime}
 use Rattle.sm_words.specs.declared.settings.Mode.{Mode}
 use Rattle.sm_words.specs.declared.settings.Mode.TheVariants.{Exec, Serve, Check, Drill, Agent}
 use Rattle.sm_words.specs.declared.settings.Settings.{Settings}
@@ -104,33 +101,29 @@ module _ {E K C W R A O D : Type 0} {g : StoriedGhosts A O Mark} (views : Views 
   EndsServed people account Memory old new = (history account ≡ []) × (new ≡ old)
   EndsServed people account other old new = ⊥
 
-  -- What workers leave of an account: what it was opened over. Each image of the disk recovers to all of its entries,
-  -- or, while the last write may have failed, perhaps to these and one more, whose fault the history has. Both lists
-  -- are legal, and no entry was made after the last moment.
+  -- What workers leave of an account: what it was opened over. Each image of the disk recovers to all that it holds,
+  -- or, while the last write may have failed, perhaps to this and one entry more, whose fault the history has. Both are
+  -- lawful.
   pub record LeavesAt (people : Persons) (before after : Account D R G V) (status : Status)
       (old new : List (WorkerBy E C W R A O Mark g)) : Type 0 where
     pub taken_stays : taken after ≡ taken before
     pub began_stays : began after ≡ began before
     pub base_stays : base after ≡ base before
-    pub images : EachHas JOURNAL (HasEither (all_of after) (failed after)) (G.sight (disk after)).images
-    pub legal : ∥ IsLegal (all_of after) ∥₁
-    pub in_time : InTime (all_of after)
-    pub next : ∥ MayFollowIf (all_of after) (failed after) ∥₁
+    pub on_disk : HoldsOnDisk (all_of after) (failed after) (G.sight (disk after))
     pub told : faults_of (failed after) ≤ faults_in (history after)
     pub faults : FaultsBound (G.faults (began after)) (history after) (G.faults (disk after))
     pub ends : EndsServed people after status old new
 
-  -- What a server leaves: the account that it opened over what the disk recovered, whose whole history was made by its
-  -- workers, each at its seat. One entry more may stand on the disk only where the disk's count rose.
+  -- What a server leaves: the account that it opened over what it took from the disk, which kept its state then, whose
+  -- whole history was made by its workers, each at its seat. One entry more may stand on the disk only where the disk's
+  -- count rose.
   pub record OpenedOver (people : Persons) (first : D) (status : Status) (account : Account D R G V)
       (old new : List (WorkerBy E C W R A O Mark g)) : Type 0 where
-    pub recovered : ReadsAs JOURNAL (λ bytes. HasEntries bytes (taken account)) (G.sight first)
+    pub opened : D
+    pub recovered : TakenFrom G first JOURNAL_LIMIT (taken account) opened
     pub began_is : began account ≡ first
     pub base_is : base account ≡ base_of (taken account) JOURNAL_LIMIT
-    pub images : EachHas JOURNAL (HasEither (all_of account) (failed account)) (G.sight (disk account)).images
-    pub legal : ∥ IsLegal (all_of account) ∥₁
-    pub in_time : InTime (all_of account)
-    pub next : ∥ MayFollowIf (all_of account) (failed account) ∥₁
+    pub on_disk : HoldsOnDisk (all_of account) (failed account) (G.sight (disk account))
     pub risen : IsSome (failed account) → Rose (G.faults first) (G.faults (disk account))
     pub faults : FaultsBound (G.faults first) (history account) (G.faults (disk account))
     pub ends : EndsServed people account status old new

@@ -1,45 +1,44 @@
 -- What stands on the disk after a run.
-use Rattle.std.specs.Prelude.{◌≡◌, ℕ, ◌⊎◌, [], ◌∷◌, ◌++◌, List, Option, Some, IfSome, IsSome}
+use Rattle.std.specs.Prelude.{◌≡◌, ℕ, List, ◌⊎◌, [], Option, Some, IfSome, IsSome}
 use Rattle.sm_base.specs.Faults.{Rose}
+use Rattle.sm_base.specs.declared.limits.TheConstants.{JOURNAL_LIMIT}
 use Rattle.sm_disk.specs.declared.disk.Disk.{Ghosts}
-use Rattle.sm_disk.specs.OneFile.{EachHas}
-use Rattle.sm_journal.specs.Openings.{ReadsAs}
 use Rattle.sm_journal.specs.declared.answers.OpenRefused.{OpenRefused}
 use Rattle.sm_journal.specs.declared.answers.OpenRefused.TheVariants as refusals
 use Rattle.sm_model.specs.declared.entry.Entry.{Entry}
-use Rattle.sm_store.specs.Entries.{HasEntries, HasEither}
-use Rattle.sm_store.specs.declared.files.TheConstants.{JOURNAL}
-use Rattle.sm_account.specs.Books.{IsLegal, MayFollowIf, FaultsBound}
+use Rattle.sm_store.specs.Held.{Held, with_entry}
+use Rattle.sm_opening.specs.Lawful.{made_of}
+use Rattle.sm_opening.specs.Openings.{IsRefused}
+use Rattle.sm_account.specs.Books.{FaultsBound, with_entries}
+use Rattle.sm_account.specs.Crashes.{HoldsOnDisk}
 use Rattle.sm_account.specs.History.{entries_in}
-use Rattle.sm_account.specs.Openings.{IsRefused}
+use Rattle.sm_account.specs.Openings.{TakenFrom}
 use Rattle.sm_server.specs.declared.status.Status.{Status}
 use Rattle.sm_server.specs.declared.status.Status.TheVariants.{Words, Damaged, OpenFault, Memory, People, NotBuilt}
 use Rattle.sm_core.specs.Effects.{effect}
-use Rattle.sm_core.specs.Histories.{InTime, no_rows, replay}
 use Rattle.sm_core.specs.Vouching.{Vouched}
 use Rattle.sm_rotation.specs.Vouched.{Replies}
 use Rattle.sm_spells.specs.Spells.{History}
 use Rattle.sm_server.specs.Outside.{Trace}
 use Rattle.sm_server.specs.Ran.{NothingDone, Story}
 
--- the recovered entries and those of the history
-abbrev pub all_of : Story → List Entry
-all_of story = story.taken ++ entries_in story.history
+-- what was taken from the disk, with the entries of the history
+abbrev pub all_of : Story → Held
+all_of story = with_entries story.taken (entries_in story.history)
 
--- Each image of the disk now recovers to all entries of the story, or, only where the disk's count rose since old, to
--- these and the one whose write failed last. Both lists are legal, and no entry was made after the last moment. The
--- history has at most as many faults as the count rose by.
+-- Each image of the disk now recovers to what the story took and made, or, only where the disk's count rose since old,
+-- to this and the entry whose write failed last. Both are lawful. The history has at most as many faults as the disk's
+-- count rose by.
 pub record Stands {D : Type 0} (G : Ghosts D) (story : Story) (old now : D) : Type 0 where
-  pub images : EachHas JOURNAL (HasEither (all_of story) story.failed) (G.sight now).images
+  pub on_disk : HoldsOnDisk (all_of story) story.failed (G.sight now)
   pub cause : IsSome story.failed → Rose (G.faults old) (G.faults now)
-  pub legal : ∥ IsLegal (all_of story) ∥₁
-  pub in_time : InTime (all_of story)
-  pub next : ∥ MayFollowIf (all_of story) story.failed ∥₁
   pub faults : FaultsBound (G.faults old) story.history (G.faults now)
 
--- the disk recovered the taken entries, and has the story now
+-- An opening took what the story goes on from, and left the disk so that each image kept its state; and the disk has
+-- the story now.
 pub record Records {D : Type 0} (G : Ghosts D) (story : Story) (old now : D) : Type 0 where
-  pub recovered : ReadsAs JOURNAL (λ bytes. HasEntries bytes story.taken) (G.sight old)
+  pub opened : D
+  pub recovered : TakenFrom G old JOURNAL_LIMIT story.taken opened
   pub stands : Stands G story old now
 
 -- how a run ends where the opening was refused, and the disk that is handed back
@@ -76,21 +75,20 @@ WantsBy G Followed story input trace old new =
 
 -- If each attempt that a recovered secret remembers is one at which its rotator may have accepted the test, this is so
 -- of the secrets after the history, and it would be with the entry whose write failed last.
-pub record StaysVouched (replies : Replies) (taken : List Entry) (history : History) (failed : Option Entry) : Type 0
-  where
-    pub now : Vouched replies (replay no_rows taken)
-        → Vouched replies (replay no_rows (taken ++ entries_in history))
-    pub next : Vouched replies (replay no_rows taken)
-        → IfSome failed (λ entry. Vouched replies (effect (replay no_rows (taken ++ entries_in history)) entry))
+pub record StaysVouched (replies : Replies) (taken : Held) (history : History) (failed : Option Entry) : Type 0 where
+  pub now : Vouched replies (made_of taken).rows
+      → Vouched replies (made_of (with_entries taken (entries_in history))).rows
+  pub next : Vouched replies (made_of taken).rows → IfSome failed (λ entry.
+      Vouched replies (effect (made_of (with_entries taken (entries_in history))).rows entry))
 
--- the entries that a disk recovers to after a run, or while its last write is unsure
-abbrev pub IsRecovered : Story → List Entry → Type 0
-IsRecovered story entries =
-    (entries ≡ all_of story) ⊎ ((entry : Entry) × (story.failed ≡ Some entry) × (entries ≡ all_of story ++ entry ∷ []))
+-- what a disk recovers to after a run, or while its last write is unsure
+abbrev pub IsRecovered : Story → Held → Type 0
+IsRecovered story h = (h ≡ all_of story)
+    ⊎ ((entry : Entry) × (story.failed ≡ Some entry) × (h ≡ with_entry (all_of story) entry))
 
 -- a run over what another left has vouched secrets at its beginning if the other had
 abbrev pub VouchedAgain : Type 0
 VouchedAgain =
     (replies : Replies) → (story : Story) → StaysVouched replies story.taken story.history story.failed
-    → (entries : List Entry) → IsRecovered story entries → Vouched replies (replay no_rows story.taken)
-    → Vouched replies (replay no_rows entries)
+    → (h : Held) → IsRecovered story h → Vouched replies (made_of story.taken).rows
+    → Vouched replies (made_of h).rows

@@ -1,9 +1,10 @@
 //! The summary of what an account holds.
-ghost use Rattle.std.specs.Prelude.{◌≡◌, ◌≤◌, ◌∷◌, [], List, ℕ, length};
+ghost use Rattle.std.specs.Prelude.{◌≡◌, ◌≤◌, ◌∷◌, [], List, ℕ};
 ghost use Rattle.std.specs.Io.KnownBytes.{append_known};
 ghost use Rattle.sm_base.specs.Faults.{Rose};
 ghost use Rattle.sm_base.specs.declared.moment.Moment.{Moment as moments};
 ghost use Rattle.sm_account.specs.Accounts.{all_of, rows};
+ghost use Rattle.sm_opening.specs.Lawful.{made_of};
 ghost use Rattle.sm_server.specs.Checks.{Shows, WritesBy};
 
 use crate::status::Status;
@@ -26,7 +27,7 @@ pub fn summarize<K: Sink, D: Disk, C: Clock, R: Rotator>(
         × (C.readings clock.new ≡ append_known (C.readings clock.old) (now.0 ∷ []))
         × (K.taken sink.new ≡ append_known (K.taken sink.old) written)
         × Shows (Rose (K.sink_faults sink.old) (K.sink_faults sink.new)) (rows account.now) now
-        (length (all_of account.now)) result written }
+        (made_of (all_of account.now)).entries result written }
     ensures later { K.sink_faults sink.old ≤ K.sink_faults sink.new }
 {
     account.standing();

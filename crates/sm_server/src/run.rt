@@ -1,11 +1,12 @@
 //! The top call over one stream.
-ghost use Rattle.std.specs.Prelude.{◌≡◌, ◌≤◌, ◌∷◌, [], ℕ, List, None, Ok, length, map, string_bytes, ⊤};
+ghost use Rattle.std.specs.Prelude.{◌≡◌, ◌≤◌, ◌∷◌, [], ℕ, List, None, Ok, map, string_bytes, ⊤};
 ghost use Rattle.std.specs.Io.KnownBytes.{append_known};
 ghost use Rattle.sm_base.specs.Faults.{Rose};
 ghost use Rattle.sm_base.specs.declared.moment.Moment.{Moment as moments};
 ghost use Rattle.sm_account.specs.Accounts.{history, base, began, taken, disk, failed};
 ghost use Rattle.sm_account.specs.States.{base_of};
 ghost use Rattle.sm_base.specs.declared.limits.TheConstants.{JOURNAL_LIMIT};
+ghost use Rattle.sm_opening.specs.Lawful.{made_of};
 ghost use Rattle.sm_server.specs.declared.asked.Task.TheVariants.{Answer, Summarize};
 ghost use Rattle.sm_principal.specs.declared.people.People.{People as Persons};
 ghost use Rattle.sm_principal.specs.Callers.{people_of};
@@ -250,7 +251,7 @@ fn check_opened<K: Sink, D: Disk, C: Clock, R: Rotator>(
         × (C.readings clock.new ≡ append_known (C.readings clock.old) (now.0 ∷ []))
         × (K.taken sink.new ≡ append_known (K.taken sink.old) written)
         × Shows (Rose (K.sink_faults sink.old) (K.sink_faults sink.new)) (base account).rows now
-        (length (taken account)) result.0 written }
+        (made_of (taken account)).entries result.0 written }
     ensures disk { result.1 ≡ disk account }
     ensures stands { (people : Persons) → Stands D.Disk (record {
       task = Summarize;

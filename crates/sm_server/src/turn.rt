@@ -1,6 +1,6 @@
 //! One message's turn at the account.
 ghost use Rattle.std.specs.Prelude.{◌≡◌, ◌≤◌, ◌⊎◌, ◌++◌, List, length, Ok, IsSome};
-ghost use Rattle.sm_base.specs.declared.limits.TheConstants.{KEY_LIMIT};
+ghost use Rattle.sm_account.specs.Handling.{HasShortTexts};
 ghost use Rattle.std.specs.Io.KnownBytes.{append_known};
 ghost use Rattle.sm_base.specs.Faults.{Rose};
 ghost use Rattle.sm_model.specs.declared.entry.Mark.{Mark};
@@ -66,7 +66,7 @@ fn draw_and_answer<D: Disk, C: Clock, W: Words, R: Rotator>(
     clock: &mut C,
     random: &mut W,
 ) -> Said
-    requires { length person.now.key ≤ KEY_LIMIT }
+    requires { HasShortTexts person.now }
     ensures turn { (told : Told) × (marks : List Mark)
         × (C.readings clock.new ≡ append_known (C.readings clock.old) told.readings)
         × (W.drawn random.new ≡ append_known (W.drawn random.old) told.drawn)

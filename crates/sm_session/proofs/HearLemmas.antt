@@ -5,6 +5,7 @@ use Rattle.std.specs.Str.{str_eq_ignore_ascii_case}
 use Rattle.sm_model.specs.declared.person.Person.{Person}
 use Rattle.sm_model.specs.declared.why.Part.{Part}
 use Rattle.sm_model.specs.declared.why.Why.TheVariants as whys
+use Rattle.sm_account.specs.Handling.{HasShortTexts}
 use Rattle.sm_http.specs.declared.answer.Field.{Field}
 use Rattle.sm_http.specs.Heads.{values_of}
 use Rattle.sm_http.specs.Reading.{pair_of}
@@ -27,16 +28,16 @@ fields_at name fields i x h e =
     at_drop_more (λ (xs : List Field). values_of name (map pair_of xs)) fields i x h
     ∙ ap (λ (y : Field). values_of name (map pair_of (y ∷ drop (i + 1) fields))) (sym e)
 
--- who asks has a short key
-pub asks_short : (heard : Heard) (person : Person) → IfAsks heard (λ asker. asker ≡ person) → length person.key ≤ 128
-    → IfAsks heard (λ asker. length asker.key ≤ 128)
-asks_short (Ask asker request) person same short = subst (λ (p : Person). length p.key ≤ 128) (sym same) short
+-- who asks has a short key and a short ARN
+pub asks_short : (heard : Heard) (person : Person) → IfAsks heard (λ asker. asker ≡ person) → HasShortTexts person
+    → IfAsks heard HasShortTexts
+asks_short (Ask asker request) person same short = subst HasShortTexts (sym same) short
 asks_short (Refused why) person same short = tt
 asks_short Memory person same short = tt
 
-pub asker_short : (asker : Asker) (person : Person) → IfAsker asker (λ one. one ≡ person) → length person.key ≤ 128
-    → IfAsker asker (λ one. length one.key ≤ 128)
-asker_short (askers.Is one) person same short = subst (λ (p : Person). length p.key ≤ 128) (sym same) short
+pub asker_short : (asker : Asker) (person : Person) → IfAsker asker (λ one. one ≡ person) → HasShortTexts person
+    → IfAsker asker HasShortTexts
+asker_short (askers.Is one) person same short = subst HasShortTexts (sym same) short
 asker_short (askers.Refused why) person same short = tt
 asker_short askers.Memory person same short = tt
 

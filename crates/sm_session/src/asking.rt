@@ -1,6 +1,6 @@
 //! Who asks by a message (IAM User Guide, "Create a signed AWS API request").
-ghost use Rattle.std.specs.Prelude.{◌≡◌, ◌≤◌, length, map, codes, option_copied};
-ghost use Rattle.sm_base.specs.declared.limits.TheConstants.{KEY_LIMIT};
+ghost use Rattle.std.specs.Prelude.{◌≡◌, map, codes, option_copied};
+ghost use Rattle.sm_account.specs.Handling.{HasShortTexts};
 ghost use Rattle.sm_http.specs.Reading.{content};
 ghost use Rattle.sm_principal.specs.Callers.{secret_of};
 ghost use Rattle.sm_session.specs.Askers.{part_of, signed_by, asker_of, IsAsker, IfAsker};
@@ -24,7 +24,7 @@ pub(crate) enum Asker {
 #[tactic(auto, unfolding(crate::specs::Askers::asker_of))]
 pub(crate) fn asker_of(alloc: Global, people: &People, message: &Message) -> Asker
     ensures is { IsAsker result (asker_of people.now (content message.now)) }
-    ensures short { IfAsker result (λ person. length person.key ≤ KEY_LIMIT) }
+    ensures short { IfAsker result HasShortTexts }
 {
     let authorization = value_of(message.fields.as_slice(), b"authorization");
     match people.caller(alloc, authorization) {

@@ -1,6 +1,6 @@
 //! Who asks for what by a message.
-ghost use Rattle.std.specs.Prelude.{◌≡◌, ◌≤◌, ◌&&◌, codes, length};
-ghost use Rattle.sm_base.specs.declared.limits.TheConstants.{KEY_LIMIT};
+ghost use Rattle.std.specs.Prelude.{◌≡◌, ◌&&◌, codes};
+ghost use Rattle.sm_account.specs.Handling.{HasShortTexts};
 ghost use Rattle.std.specs.Str.{bytes_eq};
 ghost use Rattle.sm_http.specs.Reading.{content};
 ghost use Rattle.sm_json.specs.Asks.{asks_of};
@@ -21,7 +21,7 @@ use std::alloc::Global;
 /// body's JSON and of its members.
 pub fn read(alloc: Global, people: &People, message: &Message) -> Heard
     ensures hears { Hears result (heard people.now (content message.now)) }
-    ensures short { IfAsks result (λ person. length person.key ≤ KEY_LIMIT) }
+    ensures short { IfAsks result HasShortTexts }
 {
     match operation_of(message) {
         Some(operation) => ask(alloc, people, operation, message),
@@ -54,7 +54,7 @@ fn is_post_to_root(method: &[u8], path: &[u8]) -> bool
 fn ask(alloc: Global, people: &People, operation: Operation, message: &Message) -> Heard
     ensures hears { Hears result
         (asked_of (asker_of people.now (content message.now)) operation message.now.body) }
-    ensures short { IfAsks result (λ person. length person.key ≤ KEY_LIMIT) }
+    ensures short { IfAsks result HasShortTexts }
 {
     match asker_of(alloc, people, message) {
         Asker::Is(person) => ask_as(alloc, person, operation, message.body.as_slice()),

@@ -1,6 +1,6 @@
 //! One hold of an account's lock.
 ghost use Rattle.std.specs.Prelude.{◌≡◌, ◌≤◌, [], ◌∷◌, length};
-ghost use Rattle.sm_base.specs.declared.limits.TheConstants.{CALLER_LIMIT};
+ghost use Rattle.sm_account.specs.Handling.{HasShortTexts};
 ghost use Rattle.std.specs.Io.KnownBytes.{append_known};
 ghost use Rattle.sm_model.specs.Needed.{needed};
 ghost use Rattle.sm_account.specs.Accounts.{base};
@@ -36,7 +36,7 @@ pub(crate) fn hold_once<D: Disk, R: Rotator, C: Clock, H: Wait>(
 ) -> Hold<Account<D, R>>
     requires gate { IsIn gate.now pass }
     requires drawn { length drawn.now ≡ needed request.now }
-    requires key { length person.now.key ≤ CALLER_LIMIT }
+    requires person { HasShortTexts person.now }
     ensures gate { IsIn gate.now result.pass }
     ensures number { number result.pass ≡ number pass }
     ensures told { C.readings clock.new ≡ append_known (C.readings clock.old) (result.now.0 ∷ []) }

@@ -1,6 +1,6 @@
 //! One message's turn at an account behind its lock.
 ghost use Rattle.std.specs.Prelude.{◌≡◌, ◌≤◌, [], length, Ok};
-ghost use Rattle.sm_base.specs.declared.limits.TheConstants.{KEY_LIMIT};
+ghost use Rattle.sm_account.specs.Handling.{HasShortTexts};
 ghost use Rattle.sm_account.specs.Accounts.{base};
 ghost use Rattle.sm_http.specs.Reading.{content};
 ghost use Rattle.sm_lock.specs.Handles.{built_with, number, seen, IsIn};
@@ -77,7 +77,7 @@ fn ask<D: Disk, R: Rotator, C: Clock, W: Words, H: Wait>(
     request: &Request,
 ) -> Taken<Account<D, R>>
     requires gate { IsIn gate.now pass }
-    requires key { length person.now.key ≤ KEY_LIMIT }
+    requires person { HasShortTexts person.now }
     ensures gate { IsIn gate.now result.pass }
     ensures number { number result.pass ≡ number pass }
     ensures turn { TakesTurn (record { base = base (built_with gate.now); seat = number pass })

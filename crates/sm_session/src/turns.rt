@@ -1,6 +1,6 @@
 //! One request's turn at an account.
 ghost use Rattle.std.specs.Prelude.{◌≡◌, ◌≤◌, ◌⊎◌, ◌++◌, List, length, IsSome};
-ghost use Rattle.sm_base.specs.declared.limits.TheConstants.{CALLER_LIMIT};
+ghost use Rattle.sm_account.specs.Handling.{HasShortTexts};
 ghost use Rattle.sm_base.specs.Faults.{Rose};
 ghost use Rattle.sm_base.specs.declared.moment.TheConstants.{LAST_READING};
 ghost use Rattle.sm_model.specs.declared.entry.Mark.{Mark};
@@ -31,7 +31,7 @@ pub fn turn<D: Disk, R: Rotator>(
 ) -> Said
     requires bound { now.0 ≤ LAST_READING }
     requires drawn { length drawn.now ≡ needed request.now }
-    requires key { length person.now.key ≤ CALLER_LIMIT }
+    requires person { HasShortTexts person.now }
     ensures turn { (marks : List Mark)
         × AnswersBy (Rose (D.faults (disk account.old)) (D.faults (disk account.new)))
         (answer_asked (base account.old) (history account.old) now.0 drawn.now

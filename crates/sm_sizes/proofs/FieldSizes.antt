@@ -10,9 +10,10 @@ use Rattle.std.proofs.lemmas.Str.{is_utf8-from_IsUtf8, IsUtf8-from_is_utf8, enco
 use Rattle.sm_base.specs.Spelling.{is_run, is_name_byte, is_token, is_token_byte, is_name, is_label, is_arn, is_arn_like, is_secret_id, is_region_byte, IsArnOf}
 use Rattle.sm_base.proofs.ArnShapeLemmas.{arn_has_shape}
 use Rattle.sm_base.proofs.LabelLemmas.{label_is_utf8}
+use Rattle.sm_cron.specs.Spelling.{is_schedule, is_schedule_expression}
 use Rattle.sm_model.specs.Bounds.{fits, is_attempt, is_description, is_small, is_tag_key, is_tag, reserved_beginning}
 use Rattle.sm_base.specs.Texts.{has_at_most}
-use Rattle.sm_base.specs.declared.limits.TheConstants.{DAYS_LIMIT, DESCRIPTION_LIMIT, POLICY_LIMIT, TAGS_LIMIT, TAG_KEY_LIMIT, TAG_VALUE_LIMIT, VALUE_LIMIT, SHORTEST_WINDOW, LONGEST_WINDOW}
+use Rattle.sm_base.specs.declared.limits.TheConstants.{DAYS_LIMIT, DESCRIPTION_LIMIT, POLICY_LIMIT, SCHEDULE_LIMIT, TAGS_LIMIT, TAG_KEY_LIMIT, TAG_VALUE_LIMIT, VALUE_LIMIT, SHORTEST_WINDOW, LONGEST_WINDOW}
 use Rattle.sm_model.specs.declared.request.Rules.{Rules}
 use Rattle.sm_model.specs.declared.rows.Stage.{Stage}
 use Rattle.sm_model.specs.declared.rows.Stage.TheVariants.{Create, Set, Test, Finish}
@@ -26,8 +27,7 @@ use Rattle.sm_forms.specs.DeleteSecret.{is_window}
 use Rattle.sm_forms.specs.RotateSecret.{is_period}
 use Rattle.sm_forms.specs.UntagResource.{is_untag_key}
 use Rattle.sm_record.specs.Codec.{optional}
-use Rattle.sm_record.specs.Editions.{is_none}
-use Rattle.sm_record.specs.declared.edition.Edition.TheVariants.{First}
+use Rattle.sm_record.specs.declared.edition.Edition.TheVariants.{Second}
 use Rattle.sm_record.specs.Fields.{arn, attempt, count, long, signed, octets, rotation_rules, stage, text, token, truth, listed, tag, value}
 use Rattle.sm_sizes.specs.Texts.{TagTexts, EachText, ValueText}
 
@@ -417,16 +417,41 @@ unfolding optional
 days_fit None is = refl
 days_fit (Some days) is = period_fits days is
 
-pub rules_size : (rules : Option Rules) → length ((optional (rotation_rules First)).spell rules) ≤ 10
+schedule_few : (t : Option (List ℕ)) → IsTrue (fits is_schedule_expression t) → IfSome t (λ x. length x ≤ 256)
+schedule_few None is = tt
+schedule_few (Some t) is =
+    let few = (and_parts (nat_le (length t) SCHEDULE_LIMIT) (is_schedule t) is).0 in grind (arith, nat_tests, few)
+
+pub rules_size : (rules : Option Rules) → IfSome rules (λ r. IsTrue (fits is_schedule_expression r.schedule))
+    → length ((optional (rotation_rules Second)).spell rules) ≤ 271
 unfolding optional rotation_rules
-rules_size None = omega arith
-rules_size (Some rules) =
+rules_size None is = omega arith
+rules_size (Some rules) is =
     let days : List ℕ = (optional signed).spell rules.days in
-    omega (arith, window_size rules.days, length-append days [])
+    let schedule : List ℕ = (optional text).spell rules.schedule in
+    omega (
+      arith,
+      length-append days schedule,
+      window_size rules.days,
+      optional_size rules.schedule 256 (schedule_few rules.schedule is),
+    )
 
 pub rules_fit : (rules : Option Rules) → IfSome rules (λ r. IsTrue (fits is_period r.days))
-    → IfSome rules (λ r. r.schedule ≡ None) → (optional (rotation_rules First)).fits rules ≡ true
+    → IfSome rules (λ r. IsTrue (fits is_schedule_expression r.schedule))
+    → IfSome rules (λ r. IfSome r.schedule IsUtf8) → (optional (rotation_rules Second)).fits rules ≡ true
 unfolding optional rotation_rules
-rules_fit None is none = refl
-rules_fit (Some rules) is none =
-    and_from ((optional signed).fits rules.days) (is_none rules.schedule) (days_fit rules.days is) (ap is_none none)
+rules_fit None days schedule utf8 = refl
+rules_fit (Some rules) days schedule utf8 =
+    and_from ((optional signed).fits rules.days) ((optional text).fits rules.schedule) (days_fit rules.days days)
+    (optional_fits rules.schedule 256 (omega arith) utf8 (schedule_few rules.schedule schedule))
+
+-- a secret is made with no regions
+pub no_regions_size : (regions : List (List ℕ)) → regions ≡ [] → length ((listed text).spell regions) ≡ 4
+unfolding listed
+no_regions_size [] none = omega (arith, length-append (count.spell 0) [], count_size 0)
+no_regions_size (r ∷ regions) none = absurd (cc)
+
+pub no_regions_fit : (regions : List (List ℕ)) → regions ≡ [] → (listed text).fits regions ≡ true
+unfolding listed count
+no_regions_fit [] none = refl
+no_regions_fit (r ∷ regions) none = absurd (cc)

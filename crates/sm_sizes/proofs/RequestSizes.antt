@@ -1,11 +1,11 @@
 -- How long the requests that make entries are as they are spelled, and that they fit.
-use Rattle.std.proofs.Common.{◌≡◌, ℕ, ◌≤◌, true, false, ◌&&◌, List, ◌++◌, length, Option, Some, None, IfSome, IsSome, ap, arith, length-append}
+use Rattle.std.proofs.Common.{◌≡◌, ℕ, ◌≤◌, true, ◌&&◌, List, ◌++◌, length, Option, Some, None, IfSome, IsSome, arith, length-append}
 use Rattle.std.specs.Prelude.{IsTrue, IsUtf8, nat_le, codes}
 use Rattle.std.specs.List.{list_all}
 use Rattle.std.proofs.lemmas.Bool.Decides.{nat_tests}
 use Rattle.std.proofs.lemmas.Bool.{and_from, and_parts}
 use Rattle.sm_base.specs.Spelling.{is_token, is_label, is_secret_id}
-use Rattle.sm_base.specs.declared.moment.Moment.{Moment}
+use Rattle.sm_model.specs.Versions.{When}
 use Rattle.sm_model.specs.Bounds.{is_description}
 use Rattle.sm_model.specs.declared.entry.Act.TheVariants.{Asked}
 use Rattle.sm_model.specs.declared.entry.Change.{Change}
@@ -54,12 +54,11 @@ use Rattle.sm_core.specs.Histories.{IsDue, LegalAct}
 use Rattle.sm_core.proofs.NobodyLemmas.{due_of}
 use Rattle.sm_core.specs.Judging.{judgement}
 use Rattle.sm_record.specs.Codec.{optional}
-use Rattle.sm_record.specs.Editions.{is_empty}
-use Rattle.sm_record.specs.declared.edition.Edition.TheVariants.{First}
+use Rattle.sm_record.specs.declared.edition.Edition.TheVariants.{Second}
 use Rattle.sm_record.specs.Fields.{signed, octets, rotation_rules, text, truth, listed, tag}
 use Rattle.sm_record.specs.Requests.{of_secret, create_secret, delete_secret, put_resource_policy, put_secret_value, rotate_secret, tag_resource, untag_resource, update_secret, update_secret_version_stage}
 use Rattle.sm_sizes.specs.Texts.{CreateTexts, PolicyTexts, PutTexts, RotateTexts, UpdateTexts, MoveTexts, TaggingTexts, UntaggingTexts, HasFewTags}
-use Rattle.sm_sizes.proofs.FieldSizes.{text_size, text_fits, optional_size, optional_fits, bytes_size, bytes_fit, token_size, name_size, description_size, label_size, secret_id_size, labels_size, labels_fits, tags_size, tags_fit, tag_list_size, tag_list_fits, keys_size, keys_fit, truth_size, truth_fits, window_size, window_fits, policy_size, rules_size, rules_fit}
+use Rattle.sm_sizes.proofs.FieldSizes.{text_size, text_fits, optional_size, optional_fits, bytes_size, bytes_fit, token_size, name_size, description_size, label_size, secret_id_size, labels_size, labels_fits, tags_size, tags_fit, tag_list_size, tag_list_fits, keys_size, keys_fit, no_regions_size, no_regions_fit, truth_size, truth_fits, window_size, window_fits, policy_size, rules_size, rules_fit}
 
 -- a fact of a text that is there follows from another
 some_then : (t : Option (List ℕ)) (P Q : List ℕ → Type 0) → ((x : List ℕ) → P x → Q x) → IfSome t P → IfSome t Q
@@ -81,9 +80,10 @@ descriptions (Some x) utf8 h = description_size x utf8 h
 -- CreateSecret
 module _ (r : CreateSecret) (forms : create_forms r ≡ None) (texts : CreateTexts r)
     (few : IfSome r.tags (λ tags. length tags ≤ TAGS_LIMIT)) where
-  pub create_size : length ((create_secret First).spell r) ≤ 250000
+  pub create_size : length ((create_secret Second).spell r) ≤ 250000
   unfolding create_secret
   create_size =
+      let regions : List ℕ = (listed text).spell r.regions in
       let token : List ℕ = (optional text).spell r.client_request_token in
       let description : List ℕ = (optional text).spell r.description in
       let kms : List ℕ = (optional text).spell r.kms_key_id in
@@ -93,6 +93,8 @@ module _ (r : CreateSecret) (forms : create_forms r ≡ None) (texts : CreateTex
       let tags : List ℕ = (optional (listed tag)).spell r.tags in
       omega (
         arith,
+        length-append regions (token ++ (description ++ (kms ++ (name ++ (binary ++ (string ++ tags)))))),
+        no_regions_size r.regions (create.create_regions r forms),
         length-append token (description ++ (kms ++ (name ++ (binary ++ (string ++ tags))))),
         length-append description (kms ++ (name ++ (binary ++ (string ++ tags)))),
         length-append kms (name ++ (binary ++ (string ++ tags))),
@@ -110,10 +112,10 @@ module _ (r : CreateSecret) (forms : create_forms r ≡ None) (texts : CreateTex
         tags_size r.tags texts.tags (create.create_tags r forms) few,
       )
 
-  pub create_fits : (create_secret First).fits r ≡ true
+  pub create_fits : (create_secret Second).fits r ≡ true
   unfolding create_secret
   create_fits =
-      and_from (is_empty r.regions) _ (ap is_empty (create.create_regions r forms))
+      and_from ((listed text).fits r.regions) _ (no_regions_fit r.regions (create.create_regions r forms))
       (and_from ((optional text).fits r.client_request_token) _
       (optional_fits r.client_request_token 64 (omega arith) texts.token
       (tokens r.client_request_token (create.create_token r forms)))
@@ -389,13 +391,13 @@ module _ (r : PutResourcePolicy) (forms : put_policy_forms r ≡ None) (texts : 
 
 -- RotateSecret
 module _ (r : RotateSecret) (forms : rotate_forms r ≡ None) (texts : RotateTexts r) where
-  pub rotate_size : length ((rotate_secret First).spell r) ≤ 10000
+  pub rotate_size : length ((rotate_secret Second).spell r) ≤ 10000
   unfolding rotate_secret
   rotate_size =
       let token : List ℕ = (optional text).spell r.client_request_token in
       let at_once : List ℕ = truth.spell r.rotate_immediately in
       let lambda : List ℕ = (optional text).spell r.rotation_lambda_arn in
-      let rules : List ℕ = (optional (rotation_rules First)).spell r.rotation_rules in
+      let rules : List ℕ = (optional (rotation_rules Second)).spell r.rotation_rules in
       let id : List ℕ = text.spell r.secret_id in
       omega (
         arith,
@@ -407,12 +409,12 @@ module _ (r : RotateSecret) (forms : rotate_forms r ≡ None) (texts : RotateTex
         truth_size r.rotate_immediately,
         optional_size r.rotation_lambda_arn 8192
             (descriptions r.rotation_lambda_arn texts.lambda (rotating.rotate_lambda r forms)),
-        rules_size r.rotation_rules,
+        rules_size r.rotation_rules (rotating.rotate_expression r forms),
         text_size r.secret_id,
         secret_id_size r.secret_id (rotating.rotate_id r forms),
       )
 
-  pub rotate_fits : (rotate_secret First).fits r ≡ true
+  pub rotate_fits : (rotate_secret Second).fits r ≡ true
   unfolding rotate_secret
   rotate_fits =
       and_from ((optional text).fits r.client_request_token) _
@@ -422,8 +424,8 @@ module _ (r : RotateSecret) (forms : rotate_forms r ≡ None) (texts : RotateTex
       (and_from ((optional text).fits r.rotation_lambda_arn) _
       (optional_fits r.rotation_lambda_arn 8192 (omega arith) texts.lambda
       (descriptions r.rotation_lambda_arn texts.lambda (rotating.rotate_lambda r forms)))
-      (and_from ((optional (rotation_rules First)).fits r.rotation_rules) (text.fits r.secret_id)
-      (rules_fit r.rotation_rules (rotating.rotate_rules r forms) (rotating.rotate_schedule r forms))
+      (and_from ((optional (rotation_rules Second)).fits r.rotation_rules) (text.fits r.secret_id)
+      (rules_fit r.rotation_rules (rotating.rotate_rules r forms) (rotating.rotate_expression r forms) texts.schedule)
       (text_fits r.secret_id texts.id (omega (arith, secret_id_size r.secret_id (rotating.rotate_id r forms)))))))
 
 -- a fact of each change holds where one is due
@@ -434,12 +436,12 @@ of_due (Refuse why) P h due = absurd due
 of_due Memory P h due = absurd due
 
 -- a request that makes an entry has few tags
-pub few_tags : (rows : Rows) (moment : Moment) (drawn : List ℕ) (request : Request)
-    → LegalAct rows moment drawn (Asked request) → HasFewTags request
-few_tags rows moment drawn (requests.CreateSecret r) legal =
-    of_due (judgement rows moment drawn (requests.CreateSecret r)) (IfSome r.tags (λ tags. length tags ≤ TAGS_LIMIT))
-    (create_few rows moment drawn r) (due_of _ legal.2)
-few_tags rows moment drawn (requests.TagResource r) legal =
-    of_due (judgement rows moment drawn (requests.TagResource r)) (length r.tags ≤ TAGS_LIMIT)
-    (tag_few rows moment r legal.1) (due_of _ legal.2)
-few_tags rows moment drawn request legal = tt
+pub few_tags : (rows : Rows) (when : When) (drawn : List ℕ) (request : Request)
+    → LegalAct rows when drawn (Asked request) → HasFewTags request
+few_tags rows when drawn (requests.CreateSecret r) legal =
+    of_due (judgement rows when drawn (requests.CreateSecret r)) (IfSome r.tags (λ tags. length tags ≤ TAGS_LIMIT))
+    (create_few rows when.moment drawn r) (due_of _ legal.2)
+few_tags rows when drawn (requests.TagResource r) legal =
+    of_due (judgement rows when drawn (requests.TagResource r)) (length r.tags ≤ TAGS_LIMIT)
+    (tag_few rows when r legal.1) (due_of _ legal.2)
+few_tags rows when drawn request legal = tt

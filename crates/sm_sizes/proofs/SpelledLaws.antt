@@ -1,11 +1,9 @@
 -- The entry of an act of which one may be made has a spelling, which is never too long for a record.
 use Rattle.std.proofs.Common.{◌≡◌, ℕ, ◌≤◌, Bool, true, false, ◌&&◌, ◌||◌, List, [], ◌∷◌, ◌++◌, length, nat_eq, Option, Some, None, is_some, refl, arith, length-append}
-use Rattle.std.specs.Prelude.{IsTrue, IsUtf8}
+use Rattle.std.specs.Prelude.{IsUtf8}
 use Rattle.std.proofs.lemmas.Bool.Decides.{nat_tests}
 use Rattle.std.proofs.lemmas.Bool.{and_from}
 use Rattle.sm_base.specs.Spelling.{is_arn, is_token}
-use Rattle.sm_base.specs.declared.moment.Moment.{Moment}
-use Rattle.sm_base.specs.declared.limits.TheConstants.{CALLER_LIMIT}
 use Rattle.sm_base.specs.declared.moment.TheConstants.{LAST_READING}
 use Rattle.sm_model.specs.declared.why.Why.{Why}
 use Rattle.sm_model.specs.Bounds.{is_attempt}
@@ -23,20 +21,20 @@ use Rattle.sm_core.specs.Histories.{may_be_by}
 use Rattle.sm_core.specs.Judging.{is_reading}
 use Rattle.sm_record.specs.Codec.{with_flag}
 use Rattle.sm_record.specs.declared.head.Before.{Before}
-use Rattle.sm_record.specs.Editions.{is_empty, mark}
-use Rattle.sm_record.specs.declared.edition.Edition.TheVariants.{First}
+use Rattle.sm_record.specs.Editions.{mark}
+use Rattle.sm_record.specs.declared.edition.Edition.TheVariants.{Second}
 use Rattle.sm_record.specs.Entries.{act, answer, at, before_of, done, entry, fits_act, fits_request, head, may_begin, may_report, report, spell_act, spell_request}
 use Rattle.sm_record.specs.Fields.{arn, attempt, octets, stage, text, token, moment, long}
 use Rattle.sm_record.specs.Spelling.{spelling, has_spelling, HasSpelling}
-use Rattle.sm_sizes.specs.Spellable.{IsAccepted, IsSpellable, IsStep, MayBeMade, is_small_answer}
+use Rattle.sm_sizes.specs.Spellable.{IsSpellable, MayBeMade, is_small_answer}
 use Rattle.sm_sizes.specs.Texts.{ActTexts, AnswerText, TextsOf, HasFewTags}
 use Rattle.sm_sizes.proofs.FieldSizes.{arn_field_fits, arn_field_size, attempt_fits, attempt_size, octets_size, octets_fits, stage_fits, stage_size, text_size, text_fits, token_field_fits, token_field_size, value_fits, value_size}
 use Rattle.sm_sizes.proofs.RequestSizes.{create_size, create_fits, put_size, put_fits, update_size, update_fits, move_size, move_fits, delete_size, delete_fits, named_size, named_fits, put_policy_size, put_policy_fits, rotate_size, rotate_fits, tag_resource_size, tag_resource_fits, untag_resource_size, untag_resource_fits}
 
 -- a request that changes something has a short spelling, and needs few random bytes
 record IsShort (request : Request) : Type 0 where
-  size : length (spell_request First request) ≤ 250001
-  fits : fits_request First request ≡ true
+  size : length (spell_request Second request) ≤ 250001
+  fits : fits_request Second request ≡ true
   drawn : needed request ≤ 22
 
 token_need : (t : Option (List ℕ)) → token_bytes t ≤ 16
@@ -187,8 +185,8 @@ report_fits name place given is token texts from small =
 
 -- an act has a short spelling, and few random bytes were drawn for it
 record IsShortAct (before : Before) (drawn : List ℕ) (made : Act) : Type 0 where
-  size : length (spell_act First made) ≤ 250001
-  fits : fits_act First before made ≡ true
+  size : length (spell_act Second made) ≤ 250001
+  fits : fits_act Second before made ≡ true
   drawn_few : length drawn ≤ 22
 
 -- nobody stands with it, and so many bytes were drawn
@@ -238,39 +236,52 @@ module _ (e : Entry) where
   unfolding moment long
   moment_fits early = grind (arith, nat_tests, early)
 
-  absent : (by : List ℕ) → by ≡ [] → is_empty by ≡ true
-  absent [] is = refl
-  absent (b ∷ by) is = cc
+  mark_size : length ((mark Second).spell tt) ≡ 1
+  unfolding mark
+  mark_size = refl
 
-  module _ (caller : length e.caller ≤ CALLER_LIMIT) (texts : ActTexts e.act) (may : IsSpellable e) where
+  mark_fits : (mark Second).fits tt ≡ true
+  unfolding mark
+  mark_fits = refl
+
+  module _ (texts : ActTexts e.act) (may : IsSpellable e) where
     short : IsShortAct (before_of e.caller e.by e.drawn) e.drawn e.act
     short = short_act e.caller e.by e.drawn e.act texts may.act may.whose
 
-    pub entry_size : length (spelling First e) ≤ 1048576
-    unfolding spelling entry head done act mark
+    pub entry_size : length (spelling Second e) ≤ 1048576
+    unfolding spelling entry head done act
     entry_size =
-        let tail : List ℕ = with_flag e.prunes (spell_act First e.act) in
-        let front : List ℕ = moment.spell e.moment ++ (text.spell e.caller ++ octets.spell e.drawn) in
+        let tail : List ℕ = with_flag e.prunes (spell_act Second e.act) in
+        let behind : List ℕ = text.spell e.by ++ octets.spell e.drawn in
+        let told : List ℕ = text.spell e.caller ++ behind in
+        let timed : List ℕ = moment.spell e.moment ++ told in
+        let marked : List ℕ = (mark Second).spell tt ++ timed in
         omega (
           arith,
-          length-append front tail,
-          length-append (moment.spell e.moment) (text.spell e.caller ++ octets.spell e.drawn),
-          length-append (text.spell e.caller) (octets.spell e.drawn),
+          length-append marked tail,
+          length-append ((mark Second).spell tt) timed,
+          length-append (moment.spell e.moment) told,
+          length-append (text.spell e.caller) behind,
+          length-append (text.spell e.by) (octets.spell e.drawn),
+          mark_size,
           moment_size,
           text_size e.caller,
+          text_size e.by,
           octets_size e.drawn,
-          flagged_size e.prunes (spell_act First e.act),
+          flagged_size e.prunes (spell_act Second e.act),
           short.size,
           short.drawn_few,
-          caller,
+          may.caller,
+          may.by,
         )
 
-    pub entry_fits : e.moment.0 ≤ LAST_READING → IsUtf8 e.caller → HasSpelling First e
-    unfolding has_spelling entry head done act mark
-    entry_fits early utf8 =
-        and_from _ (fits_act First (before_of e.caller e.by e.drawn) e.act)
+    pub entry_fits : e.moment.0 ≤ LAST_READING → IsUtf8 e.caller → IsUtf8 e.by → HasSpelling Second e
+    unfolding has_spelling entry head done act
+    entry_fits early utf8 by_utf8 =
+        and_from _ (fits_act Second (before_of e.caller e.by e.drawn) e.act)
+        (and_from ((mark Second).fits tt) _ mark_fits
         (and_from (moment.fits e.moment) _ (moment_fits early)
-        (and_from (text.fits e.caller) _ (text_fits e.caller utf8 (omega (arith, caller)))
-        (and_from (is_empty e.by) (octets.fits e.drawn) (absent e.by may.by)
-        (octets_fits e.drawn (omega (arith, short.drawn_few))))))
+        (and_from (text.fits e.caller) _ (text_fits e.caller utf8 (omega (arith, may.caller)))
+        (and_from (text.fits e.by) (octets.fits e.drawn) (text_fits e.by by_utf8 (omega (arith, may.by)))
+        (octets_fits e.drawn (omega (arith, short.drawn_few)))))))
         short.fits

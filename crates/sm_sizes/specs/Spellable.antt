@@ -1,6 +1,7 @@
 -- Entries that have a spelling which is not too long for a record of the journal.
 -- AWS Secrets Manager User Guide: "AWS Secrets Manager quotas".
-use Rattle.std.specs.Prelude.{◌≡◌, ℕ, Bool, true, false, List, [], length, None, IsTrue}
+use Rattle.std.specs.Prelude.{◌≡◌, ◌≤◌, ℕ, Bool, true, false, List, length, None, IsTrue}
+use Rattle.sm_base.specs.declared.limits.TheConstants.{CALLER_LIMIT}
 use Rattle.sm_model.specs.Bounds.{is_attempt, is_small}
 use Rattle.sm_model.specs.Needed.{needed}
 use Rattle.sm_model.specs.declared.entry.Act.{Act}
@@ -41,8 +42,9 @@ MayBeMade drawn (Asked request) = IsAccepted drawn request
 MayBeMade drawn (Begun arn) = length drawn ≡ 16
 MayBeMade drawn (Reported arn at answer) = IsStep drawn at answer
 
--- an entry that may be made: nobody stands with what nobody asks for, and no ARN with any
+-- an entry that may be made: the key and the ARN of who asked are short, and nobody stands with what nobody asks for
 pub record IsSpellable (entry : Entry) : Type 0 where
   pub act : MayBeMade entry.drawn entry.act
   pub whose : IsTrue (may_be_by entry.caller entry.by entry.act)
-  pub by : entry.by ≡ []
+  pub caller : length entry.caller ≤ CALLER_LIMIT
+  pub by : length entry.by ≤ CALLER_LIMIT

@@ -69,6 +69,7 @@ pub record PolicyTexts (r : PutResourcePolicy) : Type 0 where
 pub record RotateTexts (r : RotateSecret) : Type 0 where
   pub token : IfSome r.client_request_token IsUtf8
   pub lambda : IfSome r.rotation_lambda_arn IsUtf8
+  pub schedule : IfSome r.rotation_rules (λ rules. IfSome rules.schedule IsUtf8)
   pub id : IsUtf8 r.secret_id
 
 -- each text of the request is UTF-8

@@ -1,29 +1,38 @@
 //! The spelling of an entry that is due.
-ghost use Rattle.std.specs.Prelude.{◌≡◌, ◌≤◌, length, IfOk, IfSome, IsTrue, IsUtf8};
-ghost use Rattle.sm_base.specs.declared.limits.TheConstants.{CALLER_LIMIT};
+ghost use Rattle.std.specs.Prelude.{◌≤◌, length, IfOk, IfSome, IsTrue, IsUtf8};
 ghost use Rattle.sm_base.specs.declared.moment.TheConstants.{LAST_READING};
 ghost use Rattle.sm_base.specs.Spelling.{is_arn, is_token};
 ghost use Rattle.sm_journal.specs.Records.{body_limit};
-ghost use Rattle.sm_store.specs.Entries.{Spells};
+ghost use Rattle.sm_store.specs.BaseAppends.{IsReady};
 ghost use Rattle.sm_sizes.specs.Spellable.{IsSpellable};
 ghost use Rattle.sm_sizes.specs.Texts.{ActTexts, AnswerText, EachText, TagTexts, TextsOf, ValueText};
 
-use sm_model::{Act, Answer, Arn, Bytes, Entry, List, NoMemory, Request, Tag, Text, Token, Value};
-use sm_record::encode_first;
+use sm_model::{
+    Act, Answer, Arn, Bytes, Entry, List, NoMemory, Request, Rules, Tag, Text, Token, Value,
+};
+use sm_record::encode;
 use std::alloc::Global;
 
-/// The spelling of an entry of an accepted request, of a start of a due rotation or of a report, which is never too
-/// long for a record.
+/// The spelling in the second format of an entry of an accepted request, of a start of a due rotation or of a report,
+/// which is never too long for a record.
 pub fn spell(alloc: Global, entry: &Entry) -> Result<Bytes, NoMemory>
     requires bound { entry.now.moment.0 ≤ LAST_READING }
-    requires key { length entry.now.caller ≤ CALLER_LIMIT }
     requires act { IsSpellable entry.now }
-    ensures { IfOk result (λ ready. Spells entry.now ready × (length ready ≤ body_limit)) }
+    ensures { IfOk result (λ ready. IsReady entry.now ready × (length ready ≤ body_limit)) }
+{
+    note_asker(entry);
+    note_act(&entry.act);
+    let ready = encode(alloc, entry)?;
+    Ok(ready)
+}
+
+/// The law that the key and the ARN of the person who asked are UTF-8.
+fn note_asker(entry: &Entry)
+    ensures caller { IsUtf8 entry.now.caller }
+    ensures by { IsUtf8 entry.now.by }
 {
     note_text(&entry.caller);
-    note_act(&entry.act);
-    let ready = encode_first(alloc, entry)?;
-    Ok(ready)
+    note_text(&entry.by);
 }
 
 /// The law that the texts of an act are UTF-8, and that its ARN and its token are spelled as such.
@@ -126,10 +135,21 @@ fn note_texts(request: &Request)
         Request::RotateSecret(rotate) => {
             note_optional(&rotate.client_request_token);
             note_optional(&rotate.rotation_lambda_arn);
+            note_rules(&rotate.rotation_rules);
             note_text(&rotate.secret_id);
         }
         Request::CancelRotateSecret(cancel) => note_text(&cancel.secret_id),
         _ => {}
+    }
+}
+
+/// The law that the schedule of rules that are there is UTF-8, if they have one.
+fn note_rules(rules: &Option<Rules>)
+    ensures { IfSome rules.now (λ r. IfSome r.schedule IsUtf8) }
+{
+    match rules {
+        Some(rules) => note_optional(&rules.schedule),
+        None => {}
     }
 }
 

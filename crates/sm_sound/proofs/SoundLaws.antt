@@ -1,5 +1,5 @@
 -- What the tests of a sound base say: all of it, and nothing more.
-use Rattle.std.proofs.Common.{◌≡◌, ◌↔◌, ℕ, zero, suc, ◌+◌, ◌<◌, leb, eqb, Bool, true, false, not, ◌&&◌, ◌||◌, List, [], ◌∷◌, ◌++◌, length, take, get_or, Option, Some, None, is_some, IfSome, IsTrue, refl, sym, ap, ◌∙◌, arith}
+use Rattle.std.proofs.Common.{◌≡◌, ◌≤◌, ◌↔◌, ℕ, zero, suc, ◌+◌, ◌<◌, leb, eqb, Bool, true, false, not, ◌&&◌, ◌||◌, List, [], ◌∷◌, ◌++◌, length, take, get_or, Option, Some, None, is_some, IfSome, IsTrue, refl, sym, ap, ◌∙◌, arith}
 use Rattle.std.specs.Bool.{beq}
 use Rattle.std.proofs.Props.{props}
 use Rattle.std.proofs.lemmas.List.{take_more}
@@ -153,6 +153,11 @@ job_part row parts =
     let current = and_parts (has_none row.versions || has_current_value row) (may_be_job row row.job) named.1 in
     may_job_kept row row.job current.1
 
+version_count_of : (row : SecretRow) → Parts row → length row.versions ≤ VERSIONS_LIMIT
+version_count_of row parts =
+    leb-true (length row.versions) VERSIONS_LIMIT
+    (and_parts (leb (length row.versions) VERSIONS_LIMIT) _ parts.versions).0
+
 row_fits_whole : (row : SecretRow) → Parts row → RowFits row
 row_fits_whole row parts =
     let tags = and_parts (leb (length row.tags) TAGS_LIMIT) _ parts.tags in
@@ -176,7 +181,6 @@ row_fits_whole row parts =
       tags = keys.0;
       tag_once = keys.1;
       policy = policy.0;
-      version_count = leb-true (length row.versions) VERSIONS_LIMIT versions.0;
       versions = each.0;
       labels = leb-true (own_count row.labels) LABELS_LIMIT labels.0;
       created = created.0;
@@ -192,6 +196,7 @@ row_sound row h =
       record {
         kept = record { versions = versions_kept row parts; job = (job_part row parts).0 };
         fits = row_fits_whole row parts;
+        version_count = version_count_of row parts;
       },
       plain_is row parts.plain,
     )
@@ -203,7 +208,7 @@ row_is_fit row sound plain =
     from_parts row (record {
       tags = and_from _ _ (le-leb (length row.tags) TAGS_LIMIT all.tag_count) (and_from _ _ all.tags all.tag_once);
       labels = and_from _ _ (le-leb (own_count row.labels) LABELS_LIMIT all.labels) versions.once;
-      versions = and_from _ _ (le-leb (length row.versions) VERSIONS_LIMIT all.version_count)
+      versions = and_from _ _ (le-leb (length row.versions) VERSIONS_LIMIT sound.version_count)
           (and_from _ _ versions.serials (and_from _ _ all.versions versions.ids));
       plain = plain_fits row plain;
       fields = and_from _ _ all.arn (and_from _ _ all.description (and_from _ _ all.kms

@@ -1,9 +1,9 @@
 -- What an account began with, and since when its journal's tail is unsure.
-use Rattle.std.proofs.Common.{◌≡◌, ◌≤◌, ◌⊎◌, ℕ, List, refl, ap, ◌∙◌, inl, inr, arith}
+use Rattle.std.proofs.Common.{◌≡◌, ◌≤◌, ◌⊎◌, ℕ, refl, ap, ◌∙◌, inl, inr, arith}
 use Rattle.sm_base.specs.Faults.{Rose}
 use Rattle.sm_disk.specs.declared.disk.Disk.{Ghosts as DiskGhosts}
-use Rattle.sm_model.specs.declared.entry.Entry.{Entry}
 use Rattle.sm_rotator.specs.declared.rotator.Rotator.{Ghosts as RotatorGhosts}
+use Rattle.sm_store.specs.Held.{Held}
 use Rattle.sm_account.specs.Accounts.{SameOrigin, base, began, taken}
 use Rattle.sm_account.specs.States.{Base, base_of}
 use Rattle.sm_account.specs.declared.account.Account.{Account}
@@ -28,7 +28,7 @@ module _ {D R : Type 0} {G : DiskGhosts D} {V : RotatorGhosts R} where
 
   pub origin_stays : (old new : Account D R G V) → SameOrigin old new → origin_of new ≡ origin_of old
   origin_stays old new same =
-      let of : List Entry → ℕ → D → Opened D = λ taken limit began.
+      let of : Held → ℕ → D → Opened D = λ taken limit began.
       record { taken = taken; limit = limit; began = began } in
       ap (λ t. of t (base new).limit (began new)) same.taken_stays
       ∙ ap (λ (b : Base). of (taken old) b.limit (began new)) same.base_stays

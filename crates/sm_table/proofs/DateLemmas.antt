@@ -8,7 +8,8 @@ use Rattle.sm_model.specs.declared.rows.SecretRow.{SecretRow}
 use Rattle.sm_model.specs.Due.{is_reached, is_free_or_held_by}
 use Rattle.sm_model.specs.Labels.{aws_current, aws_pending, holder}
 use Rattle.sm_versions.specs.Due.{is_due, due_date}
-use Rattle.sm_versions.specs.Put.{is_full}
+use Rattle.sm_model.specs.Versions.{is_full_when}
+use Rattle.sm_versions.specs.Prune.{pruning}
 use Rattle.sm_versions.specs.Serials.{rises}
 use Rattle.sm_versions.proofs.DueLaws.{due_by_date}
 use Rattle.sm_table.specs.declared.dates.DueDate.{DueDate}
@@ -222,12 +223,14 @@ module _ (rows : List SecretRow) (moment : Moment) where
       → ((f : Option ℕ) → lowest_due rows moment f (dates_of qs) ≡ lower_of f (first_due qs moment))
       → lower_of (lower first q.serial) (first_due qs moment) ≡ lower first q.serial
       → lowest_due rows moment first (with_date date (dates_of qs) q.serial)
-      ≡ lower_of first (cond (is_reached date moment && not (is_full q)) (Some q.serial) (first_due qs moment))
+      ≡ lower_of first (cond (is_reached date moment && not (is_full_when q (pruning moment))) (Some q.serial)
+      (first_due qs moment))
   one_more q qs first None own rest above = rest first
   one_more q qs first (Some date) own rest above =
       placed_lowest first (dates_of qs) (record { date = date; serial = q.serial })
-      ∙ ap (λ o. lowest_due rows moment (lower_if (leb date.0 moment.0 && has_room o) first q.serial) (dates_of qs)) own
-      ∙ by (leb date.0 moment.0 && not (is_full q))
+      ∙ ap (λ o. lowest_due rows moment (lower_if (leb date.0 moment.0 && has_room o (pruning moment)) first q.serial)
+      (dates_of qs)) own
+      ∙ by (leb date.0 moment.0 && not (is_full_when q (pruning moment)))
     where
       by : (b : Bool) → lowest_due rows moment (lower_if b first q.serial) (dates_of qs)
           ≡ lower_of first (cond b (Some q.serial) (first_due qs moment))
@@ -243,7 +246,7 @@ module _ (rows : List SecretRow) (moment : Moment) where
       one_more q qs first (due_date q) (own q (inl refl))
       (λ f. lowest_from qs f (q.serial + 1) next parts.1 (λ p i. own p (inr i)))
       (first_above qs first (q.serial + 1) next q.serial parts.1 (omega arith))
-      ∙ ap (λ b. lower_of first (cond b (Some q.serial) (first_due qs moment))) (sym (due_by_date q moment))
+      ∙ ap (λ b. lower_of first (cond b (Some q.serial) (first_due qs moment))) (sym (due_by_date q (pruning moment)))
 
   -- where the first date is not reached none is
   none_reached : (first : Option ℕ) (dates : List DueDate) → ordered is_before dates ≡ true

@@ -3,7 +3,8 @@ use Rattle.std.specs.Prelude.{◌≡◌, ℕ, suc, ◌<◌, Bool, true, false, n
 use Rattle.sm_base.specs.declared.moment.Moment.{Moment}
 use Rattle.sm_model.specs.declared.rows.SecretRow.{SecretRow}
 use Rattle.sm_versions.specs.Due.{is_due, due_date}
-use Rattle.sm_versions.specs.Put.{is_full}
+use Rattle.sm_model.specs.Versions.{When, is_full_when}
+use Rattle.sm_versions.specs.Prune.{pruning}
 use Rattle.sm_table.specs.declared.dates.DueDate.{DueDate}
 use Rattle.sm_table.specs.Changes.{row_with, dropped}
 use Rattle.sm_table.specs.Ordered.{placed, ordered}
@@ -59,9 +60,9 @@ first_due [] moment = None
 first_due (r ∷ rs) moment = if is_due r moment then Some r.serial else first_due rs moment
 
 -- there is a row, and a version may be added to it
-abbrev pub has_room : Option SecretRow → Bool
-has_room None = false
-has_room (Some row) = not (is_full row)
+abbrev pub has_room : Option SecretRow → When → Bool
+has_room None when = false
+has_room (Some row) when = not (is_full_when row when)
 
 -- the lower of two serials
 abbrev pub lower : Option ℕ → ℕ → Option ℕ
@@ -70,7 +71,7 @@ lower (Some other) serial = if nat_le other serial then Some other else Some ser
 
 -- the date is reached at the moment, and the row has room
 abbrev pub comes : List SecretRow → Moment → DueDate → Bool
-comes rows moment due = nat_le due.date.0 moment.0 && has_room (row_with rows due.serial)
+comes rows moment due = nat_le due.date.0 moment.0 && has_room (row_with rows due.serial) (pruning moment)
 
 -- the lower of this serial and that of the date, where the date counts
 abbrev pub lower_if : Bool → Option ℕ → ℕ → Option ℕ

@@ -6,6 +6,7 @@ ghost use Rattle.sm_table.specs.Dates.{is_before, with_date, lower, lower_if, co
 
 use crate::row_map::RowMap;
 use sm_model::Moment;
+use sm_versions::When;
 
 /// A date of the row with the serial, at which something of it is due.
 #[derive(Clone, Copy)]
@@ -156,7 +157,7 @@ fn lower_if(counts: bool, first: Option<u64>, serial: u64) -> Option<u64>
 fn comes(rows: &RowMap, moment: Moment, due: &DueDate) -> bool
     ensures { result ≡ comes rows.now.list moment due.now }
 {
-    due.date.0 <= moment.0 && rows.has_room(due.serial)
+    due.date.0 <= moment.0 && rows.has_room(due.serial, When::pruning(moment))
 }
 
 /// The lowest serial of a date that the moment has reached and whose row has room for a version.

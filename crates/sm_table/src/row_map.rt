@@ -10,7 +10,8 @@ use crate::deletion::is_gone;
 use crate::kept::Kept;
 use indexmap::IndexMap;
 use sm_model::{Copied, Moment, NoMemory, SecretRow};
-use sm_versions::values::is_full;
+use sm_versions::When;
+use sm_versions::pruning::is_full;
 use std::alloc::Global;
 use std::marker::Model;
 
@@ -99,12 +100,12 @@ impl RowMap {
         }
     }
 
-    /// Whether there is a row with this serial, and a version may be added to it.
-    pub fn has_room(&self, serial: u64) -> bool
-        ensures { result ≡ has_room (row_with self.now.list serial) }
+    /// Whether there is a row with this serial, and a version may be added to it then.
+    pub fn has_room(&self, serial: u64, when: When) -> bool
+        ensures { result ≡ has_room (row_with self.now.list serial) when }
     {
         match self.get(serial) {
-            Some(row) => !is_full(row),
+            Some(row) => !is_full(row, when),
             None => false,
         }
     }

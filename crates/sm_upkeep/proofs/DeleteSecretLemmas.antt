@@ -13,11 +13,13 @@ use Rattle.sm_model.specs.declared.rows.Rows.{Rows}
 use Rattle.sm_model.specs.declared.rows.SecretRow.{SecretRow}
 use Rattle.sm_model.specs.Bounds.{is_date}
 use Rattle.sm_base.specs.declared.limits.TheConstants.{LONGEST_WINDOW}
+use Rattle.sm_model.specs.Versions.{When}
 use Rattle.sm_forms.specs.DeleteSecret.{is_window, delete_forms}
 use Rattle.sm_forms.proofs.DeleteSecretLemmas.{delete_window}
 use Rattle.sm_dates.specs.Days.{days_after}
 use Rattle.sm_versions.specs.Settle.{settle}
 use Rattle.sm_versions.specs.Sound.{UnsettledSound}
+use Rattle.sm_versions.proofs.CountLaws.{few_counted}
 use Rattle.sm_versions.proofs.KeptLaws.{settle_stays}
 use Rattle.sm_table.specs.Sweep.{swept, sweep}
 use Rattle.sm_table.specs.Found.{found}
@@ -32,7 +34,7 @@ use Rattle.sm_judging.specs.declared.judged.Judged.TheVariants.{Accept}
 use Rattle.sm_judging.specs.Refusals.{first_refusal, scheduled_refusal, refusal_at}
 use Rattle.sm_judging.specs.Secrets.{unless_scheduled}
 use Rattle.sm_judging.proofs.JudgedLemmas.{unless_scheduled_accepts}
-use Rattle.sm_judging.proofs.ChangeLemmas.{found_row_sound, found_change, unless_scheduled_change}
+use Rattle.sm_judging.proofs.ChangeLemmas.{found_row_sound, found_row_few, found_change, unless_scheduled_change}
 use Rattle.sm_upkeep.specs.declared.delete_secret.DeleteCall.{DeleteCall}
 use Rattle.sm_upkeep.specs.declared.delete_secret.Deletion.TheVariants.{Forced, After}
 use Rattle.sm_upkeep.specs.DeleteSecret.{window_days, HasEnd, delete_call, scheduled_at, delete_later, delete_found, delete_judgement, delete_refusal, deletes_nobody, without_row, drop_named, delete_effect}
@@ -66,38 +68,38 @@ later_refuses : (deletion : Option Moment) (reply : Reply) (change : Change)
 later_refuses None reply change = refl
 later_refuses (Some date) reply change = refl
 
-found_refuses : (force : Bool) (days : ℕ) (moment : Moment) (given : List ℕ) (row : Option SecretRow)
-    → refusal_told (delete_found row moment (cond force Forced (After days)) given)
+found_refuses : (force : Bool) (days : ℕ) (when : When) (given : List ℕ) (row : Option SecretRow)
+    → refusal_told (delete_found row when (cond force Forced (After days)) given)
     ≡ Some (cond force None (refusal_at row (λ _. None)))
-found_refuses true days moment given None = refl
-found_refuses true days moment given (Some row) = refl
-found_refuses false days moment given None = refl
-found_refuses false days moment given (Some row) = later_refuses row.deletion _ _
+found_refuses true days when given None = refl
+found_refuses true days when given (Some row) = refl
+found_refuses false days when given None = refl
+found_refuses false days when given (Some row) = later_refuses row.deletion _ _
 
-pub delete_refuses : (rows : Rows) (moment : Moment) (delete : DeleteSecret)
-    → refusal_told (delete_judgement rows moment delete) ≡ Some (delete_refusal rows moment delete)
-delete_refuses rows moment delete =
-    found_refuses delete.force_delete_without_recovery (window_days delete.recovery_window_in_days) moment
-    delete.secret_id (found rows moment (secret_id delete.secret_id))
+pub delete_refuses : (rows : Rows) (when : When) (delete : DeleteSecret)
+    → refusal_told (delete_judgement rows when delete) ≡ Some (delete_refusal rows when.moment delete)
+delete_refuses rows when delete =
+    found_refuses delete.force_delete_without_recovery (window_days delete.recovery_window_in_days) when
+    delete.secret_id (found rows when.moment (secret_id delete.secret_id))
 
 -- ---- when it changes nothing
 
-found_unchanged : (force : Bool) (days : ℕ) (moment : Moment) (given : List ℕ) (row : Option SecretRow)
-    → IfAccepted (delete_found row moment (cond force Forced (After days)) given)
+found_unchanged : (force : Bool) (days : ℕ) (when : When) (given : List ℕ) (row : Option SecretRow)
+    → IfAccepted (delete_found row when (cond force Forced (After days)) given)
     (λ change. is_none change ≡ (force && is_none row))
-found_unchanged true days moment given None = refl
-found_unchanged true days moment given (Some row) = refl
-found_unchanged false days moment given None = tt
-found_unchanged false days moment given (Some row) =
-    unless_scheduled_accepts row.deletion (delete_later row moment days) (λ change. is_none change ≡ false) refl
+found_unchanged true days when given None = refl
+found_unchanged true days when given (Some row) = refl
+found_unchanged false days when given None = tt
+found_unchanged false days when given (Some row) =
+    unless_scheduled_accepts row.deletion (delete_later row when days) (λ change. is_none change ≡ false) refl
 
 -- nothing is changed exactly where nobody is deleted
-pub delete_changes : (rows : Rows) (moment : Moment) (delete : DeleteSecret)
-    → IfAccepted (delete_judgement rows moment delete)
-    (λ change. is_none change ≡ deletes_nobody rows moment delete)
-delete_changes rows moment delete =
-    found_unchanged delete.force_delete_without_recovery (window_days delete.recovery_window_in_days) moment
-    delete.secret_id (found rows moment (secret_id delete.secret_id))
+pub delete_changes : (rows : Rows) (when : When) (delete : DeleteSecret)
+    → IfAccepted (delete_judgement rows when delete)
+    (λ change. is_none change ≡ deletes_nobody rows when.moment delete)
+delete_changes rows when delete =
+    found_unchanged delete.force_delete_without_recovery (window_days delete.recovery_window_in_days) when
+    delete.secret_id (found rows when.moment (secret_id delete.secret_id))
 
 -- ---- the row that is scheduled
 
@@ -153,43 +155,45 @@ dropped_change rows moment id row sound e =
 
 -- ---- the change
 
-later_change : (rows : Rows) (moment : Moment) (id : SecretId) (days : ℕ) (row : SecretRow) → Sound rows
-    → moment.0 ≤ LAST_READING → days ≤ LONGEST_WINDOW → found rows moment id ≡ Some row
-    → IfChange (delete_later row moment days) (IsChange rows moment
-    (settled (change_named (sweep rows moment) id moment (scheduled_at (days_after moment days)))))
-later_change rows moment id days row sound early short e =
-    found_change rows moment id (scheduled_at (days_after moment days)) row sound (kept_moment moment early) e
+later_change : (rows : Rows) (when : When) (id : SecretId) (days : ℕ) (row : SecretRow) → Sound rows
+    → when.moment.0 ≤ LAST_READING → days ≤ LONGEST_WINDOW → found rows when.moment id ≡ Some row
+    → IfChange (delete_later row when days) (IsChange rows when.moment
+    (settled (change_named (sweep rows when.moment) id when (scheduled_at (days_after when.moment days)))))
+later_change rows when id days row sound early short e =
+    found_change rows when id (scheduled_at (days_after when.moment days)) row sound (kept_moment when.moment early) e
     (record {
       serial = refl;
       name = refl;
       arn = refl;
-      sound = scheduled_sound (days_after moment days) row (end_is_date moment days early short)
-          (found_row_sound rows moment id row sound e);
+      sound = scheduled_sound (days_after when.moment days) row (end_is_date when.moment days early short)
+          (found_row_sound rows when.moment id row sound e);
+      few = few_counted (scheduled_at (days_after when.moment days) row) when
+          (found_row_few rows when.moment id row sound e);
     })
 
 -- the rows of the entry, by whether the deletion is forced
-abbrev effect_of : Bool → ℕ → Rows → Moment → SecretId → Rows
-effect_of force days rows moment id =
-    cond force (drop_named rows id) (change_named rows id moment (scheduled_at (days_after moment days)))
+abbrev effect_of : Bool → ℕ → Rows → When → SecretId → Rows
+effect_of force days rows when id =
+    cond force (drop_named rows id) (change_named rows id when (scheduled_at (days_after when.moment days)))
 
-by_found : (force : Bool) (days : ℕ) (rows : Rows) (moment : Moment) (id : SecretId) (given : List ℕ)
-    (row : Option SecretRow) → Sound rows → moment.0 ≤ LAST_READING → days ≤ LONGEST_WINDOW
-    → found rows moment id ≡ row
-    → IfChange (delete_found row moment (cond force Forced (After days)) given)
-    (IsChange rows moment (settled (effect_of force days (sweep rows moment) moment id)))
-by_found true days rows moment id given None sound early short e = tt
-by_found true days rows moment id given (Some row) sound early short e = dropped_change rows moment id row sound e
-by_found false days rows moment id given None sound early short e = tt
-by_found false days rows moment id given (Some row) sound early short e =
-    unless_scheduled_change row.deletion (delete_later row moment days) _
-    (later_change rows moment id days row sound early short e)
+by_found : (force : Bool) (days : ℕ) (rows : Rows) (when : When) (id : SecretId) (given : List ℕ)
+    (row : Option SecretRow) → Sound rows → when.moment.0 ≤ LAST_READING → days ≤ LONGEST_WINDOW
+    → found rows when.moment id ≡ row
+    → IfChange (delete_found row when (cond force Forced (After days)) given)
+    (IsChange rows when.moment (settled (effect_of force days (sweep rows when.moment) when id)))
+by_found true days rows when id given None sound early short e = tt
+by_found true days rows when id given (Some row) sound early short e = dropped_change rows when.moment id row sound e
+by_found false days rows when id given None sound early short e = tt
+by_found false days rows when id given (Some row) sound early short e =
+    unless_scheduled_change row.deletion (delete_later row when days) _
+    (later_change rows when id days row sound early short e)
 
 -- a change is the entry's
-pub delete_change : (rows : Rows) (moment : Moment) (delete : DeleteSecret) → Sound rows → moment.0 ≤ LAST_READING
+pub delete_change : (rows : Rows) (when : When) (delete : DeleteSecret) → Sound rows → when.moment.0 ≤ LAST_READING
     → delete_forms delete ≡ None
-    → IfChange (delete_judgement rows moment delete) (IsChange rows moment
-    (settled (delete_effect (sweep rows moment) moment delete)))
-delete_change rows moment delete sound early forms =
-    by_found delete.force_delete_without_recovery (window_days delete.recovery_window_in_days) rows moment
-    (secret_id delete.secret_id) delete.secret_id (found rows moment (secret_id delete.secret_id)) sound early
+    → IfChange (delete_judgement rows when delete) (IsChange rows when.moment
+    (settled (delete_effect (sweep rows when.moment) when delete)))
+delete_change rows when delete sound early forms =
+    by_found delete.force_delete_without_recovery (window_days delete.recovery_window_in_days) rows when
+    (secret_id delete.secret_id) delete.secret_id (found rows when.moment (secret_id delete.secret_id)) sound early
     (window_short delete.recovery_window_in_days (delete_window delete forms)) refl

@@ -52,7 +52,6 @@ revised_sound deletion tags row date are sound =
         tags = are.each;
         tag_once = are.once;
         policy = f.policy;
-        version_count = f.version_count;
         versions = f.versions;
         labels = f.labels;
         created = f.created;

@@ -13,6 +13,7 @@ use Rattle.sm_model.specs.declared.rows.SecretRow.{SecretRow}
 use Rattle.sm_model.specs.declared.why.Why.{Why}
 use Rattle.sm_model.specs.declared.why.Why.TheVariants.{NoSecret}
 use Rattle.sm_base.specs.declared.limits.TheConstants.{LONGEST_WINDOW, DEFAULT_WINDOW}
+use Rattle.sm_model.specs.Versions.{When}
 use Rattle.sm_dates.specs.Days.{days_after}
 use Rattle.sm_table.specs.Found.{named_by, found}
 use Rattle.sm_table.specs.Changes.{dropped}
@@ -74,24 +75,24 @@ abbrev pub delete_at_once : SecretRow → Moment → Judged
 delete_at_once row moment = Accept (replies.DeleteSecret (deleted row moment)) (Some (changes.Drop row.serial))
 
 -- the secret is scheduled for deletion at the end of the window
-abbrev pub delete_later : SecretRow → Moment → ℕ → Judged
-delete_later row moment days =
-    Accept (replies.DeleteSecret (deleted row (days_after moment days)))
-    (Some (changes.Replace (finished_row (scheduled_at (days_after moment days) row) moment)))
+abbrev pub delete_later : SecretRow → When → ℕ → Judged
+delete_later row when days =
+    Accept (replies.DeleteSecret (deleted row (days_after when.moment days)))
+    (Some (changes.Replace (finished_row (scheduled_at (days_after when.moment days) row) when)))
 
-abbrev pub delete_on : SecretRow → Moment → Deletion → Judged
-delete_on row moment Forced = delete_at_once row moment
-delete_on row moment (After days) = unless_scheduled row.deletion (delete_later row moment days)
+abbrev pub delete_on : SecretRow → When → Deletion → Judged
+delete_on row when Forced = delete_at_once row when.moment
+delete_on row when (After days) = unless_scheduled row.deletion (delete_later row when days)
 
-abbrev pub delete_found : Option SecretRow → Moment → Deletion → List ℕ → Judged
-delete_found None moment deletion given = delete_absent moment deletion given
-delete_found (Some row) moment deletion given = delete_on row moment deletion
+abbrev pub delete_found : Option SecretRow → When → Deletion → List ℕ → Judged
+delete_found None when deletion given = delete_absent when.moment deletion given
+delete_found (Some row) when deletion given = delete_on row when deletion
 
-abbrev pub delete_judged : Rows → Moment → DeleteCall → Judged
-delete_judged rows moment call = delete_found (found rows moment call.id) moment call.deletion call.given
+abbrev pub delete_judged : Rows → When → DeleteCall → Judged
+delete_judged rows when call = delete_found (found rows when.moment call.id) when call.deletion call.given
 
-abbrev pub delete_judgement : Rows → Moment → DeleteSecret → Judged
-delete_judgement rows moment delete = delete_judged rows moment (delete_call delete)
+abbrev pub delete_judgement : Rows → When → DeleteSecret → Judged
+delete_judgement rows when delete = delete_judged rows when (delete_call delete)
 
 -- ---- when it is refused, when it changes nothing, what it does to the rows
 
@@ -116,8 +117,8 @@ abbrev pub drop_named : Rows → SecretId → Rows
 drop_named rows id = record rows { secrets = without_row rows.secrets (named_by rows.secrets id) }
 
 -- where the deletion is forced the secret's row is gone; else it is gone from the end of the window on
-abbrev pub delete_effect : Rows → Moment → DeleteSecret → Rows
-delete_effect rows moment delete =
+abbrev pub delete_effect : Rows → When → DeleteSecret → Rows
+delete_effect rows when delete =
     if delete.force_delete_without_recovery then drop_named rows (secret_id delete.secret_id)
-    else change_named rows (secret_id delete.secret_id) moment
-    (scheduled_at (days_after moment (window_days delete.recovery_window_in_days)))
+    else change_named rows (secret_id delete.secret_id) when
+    (scheduled_at (days_after when.moment (window_days delete.recovery_window_in_days)))

@@ -12,6 +12,7 @@ use Rattle.sm_model.specs.declared.rows.Rows.{Rows}
 use Rattle.sm_model.specs.declared.rows.SecretRow.{SecretRow}
 use Rattle.sm_model.specs.declared.why.Why.{Why}
 use Rattle.sm_model.specs.declared.why.Why.TheVariants.{NoSecret}
+use Rattle.sm_model.specs.Versions.{When}
 use Rattle.sm_table.specs.Found.{found}
 use Rattle.sm_judging.specs.declared.judged.Judged.{Judged}
 use Rattle.sm_judging.specs.declared.judged.Judged.TheVariants.{Accept, Refuse}
@@ -29,16 +30,16 @@ restored row = record { arn = row.arn; name = row.name }
 
 -- ---- the judgement
 
-abbrev pub restore_on : SecretRow → Moment → Judged
-restore_on row moment = Accept (replies.RestoreSecret (restored row))
-    (Some (changes.Replace (finished_row (unscheduled row) moment)))
+abbrev pub restore_on : SecretRow → When → Judged
+restore_on row when = Accept (replies.RestoreSecret (restored row))
+    (Some (changes.Replace (finished_row (unscheduled row) when)))
 
-abbrev pub restore_found : Option SecretRow → Moment → Judged
-restore_found None moment = Refuse NoSecret
-restore_found (Some row) moment = restore_on row moment
+abbrev pub restore_found : Option SecretRow → When → Judged
+restore_found None when = Refuse NoSecret
+restore_found (Some row) when = restore_on row when
 
-abbrev pub restore_judgement : Rows → Moment → OfSecret → Judged
-restore_judgement rows moment restore = restore_found (found rows moment (secret_id restore.secret_id)) moment
+abbrev pub restore_judgement : Rows → When → OfSecret → Judged
+restore_judgement rows when restore = restore_found (found rows when.moment (secret_id restore.secret_id)) when
 
 -- ---- when it is refused, what it does to the rows
 
@@ -51,5 +52,5 @@ abbrev pub restore_refusal : Rows → Moment → OfSecret → Option Why
 restore_refusal rows moment restore = unless_there (found rows moment (secret_id restore.secret_id))
 
 -- the secret's row without a deletion date
-abbrev pub restore_effect : Rows → Moment → OfSecret → Rows
-restore_effect rows moment restore = change_named rows (secret_id restore.secret_id) moment unscheduled
+abbrev pub restore_effect : Rows → When → OfSecret → Rows
+restore_effect rows when restore = change_named rows (secret_id restore.secret_id) when unscheduled

@@ -14,6 +14,7 @@ use Rattle.sm_model.specs.declared.why.What.TheVariants.{Tags}
 use Rattle.sm_model.specs.declared.why.Why.{Why}
 use Rattle.sm_model.specs.declared.why.Why.TheVariants.{Limit}
 use Rattle.sm_base.specs.Texts.{same_text}
+use Rattle.sm_model.specs.Versions.{When}
 use Rattle.sm_table.specs.Found.{found}
 use Rattle.sm_judging.specs.declared.judged.Judged.{Judged}
 use Rattle.sm_judging.specs.declared.judged.Judged.TheVariants.{Accept, Refuse}
@@ -44,18 +45,18 @@ abbrev pub has_too_many_tags : List Tag → Bool
 has_too_many_tags tags = nat_lt TAGS_LIMIT (length tags)
 
 -- the row with these tags takes the place of the old one
-abbrev pub tag_within_limit : SecretRow → Moment → List Tag → Judged
-tag_within_limit row moment tags =
-    Accept replies.TagResource (Some (changes.Replace (finished_row (record row { tags = tags }) moment)))
+abbrev pub tag_within_limit : SecretRow → When → List Tag → Judged
+tag_within_limit row when tags =
+    Accept replies.TagResource (Some (changes.Replace (finished_row (record row { tags = tags }) when)))
 
-abbrev pub tag_on : SecretRow → Moment → List Tag → Judged
-tag_on row moment tags =
+abbrev pub tag_on : SecretRow → When → List Tag → Judged
+tag_on row when tags =
     if has_too_many_tags (with_tags row.tags tags) then Refuse (Limit TAGS_LIMIT Tags)
-    else tag_within_limit row moment (with_tags row.tags tags)
+    else tag_within_limit row when (with_tags row.tags tags)
 
-abbrev pub tag_judgement : Rows → Moment → TagResource → Judged
-tag_judgement rows moment tag =
-    with_secret rows moment (secret_id tag.secret_id) (λ row. tag_on row moment tag.tags)
+abbrev pub tag_judgement : Rows → When → TagResource → Judged
+tag_judgement rows when tag =
+    with_secret rows when.moment (secret_id tag.secret_id) (λ row. tag_on row when tag.tags)
 
 -- ---- when it is refused, what it does to the rows
 
@@ -68,5 +69,5 @@ tag_refusal rows moment tag =
     refusal_at (found rows moment (secret_id tag.secret_id)) (λ row. tag_refusal_on row tag.tags)
 
 -- the secret's row with the tags
-abbrev pub tag_effect : Rows → Moment → TagResource → Rows
-tag_effect rows moment tag = change_named rows (secret_id tag.secret_id) moment (tagged tag.tags)
+abbrev pub tag_effect : Rows → When → TagResource → Rows
+tag_effect rows when tag = change_named rows (secret_id tag.secret_id) when (tagged tag.tags)

@@ -10,6 +10,7 @@ use Rattle.sm_model.specs.declared.rows.Rows.{Rows}
 use Rattle.sm_model.specs.declared.rows.SecretRow.{SecretRow}
 use Rattle.sm_model.specs.declared.value.Tag.{Tag}
 use Rattle.sm_model.specs.declared.why.Why.{Why}
+use Rattle.sm_model.specs.Versions.{When}
 use Rattle.sm_versions.specs.Texts.{is_among}
 use Rattle.sm_table.specs.Found.{found}
 use Rattle.sm_judging.specs.declared.judged.Judged.{Judged}
@@ -30,13 +31,13 @@ untagged keys row = record row { tags = without_tags row.tags keys }
 
 -- ---- the judgement
 
-abbrev pub untag_on : SecretRow → Moment → List (List ℕ) → Judged
-untag_on row moment keys =
-    Accept replies.UntagResource (Some (changes.Replace (finished_row (untagged keys row) moment)))
+abbrev pub untag_on : SecretRow → When → List (List ℕ) → Judged
+untag_on row when keys =
+    Accept replies.UntagResource (Some (changes.Replace (finished_row (untagged keys row) when)))
 
-abbrev pub untag_judgement : Rows → Moment → UntagResource → Judged
-untag_judgement rows moment untag =
-    with_secret rows moment (secret_id untag.secret_id) (λ row. untag_on row moment untag.tag_keys)
+abbrev pub untag_judgement : Rows → When → UntagResource → Judged
+untag_judgement rows when untag =
+    with_secret rows when.moment (secret_id untag.secret_id) (λ row. untag_on row when untag.tag_keys)
 
 -- ---- when it is refused, what it does to the rows
 
@@ -45,5 +46,5 @@ abbrev pub untag_refusal : Rows → Moment → UntagResource → Option Why
 untag_refusal rows moment untag = refusal_at (found rows moment (secret_id untag.secret_id)) (λ row. None)
 
 -- the secret's row without the tags
-abbrev pub untag_effect : Rows → Moment → UntagResource → Rows
-untag_effect rows moment untag = change_named rows (secret_id untag.secret_id) moment (untagged untag.tag_keys)
+abbrev pub untag_effect : Rows → When → UntagResource → Rows
+untag_effect rows when untag = change_named rows (secret_id untag.secret_id) when (untagged untag.tag_keys)

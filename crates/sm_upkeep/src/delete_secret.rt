@@ -17,6 +17,7 @@ use sm_model::{
     Text, Why,
 };
 use sm_table::Table;
+use sm_versions::When;
 use std::alloc::Global;
 
 /// How a secret is deleted.
@@ -42,15 +43,15 @@ pub struct DeleteCall {
 pub fn judge_delete(
     alloc: Global,
     table: &Table,
-    moment: Moment,
+    when: When,
     delete: &DeleteSecret,
 ) -> Result<Judged, NoMemory>
     requires forms { delete_forms delete.now ≡ None }
-    requires moment { moment.0 ≤ LAST_READING }
-    ensures { IfOk result (λ judged. judged ≡ delete_judgement table.now moment delete.now) }
+    requires moment { when.moment.0 ≤ LAST_READING }
+    ensures { IfOk result (λ judged. judged ≡ delete_judgement table.now when delete.now) }
 {
     let call = delete_call(alloc, delete)?;
-    judge_call(alloc, table, moment, call)
+    judge_call(alloc, table, when, call)
 }
 
 // ---- the members
@@ -97,16 +98,16 @@ fn deletion_of(delete: &DeleteSecret) -> Deletion
 fn judge_call(
     alloc: Global,
     table: &Table,
-    moment: Moment,
+    when: When,
     call: DeleteCall,
 ) -> Result<Judged, NoMemory>
-    requires moment { moment.0 ≤ LAST_READING }
+    requires moment { when.moment.0 ≤ LAST_READING }
     requires end { HasEnd call.deletion }
-    ensures { IfOk result (λ judged. judged ≡ delete_judged table.now moment call) }
+    ensures { IfOk result (λ judged. judged ≡ delete_judged table.now when call) }
 {
-    match table.find(&call.id, moment) {
-        Some(row) => delete_on(alloc, row, moment, call.deletion),
-        None => Ok(delete_absent(moment, call.deletion, call.given)),
+    match table.find(&call.id, when.moment) {
+        Some(row) => delete_on(alloc, row, when, call.deletion),
+        None => Ok(delete_absent(when.moment, call.deletion, call.given)),
     }
 }
 
@@ -127,16 +128,16 @@ fn delete_absent(moment: Moment, deletion: Deletion, given: Text) -> Judged
 fn delete_on(
     alloc: Global,
     row: &SecretRow,
-    moment: Moment,
+    when: When,
     deletion: Deletion,
 ) -> Result<Judged, NoMemory>
-    requires moment { moment.0 ≤ LAST_READING }
+    requires moment { when.moment.0 ≤ LAST_READING }
     requires end { HasEnd deletion }
-    ensures { IfOk result (λ judged. judged ≡ delete_on row.now moment deletion) }
+    ensures { IfOk result (λ judged. judged ≡ delete_on row.now when deletion) }
 {
     match deletion {
-        Deletion::Forced => delete_at_once(alloc, row, moment),
-        Deletion::After(days) => delete_unless_scheduled(alloc, row, moment, days),
+        Deletion::Forced => delete_at_once(alloc, row, when.moment),
+        Deletion::After(days) => delete_unless_scheduled(alloc, row, when, days),
     }
 }
 
@@ -152,35 +153,30 @@ fn delete_at_once(alloc: Global, row: &SecretRow, moment: Moment) -> Result<Judg
 fn delete_unless_scheduled(
     alloc: Global,
     row: &SecretRow,
-    moment: Moment,
+    when: When,
     days: u32,
 ) -> Result<Judged, NoMemory>
-    requires moment { moment.0 ≤ LAST_READING }
+    requires moment { when.moment.0 ≤ LAST_READING }
     requires days { days ≤ LONGEST_WINDOW }
-    ensures { IfOk result (λ judged. judged ≡ unless_scheduled row.now.deletion (delete_later row.now moment days)) }
+    ensures { IfOk result (λ judged. judged ≡ unless_scheduled row.now.deletion (delete_later row.now when days)) }
 {
     match row.deletion {
         Some(date) => Ok(Judged::Refuse(Why::Scheduled(date))),
-        None => delete_later(alloc, row, moment, days),
+        None => delete_later(alloc, row, when, days),
     }
 }
 
 /// Schedules the secret of this row for deletion.
-fn delete_later(
-    alloc: Global,
-    row: &SecretRow,
-    moment: Moment,
-    days: u32,
-) -> Result<Judged, NoMemory>
-    requires moment { moment.0 ≤ LAST_READING }
+fn delete_later(alloc: Global, row: &SecretRow, when: When, days: u32) -> Result<Judged, NoMemory>
+    requires moment { when.moment.0 ≤ LAST_READING }
     requires days { days ≤ LONGEST_WINDOW }
-    ensures { IfOk result (λ judged. judged ≡ delete_later row.now moment days) }
+    ensures { IfOk result (λ judged. judged ≡ delete_later row.now when days) }
 {
-    let date = window_end(moment, days);
+    let date = window_end(when.moment, days);
     let reply = deleted(alloc, row, date)?;
     let mut after = row.copy(alloc)?;
     after.deletion = Some(date);
-    finish(&mut after, moment);
+    finish(&mut after, when);
     Ok(Judged::Accept(Reply::DeleteSecret(reply), Some(Change::Replace(after))))
 }
 

@@ -7,8 +7,9 @@ use sm_base::copy_two;
 use sm_judging::Judged;
 use sm_judging::members::secret_id;
 use sm_judging::row_change::finish;
-use sm_model::{Change, Copied, Moment, NamedSecret, NoMemory, OfSecret, Reply, SecretRow, Why};
+use sm_model::{Change, Copied, NamedSecret, NoMemory, OfSecret, Reply, SecretRow, Why};
 use sm_table::Table;
+use sm_versions::When;
 use std::alloc::Global;
 
 /// Judges a RestoreSecret.
@@ -16,27 +17,27 @@ use std::alloc::Global;
 pub fn judge_restore(
     alloc: Global,
     table: &Table,
-    moment: Moment,
+    when: When,
     restore: &OfSecret,
 ) -> Result<Judged, NoMemory>
     requires { of_secret_forms restore.now ≡ None }
-    ensures { IfOk result (λ judged. judged ≡ restore_judgement table.now moment restore.now) }
+    ensures { IfOk result (λ judged. judged ≡ restore_judgement table.now when restore.now) }
 {
     let id = secret_id(alloc, &restore.secret_id)?;
-    match table.find(&id, moment) {
-        Some(row) => restore_on(alloc, row, moment),
+    match table.find(&id, when.moment) {
+        Some(row) => restore_on(alloc, row, when),
         None => Ok(Judged::Refuse(Why::NoSecret)),
     }
 }
 
 /// Takes the deletion date off a copy of the row, whether it has one or not.
-fn restore_on(alloc: Global, row: &SecretRow, moment: Moment) -> Result<Judged, NoMemory>
-    ensures { IfOk result (λ judged. judged ≡ restore_on row.now moment) }
+fn restore_on(alloc: Global, row: &SecretRow, when: When) -> Result<Judged, NoMemory>
+    ensures { IfOk result (λ judged. judged ≡ restore_on row.now when) }
 {
     let reply = restored(alloc, row)?;
     let mut after = row.copy(alloc)?;
     after.deletion = None;
-    finish(&mut after, moment);
+    finish(&mut after, when);
     Ok(Judged::Accept(Reply::RestoreSecret(reply), Some(Change::Replace(after))))
 }
 

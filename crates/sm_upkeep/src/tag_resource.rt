@@ -14,9 +14,10 @@ use sm_judging::Judged;
 use sm_judging::members::secret_id;
 use sm_judging::row_change::finish;
 use sm_model::{
-    Change, Copied, List, Moment, NoMemory, Reply, SecretRow, Tag, TagResource, Text, What, Why,
+    Change, Copied, List, NoMemory, Reply, SecretRow, Tag, TagResource, Text, What, Why,
 };
 use sm_table::Table;
+use sm_versions::When;
 use std::alloc::Global;
 
 /// Judges a TagResource.
@@ -24,15 +25,15 @@ use std::alloc::Global;
 pub fn judge_tag(
     alloc: Global,
     table: &Table,
-    moment: Moment,
+    when: When,
     tag: &TagResource,
 ) -> Result<Judged, NoMemory>
     requires { tag_forms tag.now ≡ None }
-    ensures { IfOk result (λ judged. judged ≡ tag_judgement table.now moment tag.now) }
+    ensures { IfOk result (λ judged. judged ≡ tag_judgement table.now when tag.now) }
 {
     let id = secret_id(alloc, &tag.secret_id)?;
-    match table.find(&id, moment) {
-        Some(row) => tag_unless_scheduled(alloc, row, moment, tag.tags.as_slice()),
+    match table.find(&id, when.moment) {
+        Some(row) => tag_unless_scheduled(alloc, row, when, tag.tags.as_slice()),
         None => Ok(Judged::Refuse(Why::NoSecret)),
     }
 }
@@ -43,45 +44,40 @@ pub fn judge_tag(
 fn tag_unless_scheduled(
     alloc: Global,
     row: &SecretRow,
-    moment: Moment,
+    when: When,
     given: &[Tag],
 ) -> Result<Judged, NoMemory>
     requires { IsTrue (once (tag_keys given.now)) }
-    ensures { IfOk result (λ judged. judged ≡ unless_scheduled row.now.deletion (tag_on row.now moment given.now)) }
+    ensures { IfOk result (λ judged. judged ≡ unless_scheduled row.now.deletion (tag_on row.now when given.now)) }
 {
     match row.deletion {
         Some(date) => Ok(Judged::Refuse(Why::Scheduled(date))),
-        None => tag_on(alloc, row, moment, given),
+        None => tag_on(alloc, row, when, given),
     }
 }
 
 /// Tags the secret of this row, where it has few enough tags then. As no key is given twice, more tags than a secret
 /// may have are refused before any is copied.
 #[tactic(auto, using(crate::proofs::TagResourceLemmas::many_refuse))]
-fn tag_on(alloc: Global, row: &SecretRow, moment: Moment, given: &[Tag]) -> Result<Judged, NoMemory>
+fn tag_on(alloc: Global, row: &SecretRow, when: When, given: &[Tag]) -> Result<Judged, NoMemory>
     requires { IsTrue (once (tag_keys given.now)) }
-    ensures { IfOk result (λ judged. judged ≡ tag_on row.now moment given.now) }
+    ensures { IfOk result (λ judged. judged ≡ tag_on row.now when given.now) }
 {
     if given.len() > TAGS_LIMIT as usize {
         return Ok(Judged::Refuse(Why::Limit(TAGS_LIMIT, What::Tags)));
     }
-    tag_with(alloc, row, moment, given)
+    tag_with(alloc, row, when, given)
 }
 
 /// Puts the tags beside those that the secret has, where it has few enough tags then.
-fn tag_with(
-    alloc: Global,
-    row: &SecretRow,
-    moment: Moment,
-    given: &[Tag],
-) -> Result<Judged, NoMemory>
-    ensures { IfOk result (λ judged. judged ≡ tag_on row.now moment given.now) }
+fn tag_with(alloc: Global, row: &SecretRow, when: When, given: &[Tag]) -> Result<Judged, NoMemory>
+    ensures { IfOk result (λ judged. judged ≡ tag_on row.now when given.now) }
 {
     let tags = with_tags(alloc, row.tags.as_slice(), given)?;
     if has_too_many_tags(&tags) {
         return Ok(Judged::Refuse(Why::Limit(TAGS_LIMIT, What::Tags)));
     }
-    tag_within_limit(alloc, row, moment, tags)
+    tag_within_limit(alloc, row, when, tags)
 }
 
 /// Whether there are more tags than a secret may have.
@@ -95,14 +91,14 @@ fn has_too_many_tags(tags: &List<Tag>) -> bool
 fn tag_within_limit(
     alloc: Global,
     row: &SecretRow,
-    moment: Moment,
+    when: When,
     tags: List<Tag>,
 ) -> Result<Judged, NoMemory>
-    ensures { IfOk result (λ judged. judged ≡ tag_within_limit row.now moment tags) }
+    ensures { IfOk result (λ judged. judged ≡ tag_within_limit row.now when tags) }
 {
     let mut after = row.copy(alloc)?;
     after.tags = tags;
-    finish(&mut after, moment);
+    finish(&mut after, when);
     Ok(Judged::Accept(Reply::TagResource, Some(Change::Replace(after))))
 }
 

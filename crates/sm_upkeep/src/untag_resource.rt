@@ -10,10 +10,9 @@ use sm_base::list::copies;
 use sm_judging::Judged;
 use sm_judging::members::secret_id;
 use sm_judging::row_change::finish;
-use sm_model::{
-    Change, Copied, List, Moment, NoMemory, Reply, SecretRow, Tag, Text, UntagResource, Why,
-};
+use sm_model::{Change, Copied, List, NoMemory, Reply, SecretRow, Tag, Text, UntagResource, Why};
 use sm_table::Table;
+use sm_versions::When;
 use std::alloc::Global;
 
 /// Judges an UntagResource.
@@ -21,15 +20,15 @@ use std::alloc::Global;
 pub fn judge_untag(
     alloc: Global,
     table: &Table,
-    moment: Moment,
+    when: When,
     untag: &UntagResource,
 ) -> Result<Judged, NoMemory>
     requires { untag_forms untag.now ≡ None }
-    ensures { IfOk result (λ judged. judged ≡ untag_judgement table.now moment untag.now) }
+    ensures { IfOk result (λ judged. judged ≡ untag_judgement table.now when untag.now) }
 {
     let id = secret_id(alloc, &untag.secret_id)?;
-    match table.find(&id, moment) {
-        Some(row) => untag_unless_scheduled(alloc, row, moment, untag.tag_keys.as_slice()),
+    match table.find(&id, when.moment) {
+        Some(row) => untag_unless_scheduled(alloc, row, when, untag.tag_keys.as_slice()),
         None => Ok(Judged::Refuse(Why::NoSecret)),
     }
 }
@@ -38,30 +37,25 @@ pub fn judge_untag(
 fn untag_unless_scheduled(
     alloc: Global,
     row: &SecretRow,
-    moment: Moment,
+    when: When,
     keys: &[Text],
 ) -> Result<Judged, NoMemory>
-    ensures { IfOk result (λ judged. judged ≡ unless_scheduled row.now.deletion (untag_on row.now moment keys.now)) }
+    ensures { IfOk result (λ judged. judged ≡ unless_scheduled row.now.deletion (untag_on row.now when keys.now)) }
 {
     match row.deletion {
         Some(date) => Ok(Judged::Refuse(Why::Scheduled(date))),
-        None => untag_on(alloc, row, moment, keys),
+        None => untag_on(alloc, row, when, keys),
     }
 }
 
 /// Takes tags off a copy of the row.
-fn untag_on(
-    alloc: Global,
-    row: &SecretRow,
-    moment: Moment,
-    keys: &[Text],
-) -> Result<Judged, NoMemory>
-    ensures { IfOk result (λ judged. judged ≡ untag_on row.now moment keys.now) }
+fn untag_on(alloc: Global, row: &SecretRow, when: When, keys: &[Text]) -> Result<Judged, NoMemory>
+    ensures { IfOk result (λ judged. judged ≡ untag_on row.now when keys.now) }
 {
     let tags = without_tags(alloc, row.tags.as_slice(), keys)?;
     let mut after = row.copy(alloc)?;
     after.tags = tags;
-    finish(&mut after, moment);
+    finish(&mut after, when);
     Ok(Judged::Accept(Reply::UntagResource, Some(Change::Replace(after))))
 }
 

@@ -6,7 +6,7 @@ use Rattle.std.proofs.lemmas.Grind.{common_steps}
 use Rattle.sm_base.specs.declared.moment.Moment.{Moment}
 use Rattle.sm_model.specs.declared.entry.Change.{Change}
 use Rattle.sm_model.specs.declared.entry.Change.TheVariants as changes
-use Rattle.sm_base.specs.declared.limits.TheConstants.{SECRETS_LIMIT, TAGS_LIMIT}
+use Rattle.sm_base.specs.declared.limits.TheConstants.{SECRETS_LIMIT, TAGS_LIMIT, VERSIONS_LIMIT}
 use Rattle.sm_model.specs.declared.reply.Reply.{Reply}
 use Rattle.sm_model.specs.declared.request.CreateSecret.{CreateSecret}
 use Rattle.sm_model.specs.declared.rows.Rows.{Rows}
@@ -178,7 +178,6 @@ empty_fits serial moment call date few fit = record {
   tags = fit.tags.0;
   tag_once = fit.tags.1;
   policy = refl;
-  version_count = omega arith;
   versions = refl;
   labels = omega arith;
   created = date;
@@ -199,7 +198,6 @@ with_first_fits row moment (Some first) date small fit = record {
   tags = fit.tags;
   tag_once = fit.tag_once;
   policy = fit.policy;
-  version_count = omega arith;
   versions = and_from _ _ (and_from _ _ (and_from _ _ small refl) date) refl;
   labels = omega (arith, none_own first);
   created = fit.created;
@@ -237,6 +235,11 @@ abbrev AddsRow : Rows → Moment → List ℕ → CreateSecret → Change → Ty
 AddsRow rows moment drawn create = IsChange rows moment
     (settled (create_effect (sweep rows moment) moment drawn create))
 
+first_few : (row : SecretRow) (moment : Moment) (first : Option NewValue) → row.versions ≡ []
+    → length (with_first row moment first).versions ≤ VERSIONS_LIMIT
+first_few row moment None none = let count : length row.versions ≡ 0 = ap length none in omega (arith, count)
+first_few row moment (Some first) none = omega arith
+
 add_is_change : (rows : Rows) (moment : Moment) (drawn : List ℕ) (create : CreateSecret) → Sound rows
     → IsTrue (is_date moment)
     → create_forms create ≡ None → 6 ≤ length drawn → has_too_many_tags (create_call drawn create).details.tags ≡ false
@@ -256,7 +259,10 @@ add_is_change rows moment drawn create sound date forms room few full none =
           (sweep_sound rows moment sound).each (settle_stays _ current)));
       can = (same.0, grind (arith, nat_tests, full), fits.arn);
       stands = not_none _ (ap (row_named (swept rows.secrets moment)) same.1 ∙ none);
-      sound = (record { kept = current; fits = fits }, grind (arith, nat_tests, full));
+      sound = (
+        record { kept = current; fits = fits; version_count = first_few empty moment call.first refl },
+        grind (arith, nat_tests, full),
+      );
     }
 
 new_change : (many full : Bool) (judged : Judged) (why other : Why) (P : Change → Type 0)

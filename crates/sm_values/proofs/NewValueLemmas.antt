@@ -1,7 +1,7 @@
 -- A new value for a secret: what is drawn for it, when it is refused, when it is a repeat, and what it changes.
 use Rattle.std.proofs.Common.{◌≡◌, ℕ, ◌≤◌, Bool, true, false, not, ◌||◌, ◌&&◌, cond, List, [], ◌∷◌, Option, Some, None, is_some, is_none, IfNone, IfSome, IsTrue, refl, sym, ap, subst, ◌∙◌}
 use Rattle.std.specs.Option.{option_and_then}
-use Rattle.sm_base.specs.declared.moment.Moment.{Moment}
+use Rattle.sm_model.specs.Versions.{When, is_full_when}
 use Rattle.sm_model.specs.declared.entry.Change.{Change}
 use Rattle.sm_base.specs.declared.limits.TheConstants.{VERSIONS_LIMIT, LABELS_LIMIT}
 use Rattle.sm_model.specs.declared.rows.SecretRow.{SecretRow}
@@ -17,7 +17,7 @@ use Rattle.sm_versions.specs.declared.values.PutDone.{PutDone}
 use Rattle.sm_versions.specs.declared.values.PutDone.TheVariants as puts
 use Rattle.sm_versions.specs.Labels.{place_all}
 use Rattle.sm_versions.specs.Versions.{version_of, same_value, is_value, same}
-use Rattle.sm_versions.specs.Put.{has_too_many, is_full, put_held, put_answer_on, put_answer, put_row}
+use Rattle.sm_versions.specs.Put.{has_too_many, put_held, put_answer_on, put_answer, put_row}
 use Rattle.sm_versions.proofs.VersionLemmas.{value_of_is}
 use Rattle.sm_judging.specs.declared.judged.Judged.{Judged}
 use Rattle.sm_judging.specs.Judged.{refusal_told, IfAccepted, IfChange}
@@ -86,18 +86,19 @@ held_refuses true many after token shown = refl
 held_refuses false many after token shown = refl
 
 -- the tests on a row by the version of the token, and by its value
-by_version : (row after : SecretRow) (new : NewValue) (labels : List (List ℕ)) (version : Option VersionRow)
-    → refused_in (placed_by (put_answer_on row new.token new.value labels version) after new.token)
+by_version : (row after : SecretRow) (new : NewValue) (labels : List (List ℕ)) (when : When)
+    (version : Option VersionRow)
+    → refused_in (placed_by (put_answer_on row new.token new.value labels when version) after new.token)
     ≡ first_refusal
     (refuse_if (has_other_value version new.value) (OtherValue new.token)
-    ∷ refuse_if (is_none version && is_full row) (Limit VERSIONS_LIMIT Versions)
+    ∷ refuse_if (is_none version && is_full_when row when) (Limit VERSIONS_LIMIT Versions)
     ∷ refuse_if (not (is_value (option_and_then (λ v. v.value) version) new.value)
     && has_too_many (place_all row.labels labels new.token))
     (Limit LABELS_LIMIT Labels)
     ∷ [])
-by_version row after new labels None =
-    new_refuses (is_full row) (has_too_many (place_all row.labels labels new.token)) after new.token
-by_version row after new labels (Some version) = by_value version.value
+by_version row after new labels when None =
+    new_refuses (is_full_when row when) (has_too_many (place_all row.labels labels new.token)) after new.token
+by_version row after new labels when (Some version) = by_value version.value
   where
     by_value : (kept : Option Value)
         → refused_in (placed_by (put_held row new.token new.value labels kept) after new.token)
@@ -112,13 +113,14 @@ by_version row after new labels (Some version) = by_value version.value
         held_refuses (same_value kept new.value) (has_too_many (place_all row.labels labels new.token)) after new.token
         _
 
-pub value_refuses : (row : SecretRow) (new : NewValue) (labels : List (List ℕ)) (moment : Moment)
-    → refused_in (placed row new labels moment) ≡ value_refusal row new labels
-value_refuses row new labels moment =
-    by_version row (put_row row new.token new.value labels moment) new labels (version_of row.versions new.token)
+pub value_refuses : (row : SecretRow) (new : NewValue) (labels : List (List ℕ)) (when : When)
+    → refused_in (placed row new labels when) ≡ value_refusal row new labels when
+value_refuses row new labels when =
+    by_version row (put_row row new.token new.value labels when.moment) new labels when
+    (version_of row.versions new.token)
     ∙ ap (λ (kept : Option Value). first_refusal
     (refuse_if (has_other_value (version_of row.versions new.token) new.value) (OtherValue new.token)
-    ∷ refuse_if (is_none (version_of row.versions new.token) && is_full row) (Limit VERSIONS_LIMIT Versions)
+    ∷ refuse_if (is_none (version_of row.versions new.token) && is_full_when row when) (Limit VERSIONS_LIMIT Versions)
     ∷ refuse_if (not (is_value kept new.value) && has_too_many (place_all row.labels labels new.token))
     (Limit LABELS_LIMIT Labels)
     ∷ []))
@@ -153,12 +155,13 @@ held_repeats : (same : Bool) (after : SecretRow) (token : List ℕ) (shown : Lis
 held_repeats true after token shown = refl
 held_repeats false after token shown = tt
 
-repeats_by : (row after : SecretRow) (new : NewValue) (labels : List (List ℕ)) (version : Option VersionRow)
-    → IfPlaced (placed_by (put_answer_on row new.token new.value labels version) after new.token)
+repeats_by : (row after : SecretRow) (new : NewValue) (labels : List (List ℕ)) (when : When)
+    (version : Option VersionRow)
+    → IfPlaced (placed_by (put_answer_on row new.token new.value labels when version) after new.token)
     (λ repeats. repeats ≡ is_value (option_and_then (λ v. v.value) version) new.value)
-repeats_by row after new labels None =
-    new_repeats (is_full row) (has_too_many (place_all row.labels labels new.token)) after new.token
-repeats_by row after new labels (Some version) = by_value version.value
+repeats_by row after new labels when None =
+    new_repeats (is_full_when row when) (has_too_many (place_all row.labels labels new.token)) after new.token
+repeats_by row after new labels when (Some version) = by_value version.value
   where
     by_value : (kept : Option Value)
         → IfPlaced (placed_by (put_held row new.token new.value labels kept) after new.token)
@@ -166,13 +169,14 @@ repeats_by row after new labels (Some version) = by_value version.value
     by_value None = new_repeats false (has_too_many (place_all row.labels labels new.token)) after new.token
     by_value (Some kept) = held_repeats (same_value kept new.value) after new.token _
 
-pub value_repeats : (row : SecretRow) (new : NewValue) (labels : List (List ℕ)) (moment : Moment)
-    → IfPlaced (placed row new labels moment) (λ repeats. repeats ≡ same row new.token new.value)
-value_repeats row new labels moment =
-    subst (λ (kept : Option Value). IfPlaced (placed row new labels moment)
+pub value_repeats : (row : SecretRow) (new : NewValue) (labels : List (List ℕ)) (when : When)
+    → IfPlaced (placed row new labels when) (λ repeats. repeats ≡ same row new.token new.value)
+value_repeats row new labels when =
+    subst (λ (kept : Option Value). IfPlaced (placed row new labels when)
     (λ repeats. repeats ≡ is_value kept new.value))
     (sym (value_of_is row.versions new.token))
-    (repeats_by row (put_row row new.token new.value labels moment) new labels (version_of row.versions new.token))
+    (repeats_by row (put_row row new.token new.value labels when.moment) new labels when
+    (version_of row.versions new.token))
 
 -- nothing is changed exactly where putting the value is a repeat
 pub judged_repeats : (done : Placed) (accept : SecretRow → Judged) (repeat : Judged) (wanted : Bool)
@@ -198,11 +202,12 @@ by_done (puts.TooManyLabels limit) row after token accept repeat P accepts repea
 by_done puts.Memory row after token accept repeat P accepts repeats = tt
 
 -- a change is of the row with the value
-pub judged_change : (row : SecretRow) (new : NewValue) (labels : List (List ℕ)) (moment : Moment)
+pub judged_change : (row : SecretRow) (new : NewValue) (labels : List (List ℕ)) (when : When)
     (accept : SecretRow → Judged) (repeat : Judged) (P : Change → Type 0)
-    → (put_answer row new.token new.value labels ≡ puts.Added
-    → IfChange (accept (put_row row new.token new.value labels moment)) P)
-    → IfChange repeat P → IfChange (judged_by (placed row new labels moment) accept repeat) P
-judged_change row new labels moment accept repeat P accepts repeats =
-    by_done (put_answer row new.token new.value labels) row (put_row row new.token new.value labels moment) new.token
+    → (put_answer row new.token new.value labels when ≡ puts.Added
+    → IfChange (accept (put_row row new.token new.value labels when.moment)) P)
+    → IfChange repeat P → IfChange (judged_by (placed row new labels when) accept repeat) P
+judged_change row new labels when accept repeat P accepts repeats =
+    by_done (put_answer row new.token new.value labels when) row
+    (put_row row new.token new.value labels when.moment) new.token
     accept repeat P accepts repeats

@@ -1,7 +1,7 @@
 -- Judging PutSecretValue: its members, when it is refused, when it repeats, and what it changes.
 use Rattle.std.proofs.Common.{◌≡◌, ℕ, ◌≤◌, Bool, true, false, ◌||◌, cond, List, [], ◌∷◌, ◌++◌, Option, Some, None, is_some, is_none, IfSome, IsTrue, refl, ap, ◌∙◌, arith}
 use Rattle.std.proofs.lemmas.Bool.{or_right}
-use Rattle.sm_base.specs.declared.moment.Moment.{Moment}
+use Rattle.sm_model.specs.Versions.{When}
 use Rattle.sm_base.specs.SecretId.{secret_id}
 use Rattle.sm_model.specs.declared.request.PutSecretValue.{PutSecretValue}
 use Rattle.sm_model.specs.declared.rows.Rows.{Rows}
@@ -16,6 +16,7 @@ use Rattle.sm_model.specs.Labels.{aws_current, holder}
 use Rattle.sm_versions.specs.Versions.{same}
 use Rattle.sm_versions.specs.Kept.{will_have_current}
 use Rattle.sm_versions.proofs.TextLemmas.{same_text_itself}
+use Rattle.sm_versions.proofs.CountLaws.{put_counted}
 use Rattle.sm_versions.proofs.SoundLaws.{put_sound, put_same_secret}
 use Rattle.sm_table.specs.Sweep.{sweep}
 use Rattle.sm_table.specs.Found.{found}
@@ -26,7 +27,7 @@ use Rattle.sm_judging.specs.Judged.{refusal_told, IfAccepted, IfChange}
 use Rattle.sm_judging.specs.Members.{value_of}
 use Rattle.sm_judging.specs.Secrets.{finished_row}
 use Rattle.sm_judging.proofs.JudgedLemmas.{on_secret_refusal, on_secret_repeat}
-use Rattle.sm_judging.proofs.ChangeLemmas.{OnRow, on_secret_change, found_row_sound, found_change}
+use Rattle.sm_judging.proofs.ChangeLemmas.{OnRow, on_secret_change, found_row_sound, found_row_few, found_change}
 use Rattle.sm_values.specs.declared.new_value.NewValue.{NewValue}
 use Rattle.sm_values.specs.declared.put_secret_value.PutCall.{PutCall}
 use Rattle.sm_values.specs.NewValue.{new_value, placed}
@@ -55,57 +56,58 @@ pub call_of_value : (call : PutCall) (drawn : List ℕ) (put : PutSecretValue) (
 call_of_value call drawn put value e valued = e ∙ ap (put_call_with put) valued
 
 -- the judgement of a request is that of its members
-pub judged_of_call : (judged : Judged) (rows : Rows) (moment : Moment) (call : PutCall) (drawn : List ℕ)
+pub judged_of_call : (judged : Judged) (rows : Rows) (when : When) (call : PutCall) (drawn : List ℕ)
     (put : PutSecretValue)
-    → judged ≡ put_judged rows moment call → Some call ≡ put_call drawn put → judged
-    ≡ put_judgement rows moment drawn put
-judged_of_call judged rows moment call drawn put e is = e ∙ ap (put_judgement_of rows moment) is
+    → judged ≡ put_judged rows when call → Some call ≡ put_call drawn put → judged
+    ≡ put_judgement rows when drawn put
+judged_of_call judged rows when call drawn put e is = e ∙ ap (put_judgement_of rows when) is
 
 -- ---- refusals
 
-on_refuses : (row : SecretRow) (moment : Moment) (call : PutCall) → refusal_told (put_on row moment call)
-    ≡ Some (put_refusal_on row call)
-on_refuses row moment call =
+on_refuses : (row : SecretRow) (when : When) (call : PutCall) → refusal_told (put_on row when call)
+    ≡ Some (put_refusal_on row when call)
+on_refuses row when call =
     let labels : List (List ℕ) = labels_placed row call.labels in
-    judged_refuses (placed row call.value labels moment)
-    (λ after. put_accepted (finished_row after moment) call.value.token) (put_repeated row call.value.token)
+    judged_refuses (placed row call.value labels when)
+    (λ after. put_accepted (finished_row after when) call.value.token) (put_repeated row call.value.token)
     (λ after. refl) refl
-    ∙ ap (λ why. Some why) (value_refuses row call.value labels moment)
+    ∙ ap (λ why. Some why) (value_refuses row call.value labels when)
 
-of_refuses : (rows : Rows) (moment : Moment) (call : Option PutCall)
-    → refusal_told (put_judgement_of rows moment call) ≡ Some (put_refusal_of rows moment call)
-of_refuses rows moment None = refl
-of_refuses rows moment (Some call) =
-    on_secret_refusal (found rows moment call.id) (λ row. put_on row moment call) (λ row. put_refusal_on row call)
-    (λ row. on_refuses row moment call)
+of_refuses : (rows : Rows) (when : When) (call : Option PutCall)
+    → refusal_told (put_judgement_of rows when call) ≡ Some (put_refusal_of rows when call)
+of_refuses rows when None = refl
+of_refuses rows when (Some call) =
+    on_secret_refusal (found rows when.moment call.id) (λ row. put_on row when call)
+    (λ row. put_refusal_on row when call)
+    (λ row. on_refuses row when call)
 
-pub put_refuses : (rows : Rows) (moment : Moment) (drawn : List ℕ) (put : PutSecretValue)
-    → refusal_told (put_judgement rows moment drawn put) ≡ Some (put_refusal rows moment drawn put)
-put_refuses rows moment drawn put = of_refuses rows moment (put_call drawn put)
+pub put_refuses : (rows : Rows) (when : When) (drawn : List ℕ) (put : PutSecretValue)
+    → refusal_told (put_judgement rows when drawn put) ≡ Some (put_refusal rows when drawn put)
+put_refuses rows when drawn put = of_refuses rows when (put_call drawn put)
 
 -- ---- repeats
 
-on_repeats : (row : SecretRow) (moment : Moment) (call : PutCall)
-    → IfAccepted (put_on row moment call) (λ change. is_none change ≡ same row call.value.token call.value.value)
-on_repeats row moment call =
+on_repeats : (row : SecretRow) (when : When) (call : PutCall)
+    → IfAccepted (put_on row when call) (λ change. is_none change ≡ same row call.value.token call.value.value)
+on_repeats row when call =
     let labels : List (List ℕ) = labels_placed row call.labels in
-    judged_repeats (placed row call.value labels moment)
-    (λ after. put_accepted (finished_row after moment) call.value.token) (put_repeated row call.value.token) _
+    judged_repeats (placed row call.value labels when)
+    (λ after. put_accepted (finished_row after when) call.value.token) (put_repeated row call.value.token) _
     (λ after. refl) refl
-    (value_repeats row call.value labels moment)
+    (value_repeats row call.value labels when)
 
-of_repeats : (rows : Rows) (moment : Moment) (call : Option PutCall)
-    → IfAccepted (put_judgement_of rows moment call) (λ change. is_none change ≡ put_repeat_of rows moment call)
-of_repeats rows moment None = tt
-of_repeats rows moment (Some call) =
-    on_secret_repeat (found rows moment call.id) (λ row. put_on row moment call)
+of_repeats : (rows : Rows) (when : When) (call : Option PutCall)
+    → IfAccepted (put_judgement_of rows when call) (λ change. is_none change ≡ put_repeat_of rows when.moment call)
+of_repeats rows when None = tt
+of_repeats rows when (Some call) =
+    on_secret_repeat (found rows when.moment call.id) (λ row. put_on row when call)
     (λ row. same row call.value.token call.value.value)
-    (λ row. on_repeats row moment call)
+    (λ row. on_repeats row when call)
 
 -- nothing is changed exactly by a repeat
-pub put_repeats : (rows : Rows) (moment : Moment) (drawn : List ℕ) (put : PutSecretValue)
-    → IfAccepted (put_judgement rows moment drawn put) (λ change. is_none change ≡ put_repeat rows moment drawn put)
-put_repeats rows moment drawn put = of_repeats rows moment (put_call drawn put)
+pub put_repeats : (rows : Rows) (when : When) (drawn : List ℕ) (put : PutSecretValue)
+    → IfAccepted (put_judgement rows when drawn put) (λ change. is_none change ≡ put_repeat rows when.moment drawn put)
+put_repeats rows when drawn put = of_repeats rows when (put_call drawn put)
 
 -- ---- the change
 
@@ -120,42 +122,44 @@ will_have row asked = by (is_some (holder row.labels aws_current))
     by true = refl
     by false = current_last asked
 
-on_change : (rows : Rows) (moment : Moment) (call : PutCall) (row : SecretRow) → Sound rows → IsTrue (is_date moment)
-    → IsTrue (is_small call.value.value) → found rows moment call.id ≡ Some row
-    → IfChange (put_on row moment call) (OnRow rows moment call.id (put_into call moment))
-on_change rows moment call row sound date small e =
+on_change : (rows : Rows) (when : When) (call : PutCall) (row : SecretRow) → Sound rows → IsTrue (is_date when.moment)
+    → IsTrue (is_small call.value.value) → found rows when.moment call.id ≡ Some row
+    → IfChange (put_on row when call) (OnRow rows when call.id (put_into call when.moment))
+on_change rows when call row sound date small e =
     let new : NewValue = call.value in
     let labels : List (List ℕ) = labels_placed row call.labels in
-    let same = put_same_secret row new.token new.value labels moment in
-    judged_change row new labels moment
-    (λ after. put_accepted (finished_row after moment) new.token) (put_repeated row new.token)
-    (OnRow rows moment call.id (put_into call moment))
-    (λ added. found_change rows moment call.id (put_into call moment) row sound date e (record {
+    let same = put_same_secret row new.token new.value labels when.moment in
+    judged_change row new labels when
+    (λ after. put_accepted (finished_row after when) new.token) (put_repeated row new.token)
+    (OnRow rows when call.id (put_into call when.moment))
+    (λ added. found_change rows when call.id (put_into call when.moment) row sound date e (record {
       serial = same.0;
       name = same.1;
       arn = same.2;
-      sound = put_sound row new.token new.value labels moment added (will_have row call.labels) small date
-          (found_row_sound rows moment call.id row sound e);
+      sound = put_sound row new.token new.value labels when added (will_have row call.labels) small date
+          (found_row_sound rows when.moment call.id row sound e);
+      few = put_counted row new.token new.value labels when added
+          (found_row_few rows when.moment call.id row sound e);
     }))
     tt
 
-of_change : (rows : Rows) (moment : Moment) (put : PutSecretValue) (value : Option NewValue) → Sound rows
-    → IsTrue (is_date moment)
+of_change : (rows : Rows) (when : When) (put : PutSecretValue) (value : Option NewValue) → Sound rows
+    → IsTrue (is_date when.moment)
     → IfSome value (λ new. IsTrue (is_small new.value))
-    → IfChange (put_judgement_of rows moment (put_call_with put value))
-    (IsChange rows moment (settled (put_effect_of (sweep rows moment) moment (put_call_with put value))))
-of_change rows moment put None sound date small = tt
-of_change rows moment put (Some value) sound date small =
-    on_secret_change (found rows moment (secret_id put.secret_id)) _ _
-    (λ row e. on_change rows moment _ row sound date small e)
+    → IfChange (put_judgement_of rows when (put_call_with put value))
+    (IsChange rows when.moment (settled (put_effect_of (sweep rows when.moment) when (put_call_with put value))))
+of_change rows when put None sound date small = tt
+of_change rows when put (Some value) sound date small =
+    on_secret_change (found rows when.moment (secret_id put.secret_id)) _ _
+    (λ row e. on_change rows when _ row sound date small e)
 
 -- a change is the entry's
-pub put_change : (rows : Rows) (moment : Moment) (drawn : List ℕ) (put : PutSecretValue) → Sound rows
-    → IsTrue (is_date moment)
+pub put_change : (rows : Rows) (when : When) (drawn : List ℕ) (put : PutSecretValue) → Sound rows
+    → IsTrue (is_date when.moment)
     → put_forms put ≡ None
-    → IfChange (put_judgement rows moment drawn put) (IsChange rows moment
-    (settled (put_effect (sweep rows moment) moment drawn put)))
-put_change rows moment drawn put sound date forms =
-    of_change rows moment put (put_value drawn put) sound date
+    → IfChange (put_judgement rows when drawn put) (IsChange rows when.moment
+    (settled (put_effect (sweep rows when.moment) when drawn put)))
+put_change rows when drawn put sound date forms =
+    of_change rows when put (put_value drawn put) sound date
     (new_small _ (value_of put.secret_string put.secret_binary)
     (value_small put.secret_string put.secret_binary (put_text put forms) (put_binary put forms)))

@@ -2,7 +2,7 @@
 -- AWS Secrets Manager API Reference: CreateSecret, PutSecretValue and UpdateSecret (ClientRequestToken, SecretString,
 -- SecretBinary); User Guide, "AWS Secrets Manager quotas".
 use Rattle.std.specs.Prelude.{ℕ, Bool, false, not, ◌&&◌, is_none, List, [], ◌∷◌, Option, Some, None}
-use Rattle.sm_base.specs.declared.moment.Moment.{Moment}
+use Rattle.sm_model.specs.Versions.{When, is_full_when}
 use Rattle.sm_base.specs.declared.limits.TheConstants.{VERSIONS_LIMIT, LABELS_LIMIT}
 use Rattle.sm_model.specs.declared.reply.VersionedSecret.{VersionedSecret}
 use Rattle.sm_model.specs.declared.rows.SecretRow.{SecretRow}
@@ -15,7 +15,7 @@ use Rattle.sm_versions.specs.declared.values.PutDone.{PutDone}
 use Rattle.sm_versions.specs.declared.values.PutDone.TheVariants as puts
 use Rattle.sm_versions.specs.Labels.{place_all}
 use Rattle.sm_versions.specs.Versions.{version_of, same_value, same}
-use Rattle.sm_versions.specs.Put.{has_too_many, is_full, put_answer, put_row}
+use Rattle.sm_versions.specs.Put.{has_too_many, put_answer, put_row}
 use Rattle.sm_judging.specs.declared.judged.Judged.{Judged}
 use Rattle.sm_judging.specs.declared.judged.Judged.TheVariants.{Refuse}
 use Rattle.sm_judging.specs.Members.{token_or_drawn, value_of}
@@ -54,9 +54,10 @@ placed_by (puts.TooManyLabels limit) after token = Refused (Limit limit Labels)
 placed_by puts.Memory after token = Refused Memory
 
 -- the value put into the secret, with these labels
-abbrev pub placed : SecretRow → NewValue → List (List ℕ) → Moment → Placed
-placed row new labels moment =
-    placed_by (put_answer row new.token new.value labels) (put_row row new.token new.value labels moment) new.token
+abbrev pub placed : SecretRow → NewValue → List (List ℕ) → When → Placed
+placed row new labels when =
+    placed_by (put_answer row new.token new.value labels when) (put_row row new.token new.value labels when.moment)
+    new.token
 
 -- the judgement by what putting the value comes to
 abbrev pub judged_by : Placed → (SecretRow → Judged) → Judged → Judged
@@ -80,14 +81,14 @@ abbrev pub has_other_value : Option VersionRow → Value → Bool
 has_other_value None value = false
 has_other_value (Some version) value = is_other version.value value
 
--- The token's version has no other value; where there is none, one may be added; and where the value is not there yet,
--- at most 20 labels besides those of AWS stand on the secret's versions after it.
-abbrev pub value_refusal : SecretRow → NewValue → List (List ℕ) → Option Why
-value_refusal row new labels =
+-- The token's version has no other value; where there is none, one may be added then; and where the value is not there
+-- yet, at most 20 labels besides those of AWS stand on the secret's versions after it.
+abbrev pub value_refusal : SecretRow → NewValue → List (List ℕ) → When → Option Why
+value_refusal row new labels when =
     let version = version_of row.versions new.token in
     first_refusal
     (refuse_if (has_other_value version new.value) (OtherValue new.token)
-    ∷ refuse_if (is_none version && is_full row) (Limit VERSIONS_LIMIT Versions)
+    ∷ refuse_if (is_none version && is_full_when row when) (Limit VERSIONS_LIMIT Versions)
     ∷ refuse_if (not (same row new.token new.value) && has_too_many (place_all row.labels labels new.token))
     (Limit LABELS_LIMIT Labels)
     ∷ [])

@@ -12,6 +12,7 @@ use Rattle.sm_model.specs.declared.rows.SecretRow.{SecretRow}
 use Rattle.sm_model.specs.declared.why.Why.{Why}
 use Rattle.sm_model.specs.declared.why.Why.TheVariants.{Form}
 use Rattle.sm_model.specs.Labels.{aws_current, holder}
+use Rattle.sm_model.specs.Versions.{When}
 use Rattle.sm_versions.specs.Versions.{same}
 use Rattle.sm_versions.specs.Put.{put_row}
 use Rattle.sm_table.specs.Found.{found}
@@ -77,33 +78,33 @@ put_accepted row token = Accept (replies.PutSecretValue (put_reply row token)) (
 abbrev pub put_repeated : SecretRow → List ℕ → Judged
 put_repeated row token = Accept (replies.PutSecretValue (put_reply row token)) None
 
-abbrev pub put_on : SecretRow → Moment → PutCall → Judged
-put_on row moment call =
-    judged_by (placed row call.value (labels_placed row call.labels) moment)
-    (λ after. put_accepted (finished_row after moment) call.value.token) (put_repeated row call.value.token)
+abbrev pub put_on : SecretRow → When → PutCall → Judged
+put_on row when call =
+    judged_by (placed row call.value (labels_placed row call.labels) when)
+    (λ after. put_accepted (finished_row after when) call.value.token) (put_repeated row call.value.token)
 
-abbrev pub put_judged : Rows → Moment → PutCall → Judged
-put_judged rows moment call = with_secret rows moment call.id (λ row. put_on row moment call)
+abbrev pub put_judged : Rows → When → PutCall → Judged
+put_judged rows when call = with_secret rows when.moment call.id (λ row. put_on row when call)
 
 -- a request without a value is refused as its forms refuse it
-abbrev pub put_judgement_of : Rows → Moment → Option PutCall → Judged
-put_judgement_of rows moment None = Refuse (Form (codes "SecretString"))
-put_judgement_of rows moment (Some call) = put_judged rows moment call
+abbrev pub put_judgement_of : Rows → When → Option PutCall → Judged
+put_judgement_of rows when None = Refuse (Form (codes "SecretString"))
+put_judgement_of rows when (Some call) = put_judged rows when call
 
-abbrev pub put_judgement : Rows → Moment → List ℕ → PutSecretValue → Judged
-put_judgement rows moment drawn put = put_judgement_of rows moment (put_call drawn put)
+abbrev pub put_judgement : Rows → When → List ℕ → PutSecretValue → Judged
+put_judgement rows when drawn put = put_judgement_of rows when (put_call drawn put)
 
 -- ---- when it is refused, when it is a repeat, what it does to the rows
 
-abbrev pub put_refusal_on : SecretRow → PutCall → Option Why
-put_refusal_on row call = value_refusal row call.value (labels_placed row call.labels)
+abbrev pub put_refusal_on : SecretRow → When → PutCall → Option Why
+put_refusal_on row when call = value_refusal row call.value (labels_placed row call.labels) when
 
-abbrev pub put_refusal_of : Rows → Moment → Option PutCall → Option Why
-put_refusal_of rows moment None = Some (Form (codes "SecretString"))
-put_refusal_of rows moment (Some call) = refusal_at (found rows moment call.id) (λ row. put_refusal_on row call)
+abbrev pub put_refusal_of : Rows → When → Option PutCall → Option Why
+put_refusal_of rows when None = Some (Form (codes "SecretString"))
+put_refusal_of rows when (Some call) = refusal_at (found rows when.moment call.id) (λ row. put_refusal_on row when call)
 
-abbrev pub put_refusal : Rows → Moment → List ℕ → PutSecretValue → Option Why
-put_refusal rows moment drawn put = put_refusal_of rows moment (put_call drawn put)
+abbrev pub put_refusal : Rows → When → List ℕ → PutSecretValue → Option Why
+put_refusal rows when drawn put = put_refusal_of rows when (put_call drawn put)
 
 -- the secret's version of the token has exactly the value
 abbrev pub put_repeat_of : Rows → Moment → Option PutCall → Bool
@@ -115,9 +116,9 @@ abbrev pub put_repeat : Rows → Moment → List ℕ → PutSecretValue → Bool
 put_repeat rows moment drawn put = put_repeat_of rows moment (put_call drawn put)
 
 -- the secret's row with the value, among those that are still there
-abbrev pub put_effect_of : Rows → Moment → Option PutCall → Rows
-put_effect_of rows moment None = rows
-put_effect_of rows moment (Some call) = change_named rows call.id moment (put_into call moment)
+abbrev pub put_effect_of : Rows → When → Option PutCall → Rows
+put_effect_of rows when None = rows
+put_effect_of rows when (Some call) = change_named rows call.id when (put_into call when.moment)
 
-abbrev pub put_effect : Rows → Moment → List ℕ → PutSecretValue → Rows
-put_effect rows moment drawn put = put_effect_of rows moment (put_call drawn put)
+abbrev pub put_effect : Rows → When → List ℕ → PutSecretValue → Rows
+put_effect rows when drawn put = put_effect_of rows when (put_call drawn put)

@@ -10,6 +10,7 @@ use Rattle.sm_model.specs.declared.rows.Rows.{Rows}
 use Rattle.sm_model.specs.declared.rows.SecretRow.{SecretRow}
 use Rattle.sm_model.specs.declared.why.Why.{Why}
 use Rattle.sm_model.specs.Labels.{aws_current}
+use Rattle.sm_model.specs.Versions.{When}
 use Rattle.sm_versions.specs.Put.{put_row}
 use Rattle.sm_table.specs.Found.{found}
 use Rattle.sm_judging.specs.declared.judged.Judged.{Judged}
@@ -56,9 +57,9 @@ update_into call moment row = redescribed call (with_value call.value moment row
 -- ---- the judgement
 
 -- what putting the value comes to, where one is given
-abbrev pub update_placed : Option NewValue → SecretRow → Moment → Placed
-update_placed None row moment = Added row
-update_placed (Some new) row moment = placed row new (aws_current ∷ []) moment
+abbrev pub update_placed : Option NewValue → SecretRow → When → Placed
+update_placed None row when = Added row
+update_placed (Some new) row when = placed row new (aws_current ∷ []) when
 
 -- the row takes the place of the old one
 abbrev pub update_accepted : SecretRow → Option (List ℕ) → Judged
@@ -69,29 +70,29 @@ update_accepted row version_id =
 abbrev pub update_repeated : SecretRow → Option (List ℕ) → Judged
 update_repeated row version_id = Accept (replies.UpdateSecret (versioned_secret row version_id)) None
 
-abbrev pub update_on : SecretRow → Moment → UpdateCall → Judged
-update_on row moment call =
-    judged_by (update_placed call.value row moment)
-    (λ after. update_accepted (finished_row (redescribed call after) moment) (token_of call.value))
+abbrev pub update_on : SecretRow → When → UpdateCall → Judged
+update_on row when call =
+    judged_by (update_placed call.value row when)
+    (λ after. update_accepted (finished_row (redescribed call after) when) (token_of call.value))
     (update_repeated row (token_of call.value))
 
-abbrev pub update_judged : Rows → Moment → UpdateCall → Judged
-update_judged rows moment call = with_secret rows moment call.id (λ row. update_on row moment call)
+abbrev pub update_judged : Rows → When → UpdateCall → Judged
+update_judged rows when call = with_secret rows when.moment call.id (λ row. update_on row when call)
 
-abbrev pub update_judgement : Rows → Moment → List ℕ → UpdateSecret → Judged
-update_judgement rows moment drawn update = update_judged rows moment (update_call drawn update)
+abbrev pub update_judgement : Rows → When → List ℕ → UpdateSecret → Judged
+update_judgement rows when drawn update = update_judged rows when (update_call drawn update)
 
 -- ---- when it is refused, when it is a repeat, what it does to the rows
 
 -- the tests of a value, where one is given
-abbrev pub update_refusal_on : SecretRow → Option NewValue → Option Why
-update_refusal_on row None = None
-update_refusal_on row (Some new) = value_refusal row new (aws_current ∷ [])
+abbrev pub update_refusal_on : SecretRow → When → Option NewValue → Option Why
+update_refusal_on row when None = None
+update_refusal_on row when (Some new) = value_refusal row new (aws_current ∷ []) when
 
-abbrev pub update_refusal : Rows → Moment → List ℕ → UpdateSecret → Option Why
-update_refusal rows moment drawn update =
-    refusal_at (found rows moment (secret_id update.secret_id))
-    (λ row. update_refusal_on row (update_call drawn update).value)
+abbrev pub update_refusal : Rows → When → List ℕ → UpdateSecret → Option Why
+update_refusal rows when drawn update =
+    refusal_at (found rows when.moment (secret_id update.secret_id))
+    (λ row. update_refusal_on row when (update_call drawn update).value)
 
 -- a value is given, and the secret's version of the token has exactly this value
 abbrev pub update_repeat : Rows → Moment → List ℕ → UpdateSecret → Bool
@@ -99,6 +100,6 @@ update_repeat rows moment drawn update =
     repeat_at (found rows moment (secret_id update.secret_id)) (λ row. is_repeat row (update_call drawn update).value)
 
 -- the secret's row with what is given, among those that are still there
-abbrev pub update_effect : Rows → Moment → List ℕ → UpdateSecret → Rows
-update_effect rows moment drawn update =
-    change_named rows (secret_id update.secret_id) moment (update_into (update_call drawn update) moment)
+abbrev pub update_effect : Rows → When → List ℕ → UpdateSecret → Rows
+update_effect rows when drawn update =
+    change_named rows (secret_id update.secret_id) when (update_into (update_call drawn update) when.moment)

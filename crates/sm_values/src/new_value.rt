@@ -7,10 +7,9 @@ ghost use Rattle.sm_values.specs.NewValue.{new_value, token_of, versioned_secret
 
 use sm_judging::members::{token_or_drawn, value_of};
 use sm_model::{
-    Bytes, Copied, Label, Moment, NoMemory, SecretRow, Text, Token, Value, VersionedSecret, What,
-    Why,
+    Bytes, Copied, Label, NoMemory, SecretRow, Text, Token, Value, VersionedSecret, What, Why,
 };
-use sm_versions::{PutDone, put};
+use sm_versions::{PutDone, When, put};
 use std::alloc::Global;
 
 /// A value that is given, under its token.
@@ -97,12 +96,12 @@ pub fn place(
     row: &SecretRow,
     new: &NewValue,
     labels: &[Label],
-    moment: Moment,
+    when: When,
 ) -> Result<Placed, NoMemory>
-    ensures { IfOk result (λ done. done ≡ placed row.now new.now labels.now moment) }
+    ensures { IfOk result (λ done. done ≡ placed row.now new.now labels.now when) }
 {
     let mut after = row.copy(alloc)?;
-    match put(alloc, &mut after, &new.token, &new.value, labels, moment) {
+    match put(alloc, &mut after, &new.token, &new.value, labels, when) {
         PutDone::Added => Ok(Placed::Added(after)),
         PutDone::Same(_) => Ok(Placed::Repeat),
         PutDone::Exists => Ok(Placed::Refused(Why::OtherValue(new.token.copy(alloc)?))),

@@ -14,10 +14,11 @@ use sm_judging::labels_shown::labels_shown;
 use sm_judging::members::{labels_of, secret_id};
 use sm_judging::row_change::finish;
 use sm_model::{
-    Change, Copied, Label, List, Moment, NoMemory, PutSecretValue, PutValue, Reply, SecretId,
-    SecretRow, Text, Token, Why,
+    Change, Copied, Label, List, NoMemory, PutSecretValue, PutValue, Reply, SecretId, SecretRow,
+    Text, Token, Why,
 };
 use sm_table::Table;
+use sm_versions::When;
 use sm_versions::labels::{current, holder};
 use std::alloc::Global;
 
@@ -34,16 +35,16 @@ pub struct PutCall {
 pub fn judge_put(
     alloc: Global,
     table: &Table,
-    moment: Moment,
+    when: When,
     drawn: &[u8],
     put: &PutSecretValue,
 ) -> Result<Judged, NoMemory>
     requires forms { put_forms put.now ≡ None }
     requires drawn { length drawn.now ≡ token_bytes put.now.client_request_token }
-    ensures { IfOk result (λ judged. judged ≡ put_judgement table.now moment drawn.now put.now) }
+    ensures { IfOk result (λ judged. judged ≡ put_judgement table.now when drawn.now put.now) }
 {
     let call = put_call(alloc, drawn, put)?;
-    judge_call(alloc, table, moment, &call)
+    judge_call(alloc, table, when, &call)
 }
 
 // ---- the members
@@ -103,16 +104,11 @@ fn only_current(alloc: Global) -> Result<List<Label>, NoMemory>
 // ---- the tests
 
 /// Judges a PutSecretValue by the secret that it names.
-fn judge_call(
-    alloc: Global,
-    table: &Table,
-    moment: Moment,
-    call: &PutCall,
-) -> Result<Judged, NoMemory>
-    ensures { IfOk result (λ judged. judged ≡ put_judged table.now moment call.now) }
+fn judge_call(alloc: Global, table: &Table, when: When, call: &PutCall) -> Result<Judged, NoMemory>
+    ensures { IfOk result (λ judged. judged ≡ put_judged table.now when call.now) }
 {
-    match table.find(&call.id, moment) {
-        Some(row) => put_unless_scheduled(alloc, row, moment, call),
+    match table.find(&call.id, when.moment) {
+        Some(row) => put_unless_scheduled(alloc, row, when, call),
         None => Ok(Judged::Refuse(Why::NoSecret)),
     }
 }
@@ -121,14 +117,14 @@ fn judge_call(
 fn put_unless_scheduled(
     alloc: Global,
     row: &SecretRow,
-    moment: Moment,
+    when: When,
     call: &PutCall,
 ) -> Result<Judged, NoMemory>
-    ensures { IfOk result (λ judged. judged ≡ unless_scheduled row.now.deletion (put_on row.now moment call.now)) }
+    ensures { IfOk result (λ judged. judged ≡ unless_scheduled row.now.deletion (put_on row.now when call.now)) }
 {
     match row.deletion {
         Some(date) => Ok(Judged::Refuse(Why::Scheduled(date))),
-        None => put_on(alloc, row, moment, call),
+        None => put_on(alloc, row, when, call),
     }
 }
 
@@ -155,17 +151,12 @@ fn labels_placed(
 }
 
 /// Puts the value into a copy of the row.
-fn put_on(
-    alloc: Global,
-    row: &SecretRow,
-    moment: Moment,
-    call: &PutCall,
-) -> Result<Judged, NoMemory>
-    ensures { IfOk result (λ judged. judged ≡ put_on row.now moment call.now) }
+fn put_on(alloc: Global, row: &SecretRow, when: When, call: &PutCall) -> Result<Judged, NoMemory>
+    ensures { IfOk result (λ judged. judged ≡ put_on row.now when call.now) }
 {
     let labels = labels_placed(alloc, row, &call.labels)?;
-    match place(alloc, row, &call.value, labels.as_slice(), moment)? {
-        Placed::Added(after) => accept(alloc, after, moment, &call.value.token),
+    match place(alloc, row, &call.value, labels.as_slice(), when)? {
+        Placed::Added(after) => accept(alloc, after, when, &call.value.token),
         Placed::Repeat => repeat(alloc, row, &call.value.token),
         Placed::Refused(why) => Ok(Judged::Refuse(why)),
     }
@@ -184,16 +175,11 @@ fn put_reply(alloc: Global, row: &SecretRow, token: &Token) -> Result<PutValue, 
 }
 
 /// The row with the value, to take the place of the old one.
-fn accept(
-    alloc: Global,
-    after: SecretRow,
-    moment: Moment,
-    token: &Token,
-) -> Result<Judged, NoMemory>
-    ensures { IfOk result (λ judged. judged ≡ put_accepted (finished_row after moment) token.now) }
+fn accept(alloc: Global, after: SecretRow, when: When, token: &Token) -> Result<Judged, NoMemory>
+    ensures { IfOk result (λ judged. judged ≡ put_accepted (finished_row after when) token.now) }
 {
     let mut after = after;
-    finish(&mut after, moment);
+    finish(&mut after, when);
     let reply = put_reply(alloc, &after, token)?;
     Ok(Judged::Accept(Reply::PutSecretValue(reply), Some(Change::Replace(after))))
 }

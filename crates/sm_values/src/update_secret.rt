@@ -10,10 +10,9 @@ use crate::new_value::{NewValue, Placed, new_value, place, token_of, versioned_s
 use sm_judging::Judged;
 use sm_judging::members::secret_id;
 use sm_judging::row_change::finish;
-use sm_model::{
-    Change, Copied, Moment, NoMemory, Reply, SecretId, SecretRow, Text, UpdateSecret, Why,
-};
+use sm_model::{Change, Copied, NoMemory, Reply, SecretId, SecretRow, Text, UpdateSecret, Why};
 use sm_table::Table;
+use sm_versions::When;
 use sm_versions::labels::current;
 use std::alloc::Global;
 
@@ -30,17 +29,17 @@ pub struct UpdateCall {
 pub fn judge_update(
     alloc: Global,
     table: &Table,
-    moment: Moment,
+    when: When,
     drawn: &[u8],
     update: &UpdateSecret,
 ) -> Result<Judged, NoMemory>
     requires forms { update_forms update.now ≡ None }
     requires drawn { token_bytes_if (is_some update.now.secret_string || is_some update.now.secret_binary)
         update.now.client_request_token ≤ length drawn.now }
-    ensures { IfOk result (λ judged. judged ≡ update_judgement table.now moment drawn.now update.now) }
+    ensures { IfOk result (λ judged. judged ≡ update_judgement table.now when drawn.now update.now) }
 {
     let call = update_call(alloc, drawn, update)?;
-    judge_call(alloc, table, moment, call)
+    judge_call(alloc, table, when, call)
 }
 
 // ---- the members
@@ -73,13 +72,13 @@ fn update_call(alloc: Global, drawn: &[u8], update: &UpdateSecret) -> Result<Upd
 fn judge_call(
     alloc: Global,
     table: &Table,
-    moment: Moment,
+    when: When,
     call: UpdateCall,
 ) -> Result<Judged, NoMemory>
-    ensures { IfOk result (λ judged. judged ≡ update_judged table.now moment call) }
+    ensures { IfOk result (λ judged. judged ≡ update_judged table.now when call) }
 {
-    match table.find(&call.id, moment) {
-        Some(row) => update_unless_scheduled(alloc, row, moment, call),
+    match table.find(&call.id, when.moment) {
+        Some(row) => update_unless_scheduled(alloc, row, when, call),
         None => Ok(Judged::Refuse(Why::NoSecret)),
     }
 }
@@ -88,14 +87,14 @@ fn judge_call(
 fn update_unless_scheduled(
     alloc: Global,
     row: &SecretRow,
-    moment: Moment,
+    when: When,
     call: UpdateCall,
 ) -> Result<Judged, NoMemory>
-    ensures { IfOk result (λ judged. judged ≡ unless_scheduled row.now.deletion (update_on row.now moment call)) }
+    ensures { IfOk result (λ judged. judged ≡ unless_scheduled row.now.deletion (update_on row.now when call)) }
 {
     match row.deletion {
         Some(date) => Ok(Judged::Refuse(Why::Scheduled(date))),
-        None => update_on(alloc, row, moment, call),
+        None => update_on(alloc, row, when, call),
     }
 }
 
@@ -103,13 +102,13 @@ fn update_unless_scheduled(
 fn update_on(
     alloc: Global,
     row: &SecretRow,
-    moment: Moment,
+    when: When,
     call: UpdateCall,
 ) -> Result<Judged, NoMemory>
-    ensures { IfOk result (λ judged. judged ≡ update_on row.now moment call) }
+    ensures { IfOk result (λ judged. judged ≡ update_on row.now when call) }
 {
-    match place_value(alloc, row, moment, &call.value)? {
-        Placed::Added(after) => accept(alloc, after, moment, call),
+    match place_value(alloc, row, when, &call.value)? {
+        Placed::Added(after) => accept(alloc, after, when, call),
         Placed::Repeat => repeat(alloc, row, &call.value),
         Placed::Refused(why) => Ok(Judged::Refuse(why)),
     }
@@ -119,13 +118,13 @@ fn update_on(
 fn place_value(
     alloc: Global,
     row: &SecretRow,
-    moment: Moment,
+    when: When,
     value: &Option<NewValue>,
 ) -> Result<Placed, NoMemory>
-    ensures { IfOk result (λ done. done ≡ update_placed value.now row.now moment) }
+    ensures { IfOk result (λ done. done ≡ update_placed value.now row.now when) }
 {
     match value {
-        Some(new) => place(alloc, row, new, &[current()], moment),
+        Some(new) => place(alloc, row, new, &[current()], when),
         None => Ok(Placed::Added(row.copy(alloc)?)),
     }
 }
@@ -141,20 +140,15 @@ fn replace(kept: &mut Option<Text>, given: Option<Text>)
 }
 
 /// The row with what is given, to take the place of the old one.
-fn accept(
-    alloc: Global,
-    after: SecretRow,
-    moment: Moment,
-    call: UpdateCall,
-) -> Result<Judged, NoMemory>
+fn accept(alloc: Global, after: SecretRow, when: When, call: UpdateCall) -> Result<Judged, NoMemory>
     ensures { IfOk result
-        (λ judged. judged ≡ update_accepted (finished_row (redescribed call after) moment) (token_of call.value)) }
+        (λ judged. judged ≡ update_accepted (finished_row (redescribed call after) when) (token_of call.value)) }
 {
     let version_id = token_of(alloc, &call.value)?;
     let mut after = after;
     replace(&mut after.description, call.description);
     replace(&mut after.kms, call.kms);
-    finish(&mut after, moment);
+    finish(&mut after, when);
     let reply = versioned_secret(alloc, &after, version_id)?;
     Ok(Judged::Accept(Reply::UpdateSecret(reply), Some(Change::Replace(after))))
 }

@@ -9,3 +9,6 @@ pub mod PropLemmas
 pub mod SoundLaws
 pub mod DueLaws
 pub mod PlaceLaws
+pub mod PruneLemmas
+pub mod PruneLaws
+pub mod CountLaws

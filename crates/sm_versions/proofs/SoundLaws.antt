@@ -1,5 +1,5 @@
 -- What put, move_label and settle keep of a sound secret.
-use Rattle.std.proofs.Common.{◌≡◌, ℕ, suc, ◌+◌, ◌≤◌, Bool, true, false, ◌&&◌, cond, List, [], ◌∷◌, ◌++◌, length, Option, Some, None, IsTrue, refl, ap, ◌∙◌, arith, length-append}
+use Rattle.std.proofs.Common.{◌≡◌, ℕ, suc, ◌+◌, ◌≤◌, Bool, true, false, ◌&&◌, cond, List, [], ◌∷◌, ◌++◌, length, Option, Some, None, IsTrue, refl, ap, ◌∙◌, arith}
 use Rattle.std.proofs.lemmas.Grind.{common_steps}
 use Rattle.std.proofs.lemmas.Bool.{and_parts, and_from}
 use Rattle.std.proofs.lemmas.Bool.Decides.{nat_tests}
@@ -13,6 +13,7 @@ use Rattle.sm_model.specs.declared.rows.Stage.TheVariants.{Set}
 use Rattle.sm_model.specs.declared.rows.VersionRow.{VersionRow}
 use Rattle.sm_model.specs.declared.rows.SecretRow.{SecretRow}
 use Rattle.sm_model.specs.Bounds.{fits, is_small, is_attempt, is_date}
+use Rattle.sm_model.specs.Versions.{When, is_full_when}
 use Rattle.sm_versions.specs.declared.values.PutDone.{PutDone}
 use Rattle.sm_versions.specs.declared.values.PutDone.TheVariants.{Added, Same, Exists, TooMany, TooManyLabels}
 use Rattle.sm_versions.specs.declared.moving.Moved.{Moved}
@@ -21,7 +22,7 @@ use Rattle.sm_base.specs.Texts.{same_text}
 use Rattle.sm_model.specs.Labels.{aws_current, holder}
 use Rattle.sm_versions.specs.Labels.{own_count, without, place, place_all, labels_on}
 use Rattle.sm_versions.specs.Versions.{has_value, same_value, version_of, filled}
-use Rattle.sm_versions.specs.Put.{has_too_many, is_full, put_placed, put_held, put_answer_on, put_answer, new_version, put_row, put_row_on}
+use Rattle.sm_versions.specs.Put.{has_too_many, put_placed, put_held, put_answer_on, put_answer, new_version, put_row, put_row_on}
 use Rattle.sm_versions.specs.Move.{missing, move_placed, move_to, move_held, unless_missing, move_answer, move_row}
 use Rattle.sm_versions.specs.Settle.{is_live, is_create, advanced_job, settled_job, settle}
 use Rattle.sm_versions.specs.Kept.{JobFits, will_have_current}
@@ -30,7 +31,8 @@ use Rattle.sm_versions.proofs.KeptLaws.{put_keeps, moved_past, moved_held, move_
 
 -- ---- how many labels and versions
 
-not_full : (full : Bool) (n : ℕ) (done : PutDone) → cond full (TooMany n) done ≡ Added → (full ≡ false) × (done ≡ Added)
+pub not_full : (full : Bool) (n : ℕ) (done : PutDone) → cond full (TooMany n) done ≡ Added
+    → (full ≡ false) × (done ≡ Added)
 not_full true n done h = absurd (cc)
 not_full false n done h = (refl, h)
 
@@ -53,9 +55,6 @@ held_few : (row : SecretRow) (token : List ℕ) (value : Value) (labels : List (
 held_few row token value labels None h = put_few (place_all row.labels labels token) h
 held_few row token value labels (Some kept) h =
     absurd (no_repeat (same_value kept value) (labels_on row.labels token) h)
-
-room_for_one : (row : SecretRow) → is_full row ≡ false → length row.versions + 1 ≤ VERSIONS_LIMIT
-room_for_one row h = grind (arith, nat_tests)
 
 -- ---- each version
 
@@ -85,7 +84,7 @@ each_filled (v ∷ vs) id value each small =
     by true here head tail rest = and_from _ _ here tail
     by false here head tail rest = and_from _ _ head rest
 
-length_filled : (vs : List VersionRow) (id : List ℕ) (value : Value) → length (filled vs id value) ≡ length vs
+pub length_filled : (vs : List VersionRow) (id : List ℕ) (value : Value) → length (filled vs id value) ≡ length vs
 length_filled [] id value = refl
 length_filled (v ∷ vs) id value = by (same_text v.id id) (length_filled vs id value)
   where
@@ -96,12 +95,12 @@ length_filled (v ∷ vs) id value = by (same_text v.id id) (length_filled vs id 
 
 -- ---- a put
 
-put_fits_on : (row : SecretRow) (token : List ℕ) (value : Value) (labels : List (List ℕ)) (moment : Moment)
+put_fits_on : (row : SecretRow) (token : List ℕ) (value : Value) (labels : List (List ℕ)) (when : When)
     (found : Option VersionRow)
-    → put_answer_on row token value labels found ≡ Added → is_small value ≡ true → is_date moment ≡ true → RowFits row
-    → RowFits (put_row_on row token value labels moment found)
-put_fits_on row token value labels moment None h small date f =
-    let parts = not_full (is_full row) VERSIONS_LIMIT (put_placed (place_all row.labels labels token)) h in
+    → put_answer_on row token value labels when found ≡ Added → is_small value ≡ true → is_date when.moment ≡ true
+    → RowFits row → RowFits (put_row_on row token value labels when.moment found)
+put_fits_on row token value labels when None h small date f =
+    let parts = not_full (is_full_when row when) VERSIONS_LIMIT (put_placed (place_all row.labels labels token)) h in
     record {
       arn = f.arn;
       description = f.description;
@@ -110,9 +109,7 @@ put_fits_on row token value labels moment None h small date f =
       tags = f.tags;
       tag_once = f.tag_once;
       policy = f.policy;
-      version_count = omega
-          (arith, length-append row.versions (new_version row token value moment ∷ []), room_for_one row parts.0);
-      versions = each_push row.versions (new_version row token value moment) f.versions
+      versions = each_push row.versions (new_version row token value when.moment) f.versions
           (and_from _ _ (and_from _ _ small refl) date);
       labels = put_few (place_all row.labels labels token) parts.1;
       created = f.created;
@@ -121,7 +118,7 @@ put_fits_on row token value labels moment None h small date f =
       rotation = f.rotation;
       job = f.job;
     }
-put_fits_on row token value labels moment (Some version) h small date f = record {
+put_fits_on row token value labels when (Some version) h small date f = record {
   arn = f.arn;
   description = f.description;
   kms = f.kms;
@@ -129,7 +126,6 @@ put_fits_on row token value labels moment (Some version) h small date f = record
   tags = f.tags;
   tag_once = f.tag_once;
   policy = f.policy;
-  version_count = rw (length_filled row.versions token value) f.version_count;
   versions = each_filled row.versions token value f.versions small;
   labels = held_few row token value labels version.value h;
   created = f.created;
@@ -141,13 +137,13 @@ put_fits_on row token value labels moment (Some version) h small date f = record
 
 -- a put that is done keeps a sound secret sound before settling, where the value is small and AWSCURRENT has a holder
 -- or is placed
-pub put_sound : (row : SecretRow) (token : List ℕ) (value : Value) (labels : List (List ℕ)) (moment : Moment)
-    → put_answer row token value labels ≡ Added → IsTrue (will_have_current row labels) → IsTrue (is_small value)
-    → IsTrue (is_date moment)
-    → UnsettledSound row → UnsettledSound (put_row row token value labels moment)
-put_sound row token value labels moment done will small date sound = record {
-  kept = put_keeps row token value labels moment will sound.kept;
-  fits = put_fits_on row token value labels moment (version_of row.versions token) done small date sound.fits;
+pub put_sound : (row : SecretRow) (token : List ℕ) (value : Value) (labels : List (List ℕ)) (when : When)
+    → put_answer row token value labels when ≡ Added → IsTrue (will_have_current row labels) → IsTrue (is_small value)
+    → IsTrue (is_date when.moment)
+    → UnsettledSound row → UnsettledSound (put_row row token value labels when.moment)
+put_sound row token value labels when done will small date sound = record {
+  kept = put_keeps row token value labels when.moment will sound.kept;
+  fits = put_fits_on row token value labels when (version_of row.versions token) done small date sound.fits;
 }
 
 put_same_on : (row : SecretRow) (token : List ℕ) (value : Value) (labels : List (List ℕ)) (moment : Moment)
@@ -195,7 +191,6 @@ moved_fits row label None h f = record {
   tags = f.tags;
   tag_once = f.tag_once;
   policy = f.policy;
-  version_count = f.version_count;
   versions = f.versions;
   labels = omega (arith, fewer_without row.labels label, f.labels);
   created = f.created;
@@ -212,7 +207,6 @@ moved_fits row label (Some to) h f = record {
   tags = f.tags;
   tag_once = f.tag_once;
   policy = f.policy;
-  version_count = f.version_count;
   versions = f.versions;
   labels = move_few (place row.labels label to)
       (placed_onto (same_text label aws_current) (has_value row.versions to) (move_placed (place row.labels label to))
@@ -254,30 +248,31 @@ settled_fits row (Some job) h = by (is_live row job)
     by true = advanced_is_job row job ∙ h
     by false = refl
 
--- what is sound before settling, settled, is sound between changes
-pub settle_sound : (row : SecretRow) → UnsettledSound row → RowSound (settle row)
-settle_sound row sound =
+pub settle_fits : (row : SecretRow) → UnsettledSound row → RowFits (settle row)
+settle_fits row sound =
     let f = sound.fits in
     record {
-      kept = settle_keeps row sound.kept;
-      fits = record {
-        arn = f.arn;
-        description = f.description;
-        kms = f.kms;
-        tag_count = f.tag_count;
-        tags = f.tags;
-        tag_once = f.tag_once;
-        policy = f.policy;
-        version_count = f.version_count;
-        versions = f.versions;
-        labels = f.labels;
-        created = f.created;
-        changed = f.changed;
-        deletion = f.deletion;
-        rotation = f.rotation;
-        job = settled_fits row row.job f.job;
-      };
+      arn = f.arn;
+      description = f.description;
+      kms = f.kms;
+      tag_count = f.tag_count;
+      tags = f.tags;
+      tag_once = f.tag_once;
+      policy = f.policy;
+      versions = f.versions;
+      labels = f.labels;
+      created = f.created;
+      changed = f.changed;
+      deletion = f.deletion;
+      rotation = f.rotation;
+      job = settled_fits row row.job f.job;
     }
+
+-- what is sound before settling, settled, is sound between changes where there are not too many versions
+pub settle_sound : (row : SecretRow) → UnsettledSound row → length row.versions ≤ VERSIONS_LIMIT
+    → RowSound (settle row)
+settle_sound row sound few =
+    record { kept = settle_keeps row sound.kept; fits = settle_fits row sound; version_count = few }
 
 -- what is sound between changes is sound before settling too
 pub unsettled_sound : (row : SecretRow) → RowSound row → UnsettledSound row
@@ -307,7 +302,6 @@ changed_sound row moment date sound =
         tags = f.tags;
         tag_once = f.tag_once;
         policy = f.policy;
-        version_count = f.version_count;
         versions = f.versions;
         labels = f.labels;
         created = f.created;

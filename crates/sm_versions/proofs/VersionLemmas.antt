@@ -15,7 +15,7 @@ use Rattle.sm_model.specs.declared.rows.SecretRow.{SecretRow}
 use Rattle.sm_versions.specs.declared.values.PutDone.TheVariants.{Same}
 use Rattle.sm_versions.specs.Labels.{labels_on}
 use Rattle.sm_versions.specs.Versions.{same_value, version_of, value_of, is_value, same, filled}
-use Rattle.sm_model.specs.Versions.{has_version}
+use Rattle.sm_model.specs.Versions.{When, has_version}
 use Rattle.sm_versions.specs.Put.{put_held, put_answer_on, put_answer}
 use Rattle.sm_versions.proofs.TextLemmas.{same_text_decides}
 
@@ -112,11 +112,11 @@ held_repeats row token value labels None h = absurd (false≢true h)
 held_repeats row token value labels (Some kept) h = rw h
 
 -- a put of exactly the value that the version has is a repeat, and answers the labels
-pub put_repeats : (row : SecretRow) (token : List ℕ) (value : Value) (labels : List (List ℕ))
-    → same row token value ≡ true → put_answer row token value labels ≡ Same (labels_on row.labels token)
-put_repeats row token value labels h = by (version_of row.versions token) (sym (value_of_is row.versions token))
+pub put_repeats : (row : SecretRow) (token : List ℕ) (value : Value) (labels : List (List ℕ)) (when : When)
+    → same row token value ≡ true → put_answer row token value labels when ≡ Same (labels_on row.labels token)
+put_repeats row token value labels when h = by (version_of row.versions token) (sym (value_of_is row.versions token))
   where
     by : (found : Option VersionRow) → option_and_then (λ v. v.value) found ≡ value_of row.versions token
-        → put_answer_on row token value labels found ≡ Same (labels_on row.labels token)
+        → put_answer_on row token value labels when found ≡ Same (labels_on row.labels token)
     by None e = absurd (false≢true (ap (λ o. is_value o value) e ∙ h))
     by (Some v) e = held_repeats row token value labels v.value (ap (λ o. is_value o value) e ∙ h)

@@ -1,6 +1,7 @@
 pub mod Texts
 pub mod Labels
 pub mod Versions
+pub mod Prune
 pub mod Put
 pub mod Move
 pub mod Settle

@@ -1,14 +1,15 @@
 -- A new value for a secret.
 -- AWS Secrets Manager API Reference: PutSecretValue; User Guide: "AWS Secrets Manager quotas" (versions and labels of a
 -- secret).
-use Rattle.std.specs.Prelude.{ℕ, ◌+◌, Bool, true, false, ◌||◌, nat_le, nat_lt, List, [], ◌∷◌, ◌++◌, length, Option, Some, None, Result, Ok, Err, if◌then◌else◌}
+use Rattle.std.specs.Prelude.{ℕ, ◌+◌, Bool, true, false, nat_lt, List, [], ◌∷◌, ◌++◌, Option, Some, None, Result, Ok, Err, if◌then◌else◌}
 use Rattle.sm_base.specs.declared.memory.NoMemory.{NoMemory}
 use Rattle.sm_base.specs.declared.moment.Moment.{Moment}
-use Rattle.sm_base.specs.declared.limits.TheConstants.{LABELS_LIMIT, VERSIONS_LIMIT, NO_SERIAL}
+use Rattle.sm_base.specs.declared.limits.TheConstants.{LABELS_LIMIT, VERSIONS_LIMIT}
 use Rattle.sm_model.specs.declared.value.Value.{Value}
 use Rattle.sm_model.specs.declared.rows.Pair.{Pair}
 use Rattle.sm_model.specs.declared.rows.VersionRow.{VersionRow}
 use Rattle.sm_model.specs.declared.rows.SecretRow.{SecretRow}
+use Rattle.sm_model.specs.Versions.{When, is_full_when}
 use Rattle.sm_versions.specs.declared.values.PutDone.{PutDone}
 use Rattle.sm_versions.specs.declared.values.PutDone.TheVariants.{Added, Same, Exists, TooMany, TooManyLabels, Memory}
 use Rattle.sm_versions.specs.Labels.{place_all, labels_on, own_count}
@@ -18,18 +19,14 @@ use Rattle.sm_versions.specs.Versions.{same_value, version_of, filled}
 abbrev pub has_too_many : List Pair → Bool
 has_too_many pairs = nat_lt LABELS_LIMIT (own_count pairs)
 
--- no version may be added: there are as many as there may be, or there is no serial left
-abbrev pub is_full : SecretRow → Bool
-is_full row = nat_le VERSIONS_LIMIT (length row.versions) || nat_le NO_SERIAL row.next_version
-
 -- the last test, on the pairs after placing
 abbrev pub put_placed : List Pair → PutDone
 put_placed pairs = if has_too_many pairs then TooManyLabels LABELS_LIMIT else Added
 
 -- the tests where no version has the token
-abbrev pub put_new : SecretRow → List ℕ → List (List ℕ) → PutDone
-put_new row token labels =
-    if is_full row then TooMany VERSIONS_LIMIT else put_placed (place_all row.labels labels token)
+abbrev pub put_new : SecretRow → List ℕ → List (List ℕ) → When → PutDone
+put_new row token labels when =
+    if is_full_when row when then TooMany VERSIONS_LIMIT else put_placed (place_all row.labels labels token)
 
 -- the tests where a version has the token, by its value
 abbrev pub put_held : SecretRow → List ℕ → Value → List (List ℕ) → Option Value → PutDone
@@ -38,13 +35,13 @@ put_held row token value labels (Some kept) =
 put_held row token value labels None = put_placed (place_all row.labels labels token)
 
 -- the tests by the version that has the token, or none
-abbrev pub put_answer_on : SecretRow → List ℕ → Value → List (List ℕ) → Option VersionRow → PutDone
-put_answer_on row token value labels None = put_new row token labels
-put_answer_on row token value labels (Some version) = put_held row token value labels version.value
+abbrev pub put_answer_on : SecretRow → List ℕ → Value → List (List ℕ) → When → Option VersionRow → PutDone
+put_answer_on row token value labels when None = put_new row token labels when
+put_answer_on row token value labels when (Some version) = put_held row token value labels version.value
 
 -- what a put answers where there is memory
-abbrev pub put_answer : SecretRow → List ℕ → Value → List (List ℕ) → PutDone
-put_answer row token value labels = put_answer_on row token value labels (version_of row.versions token)
+abbrev pub put_answer : SecretRow → List ℕ → Value → List (List ℕ) → When → PutDone
+put_answer row token value labels when = put_answer_on row token value labels when (version_of row.versions token)
 
 -- the version that a put adds
 abbrev pub new_version : SecretRow → List ℕ → Value → Moment → VersionRow

@@ -66,7 +66,6 @@ pub record RowFits (row : SecretRow) : Type 0 where
   pub tags : IsTrue (each_tag row.tags)
   pub tag_once : IsTrue (once (tag_keys row.tags))
   pub policy : IsTrue (fits is_resource_policy row.policy)
-  pub version_count : length row.versions ≤ VERSIONS_LIMIT
   pub versions : IsTrue (each_version row.versions)
   pub labels : own_count row.labels ≤ LABELS_LIMIT
   pub created : IsTrue (is_date row.created)
@@ -75,7 +74,7 @@ pub record RowFits (row : SecretRow) : Type 0 where
   pub rotation : IsTrue (is_rotation row.rotation)
   pub job : IsTrue (fits is_job row.job)
 
--- what each step of a change keeps
+-- what each step of a change keeps, be there as many versions as there may be, or one more until some are dropped
 pub record UnsettledSound (row : SecretRow) : Type 0 where
   pub kept : KeptUnsettled row
   pub fits : RowFits row
@@ -84,3 +83,4 @@ pub record UnsettledSound (row : SecretRow) : Type 0 where
 pub record RowSound (row : SecretRow) : Type 0 where
   pub kept : CurrentKept row
   pub fits : RowFits row
+  pub version_count : length row.versions ≤ VERSIONS_LIMIT

@@ -1,10 +1,11 @@
 //! Due rotations (AWS Secrets Manager User Guide, "Rotation schedules").
 ghost use Rattle.std.specs.Prelude.{◌≡◌, option_copied};
-ghost use Rattle.sm_model.specs.Due.{is_reached, is_free_or_held_by};
-ghost use Rattle.sm_versions.specs.Due.{is_due, comes_due, due_date};
+ghost use Rattle.sm_model.specs.Due.{is_reached, is_free_or_held_by, is_due_when};
+ghost use Rattle.sm_versions.specs.Due.{comes_due, due_date};
 
 use crate::labels::{current, holder, is_same_id, pending};
-use crate::values::is_full;
+use crate::pruning::is_full;
+use crate::when::When;
 use sm_model::{Moment, SecretRow, Token};
 
 /// Whether the date is there, and the moment has reached it.
@@ -51,11 +52,10 @@ pub fn due_date(row: &SecretRow) -> Option<Moment>
     }
 }
 
-/// Whether a rotation of the secret is due at the moment, for a token that none of its versions has. It takes no
-/// memory.
+/// Whether a rotation of the secret is due then, for a token that none of its versions has. It takes no memory.
 #[tactic(auto, using(crate::proofs::DueLaws::due_by_date))]
-pub fn is_due_for_some(row: &SecretRow, moment: Moment) -> bool
-    ensures { result ≡ is_due row.now moment }
+pub fn is_due_for_some(row: &SecretRow, when: When) -> bool
+    ensures { result ≡ is_due_when row.now when }
 {
-    is_reached(due_date(row), moment) && !is_full(row)
+    is_reached(due_date(row), when.moment) && !is_full(row, when)
 }

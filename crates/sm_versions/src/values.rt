@@ -2,13 +2,15 @@
 ghost use Rattle.std.specs.Prelude.{◌≡◌, IsTrue, IfOk, if◌then◌else◌};
 ghost use Rattle.sm_base.specs.Outcomes.{OrMemory};
 ghost use Rattle.sm_versions.specs.Labels.{place_all, labels_on};
-ghost use Rattle.sm_versions.specs.Put.{has_too_many, is_full, put_placed, put_new, put_answer, new_version, added_row, filled_row, put_row, is_added, is_done, put_told};
+ghost use Rattle.sm_versions.specs.Put.{has_too_many, put_placed, put_new, put_answer, new_version, added_row, filled_row, put_row, is_added, is_done, put_told};
 ghost use Rattle.sm_versions.specs.Kept.{KeptUnsettled, will_have_current};
 
 use crate::labels::{labels_on, own_count};
 use crate::placing::place_all;
+use crate::pruning::is_full;
 use crate::versions::{filled, is_same_value, version_of};
-use sm_base::limits::{LABELS_LIMIT, NO_SERIAL, VERSIONS_LIMIT};
+use crate::when::When;
+use sm_base::limits::{LABELS_LIMIT, VERSIONS_LIMIT};
 use sm_model::{Copied, Label, List, Moment, NoMemory, Pair, SecretRow, Token, Value, VersionRow};
 use std::alloc::Global;
 
@@ -21,18 +23,11 @@ pub enum PutDone {
     Same(List<Label>),
     /// The version of the token has another value.
     Exists,
-    /// The secret has this many versions, and no more may be added.
+    /// So many versions of the secret count, and no more may be added.
     TooMany(u64),
     /// The secret would have more labels than this many besides AWSCURRENT, AWSPREVIOUS and AWSPENDING.
     TooManyLabels(u64),
     Memory,
-}
-
-/// Whether no version may be added.
-pub fn is_full(row: &SecretRow) -> bool
-    ensures { result ≡ is_full row.now }
-{
-    row.versions.len() >= VERSIONS_LIMIT as usize || row.next_version == NO_SERIAL
 }
 
 /// Whether there are more labels than a secret may have.
@@ -104,20 +99,20 @@ fn add_version(
     token: &Token,
     value: &Value,
     labels: &[Label],
-    moment: Moment,
+    when: When,
 ) -> Result<PutDone, NoMemory>
-    ensures answer { IfOk result (λ done. done ≡ put_new row.old token.now labels.now) }
+    ensures answer { IfOk result (λ done. done ≡ put_new row.old token.now labels.now when) }
     ensures row { row.new ≡
-        (if is_done result then added_row row.old token.now value.now labels.now moment else row.old) }
+        (if is_done result then added_row row.old token.now value.now labels.now when.moment else row.old) }
 {
-    if is_full(row) {
+    if is_full(row, when) {
         return Ok(PutDone::TooMany(VERSIONS_LIMIT));
     }
     let placed = place_on_copy(alloc, &row.labels, labels, token)?;
     if has_too_many(placed.as_slice()) {
         return Ok(PutDone::TooManyLabels(LABELS_LIMIT));
     }
-    let version = new_version(alloc, row, token, value, moment)?;
+    let version = new_version(alloc, row, token, value, when.moment)?;
     row.versions.push(alloc, version)?;
     row.next_version += 1;
     row.labels = placed;
@@ -143,11 +138,11 @@ fn try_put(
     token: &Token,
     value: &Value,
     labels: &[Label],
-    moment: Moment,
+    when: When,
 ) -> Result<PutDone, NoMemory>
-    ensures answer { IfOk result (λ done. done ≡ put_answer row.old token.now value.now labels.now) }
+    ensures answer { IfOk result (λ done. done ≡ put_answer row.old token.now value.now labels.now when) }
     ensures row { row.new ≡
-        (if is_done result then put_row row.old token.now value.now labels.now moment else row.old) }
+        (if is_done result then put_row row.old token.now value.now labels.now when.moment else row.old) }
 {
     match version_of(&row.versions, token) {
         Some(version) => match &version.value {
@@ -157,26 +152,27 @@ fn try_put(
             }
             None => fill_version(alloc, row, token, value, labels),
         },
-        None => add_version(alloc, row, token, value, labels, moment),
+        None => add_version(alloc, row, token, value, labels, when),
     }
 }
 
 /// Puts a value into the version whose id is the token, which is filled or made at the moment, and places the
-/// labels on it.
+/// labels on it. A version that is made may be one more than a secret may have, until those are dropped that did not
+/// count.
 pub fn put(
     alloc: Global,
     row: &mut SecretRow,
     token: &Token,
     value: &Value,
     labels: &[Label],
-    moment: Moment,
+    when: When,
 ) -> PutDone
-    ensures answer { OrMemory (put_told result) (put_answer row.old token.now value.now labels.now) }
+    ensures answer { OrMemory (put_told result) (put_answer row.old token.now value.now labels.now when) }
     ensures row { row.new ≡
-        (if is_added result then put_row row.old token.now value.now labels.now moment else row.old) }
+        (if is_added result then put_row row.old token.now value.now labels.now when.moment else row.old) }
     ensures kept { KeptUnsettled row.old → IsTrue (will_have_current row.old labels.now) → KeptUnsettled row.new }
 {
-    match try_put(alloc, row, token, value, labels, moment) {
+    match try_put(alloc, row, token, value, labels, when) {
         Ok(done) => done,
         Err(NoMemory) => PutDone::Memory,
     }

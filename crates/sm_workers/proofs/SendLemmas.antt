@@ -10,8 +10,9 @@ use Rattle.sm_base.proofs.moment.Moment.TheSendSync as moment
 use Rattle.sm_claims.proofs.claims.Claim.TheSendSync as claim
 use Rattle.sm_disk.specs.declared.disk.Disk.{Ghosts as DiskGhosts}
 use Rattle.sm_model.proofs.entry.Entry.TheSendSync as entry
+use Rattle.sm_record.proofs.base.Base.TheSendSync as base
 use Rattle.sm_rotator.specs.declared.rotator.Rotator.{Ghosts as RotatorGhosts}
-use Rattle.sm_store.proofs.store.Store.TheSendSync as store
+use Rattle.sm_store.proofs.base_store.BaseStore.TheSendSync as store
 use Rattle.sm_table.proofs.table.Table.TheSendSync as table
 
 books_field_send : (D : RattleType) (d : DiskGhosts D.Denot) → IsSend D → IsSend (books.the_field D d).row
@@ -22,18 +23,21 @@ books_field_send D d sent = struct_send (shape (books.the_type D d)) (
     (
       store.the_field_send D d sent,
       (
-        search (sendable, crosses, entry.the_send) depth 20,
+        base.the_field_send,
         (
-          search (sendable, crosses, claim.the_send) depth 20,
+          search (sendable, crosses, entry.the_send) depth 20,
           (
-            told.the_send,
+            search (sendable, crosses, claim.the_send) depth 20,
             (
-              plain_send _ _ _ _ _,
+              told.the_send,
               (
-                moment.the_field_send,
+                plain_send _ _ _ _ _,
                 (
-                  plain_send _ _ _ _ _,
-                  (plain_send _ _ _ _ _, (search sendable, (search sendable, (search sendable, tt)))),
+                  moment.the_field_send,
+                  (
+                    plain_send _ _ _ _ _,
+                    (plain_send _ _ _ _ _, (search sendable, (search sendable, (search sendable, tt)))),
+                  ),
                 ),
               ),
             ),

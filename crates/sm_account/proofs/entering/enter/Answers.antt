@@ -10,7 +10,6 @@ pub grow-requires : goal.grow-requires
 grow-requires g c = record {
   can = c.in-Accept.ensures.can;
   bound = c.requires.may.bound;
-  key = c.requires.may.key;
   act = c.requires.may.act;
 }
 

@@ -2,8 +2,27 @@ use Rattle.std.proofs.Common.{◌∙◌, refl, sym}
 use Rattle.sm_account.specs.Books.{state_in}
 use Rattle.sm_account.specs.Limits.{passed_at}
 use Rattle.sm_account.proofs.DeedLemmas.{entry_failed, entry_made, nothing_done}
-use Rattle.sm_account.proofs.EffortLemmas.{fault_so, made_so, over_so}
+use Rattle.sm_account.proofs.EffortLemmas.{fault_so, made_so, over_so, within_limits}
 use Rattle.sm_account.proofs.entering.enter_due.Goals as goal
+
+pub make-requires-clause-due : goal.make-requires-clause-due
+make-requires-clause-due g c =
+    let due = c.requires.due in
+    let room = within_limits (state_in c.args.books.now) c.args.due.entry (sym c.passed_limit.ensures ∙ c.in-None.is) in
+    record {
+      spells = due.spells;
+      short = due.short;
+      counted = room.0;
+      countable = room.1;
+      fits = room.2;
+      can = due.can;
+      stands = due.stands;
+      makes = due.makes;
+      sound = due.sound;
+      legal = due.legal;
+      later = due.later;
+      bound = due.bound;
+    }
 
 pub returns-in-Some : goal.returns-in-Some
 returns-in-Some g c = record {

@@ -1,5 +1,4 @@
-use Rattle.std.proofs.Common.{◌≤◌, length, refl, sym, subst}
-use Rattle.sm_base.specs.declared.limits.TheConstants.{CALLER_LIMIT}
+use Rattle.std.proofs.Common.{◌≤◌, refl, sym, subst}
 use Rattle.sm_base.specs.declared.moment.TheConstants.{LAST_READING}
 use Rattle.sm_model.specs.declared.entry.Entry.{Entry}
 use Rattle.sm_sizes.specs.Spellable.{IsSpellable}
@@ -11,7 +10,6 @@ grow-requires g c =
     record {
       can = c.requires.can;
       bound = subst (λ (e : Entry). e.moment.0 ≤ LAST_READING) (sym is) c.requires.bound;
-      key = subst (λ (e : Entry). length e.caller ≤ CALLER_LIMIT) (sym is) c.requires.key;
       act = subst IsSpellable (sym is) (record {
         act = record {
           drawn_for = c.requires.drawn;
@@ -20,6 +18,7 @@ grow-requires g c =
           few = c.requires.few;
         };
         whose = refl;
-        by = refl;
+        caller = c.requires.person.key;
+        by = c.requires.person.arn;
       });
     }

@@ -2,12 +2,13 @@ use Rattle.std.proofs.Common.{◌≡◌, false, refl, arith}
 use Rattle.sm_table.specs.Changes.{CanMake, StandsAt}
 use Rattle.sm_table.specs.Sound.{ChangeSound}
 use Rattle.sm_table.specs.Sweep.{sweep}
-use Rattle.sm_core.specs.Effects.{entry_of, Makes}
+use Rattle.sm_core.specs.Effects.{Makes}
 use Rattle.sm_core.specs.Histories.{LegalAct}
 use Rattle.sm_core.specs.Judging.{is_reading}
 use Rattle.sm_model.specs.declared.entry.Act.TheVariants.{Asked}
+use Rattle.sm_versions.specs.Prune.{pruning}
 use Rattle.sm_sizes.proofs.RequestSizes.{few_tags}
-use Rattle.sm_account.specs.Outcome.{Question}
+use Rattle.sm_account.specs.Outcome.{Question, asked_entry}
 use Rattle.sm_account.proofs.HandleLemmas.{after_room, wanted_memory}
 use Rattle.sm_account.proofs.QuestionLemmas.{of_change, read_so, refused_so, made_so}
 use Rattle.sm_account.proofs.RoomLemmas.{limits_aside, room_kept}
@@ -27,16 +28,16 @@ grow_request-requires g c =
     let request = c.args.request.now in
     let change = of_change c.in-Accept.reply c.in-Accept.change c.in-Some.change c.in-Some.is in
     let legal = change
-    (λ _. LegalAct books.table (record { 0 = c.max.result }) c.args.drawn.now (Asked request))
+    (λ _. LegalAct books.table (pruning (record { 0 = c.max.result })) c.args.drawn.now (Asked request))
     c.in-Accept.ensures.legal in
     record {
       can = change (CanMake books.table) c.in-Accept.ensures.can;
       bound = omega (arith, c.max.ensures, c.requires.kept.bound, c.requires.bound);
-      key = c.requires.key;
+      person = c.requires.person;
       drawn = c.requires.drawn;
       forms = legal.1;
       changes = change (λ _. is_reading request ≡ false) c.in-Accept.ensures.changes;
-      few = few_tags books.table (record { 0 = c.max.result }) c.args.drawn.now request legal;
+      few = few_tags books.table (pruning (record { 0 = c.max.result })) c.args.drawn.now request legal;
     }
 
 pub finish-requires : goal.finish-requires
@@ -45,7 +46,7 @@ finish-requires g c =
     let mid = c.grow_request.new.books in
     let drawn = c.args.drawn.now in
     let request = c.args.request.now in
-    let entry = entry_of (record { 0 = c.max.result }) c.args.person.now.key drawn request in
+    let entry = asked_entry (record { 0 = c.max.result }) c.args.person.now drawn request in
     let change = of_change c.in-Accept.reply c.in-Accept.change c.in-Some.change c.in-Some.is in
     record {
       kept = room_kept books mid c.in-Ok.ensures.same c.requires.kept;
@@ -55,7 +56,7 @@ finish-requires g c =
           (change (Makes books.table entry) c.in-Accept.ensures.makes)
           (change (ChangeSound (sweep books.table (record { 0 = c.max.result }))) c.in-Accept.ensures.change_sound) (
             refl,
-            change (λ _. LegalAct books.table (record { 0 = c.max.result }) drawn (Asked request))
+            change (λ _. LegalAct books.table (pruning (record { 0 = c.max.result })) drawn (Asked request))
                 c.in-Accept.ensures.legal,
           )
           (omega (arith, c.max.ensures))

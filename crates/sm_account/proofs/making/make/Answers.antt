@@ -4,8 +4,8 @@ use Rattle.sm_model.specs.declared.entry.Mark.TheVariants.{Entry, Fault}
 use Rattle.sm_base.specs.Faults.{Rose}
 use Rattle.sm_table.specs.Sound.{ChangeSound, Sound}
 use Rattle.sm_table.specs.Sweep.{sweep}
-use Rattle.sm_store.specs.Stores as stores
-use Rattle.sm_account.specs.Books.{history_in, all_entries, disk_in}
+use Rattle.sm_store.specs.BaseStores as stores
+use Rattle.sm_account.specs.Books.{history_in, all_held, disk_in}
 use Rattle.sm_account.specs.Crashes.{Throughout}
 use Rattle.sm_account.proofs.MakeLemmas.{entered_origin, entered_kept, failed_stays, faulted_origin, faulted_state, unmended_kept, torn_kept, behind_enter, behind_entries, behind_fault, behind_tear, behind_history}
 use Rattle.sm_account.proofs.making.make.Goals as goal
@@ -38,7 +38,7 @@ returns-in-Ok g c =
       fault = tt;
       torn = tt;
       any_moment =
-          subst (λ s. Throughout g.D.Disk (all_entries old) old.failed.value due.entry (disk_in old) (stores.disk_of s))
+          subst (λ s. Throughout g.D.Disk (all_held old) old.failed.value due.entry (disk_in old) (stores.disk_of s))
           (sym stored) c.write_ready.ensures.any_moment;
       cause = record { later = later; failed = λ is. absurd (cc) };
     }
@@ -67,7 +67,7 @@ returns-in-Unmended g c =
           length;
       torn = inl (ap (λ f. f.value) still.0, sym c.requires.kept.sure ∙ c.in-Unmended.ensures.answer.0);
       any_moment =
-          subst (λ s. Throughout g.D.Disk (all_entries old) old.failed.value due.entry (disk_in old) (stores.disk_of s))
+          subst (λ s. Throughout g.D.Disk (all_held old) old.failed.value due.entry (disk_in old) (stores.disk_of s))
           (sym stored) c.write_ready.ensures.any_moment;
       cause = record {
         later = subst (λ s. g.D.Disk.faults (disk_in old) ≤ g.D.Disk.faults (stores.disk_of s)) (sym stored)
@@ -100,7 +100,7 @@ returns-in-Torn g c =
           length;
       torn = inr c.tear.ensures.torn;
       any_moment =
-          subst (λ s. Throughout g.D.Disk (all_entries old) old.failed.value due.entry (disk_in old) (stores.disk_of s))
+          subst (λ s. Throughout g.D.Disk (all_held old) old.failed.value due.entry (disk_in old) (stores.disk_of s))
           (sym stored) c.write_ready.ensures.any_moment;
       cause = record {
         later = subst (λ s. g.D.Disk.faults (disk_in old) ≤ g.D.Disk.faults (stores.disk_of s)) (sym stored)

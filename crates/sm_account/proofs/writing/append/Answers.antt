@@ -5,6 +5,9 @@ use Rattle.sm_account.proofs.writing.append.Goals as goal
 pub append-requires-clause-sure : goal.append-requires-clause-sure
 append-requires-clause-sure g c = c.requires.sure
 
+pub append-requires-clause-format : goal.append-requires-clause-format
+append-requires-clause-format g c = c.requires.format
+
 pub append-requires-clause-spelled : goal.append-requires-clause-spelled
 append-requires-clause-spelled g c = c.requires.spelled
 
@@ -27,13 +30,13 @@ unreachable-unreachable-in-TooLong g c = c.unreachable-in-TooLong.type_inv
 
 pub returns-in-Ok-clause-answer : goal.returns-in-Ok-clause-answer
 returns-in-Ok-clause-answer g c = λ e spells.
-    let a = c.in-Ok.ensures.answer e spells in (a.1, a.2, λ list h. (a.3 list h).0)
+    let a = c.in-Ok.ensures.answer e spells in (a.1, a.2, λ h was. (a.3 h was).0)
 
 pub returns-in-Ok-clause-same : goal.returns-in-Ok-clause-same
 returns-in-Ok-clause-same g c = c.append.ensures.same
 
 pub returns-in-Ok-clause-any_moment : goal.returns-in-Ok-clause-any_moment
-returns-in-Ok-clause-any_moment g c = c.append.ensures.any_moment
+returns-in-Ok-clause-any_moment g c = c.append.ensures.recovered
 
 pub returns-in-Ok-clause-later : goal.returns-in-Ok-clause-later
 returns-in-Ok-clause-later g c = c.append.ensures.later
@@ -45,7 +48,7 @@ pub returns-in-Failed-clause-same : goal.returns-in-Failed-clause-same
 returns-in-Failed-clause-same g c = c.append.ensures.same
 
 pub returns-in-Failed-clause-any_moment : goal.returns-in-Failed-clause-any_moment
-returns-in-Failed-clause-any_moment g c = c.append.ensures.any_moment
+returns-in-Failed-clause-any_moment g c = c.append.ensures.recovered
 
 pub returns-in-Failed-clause-later : goal.returns-in-Failed-clause-later
 returns-in-Failed-clause-later g c = c.append.ensures.later

@@ -1,20 +1,31 @@
-use Rattle.std.proofs.Common.{inl, inr}
-use Rattle.sm_store.specs.Stores.{disk_of}
-use Rattle.sm_account.proofs.WriteLemmas.{writes_behind}
+use Rattle.std.proofs.Common.{inl, inr, ◌∙◌, arith}
+use Rattle.sm_store.specs.BaseStores.{disk_of}
+use Rattle.sm_account.proofs.WriteLemmas.{same_through, writes_behind}
 use Rattle.sm_account.proofs.writing.write.Goals as goal
+
+pub append-requires-clause-format : goal.append-requires-clause-format
+append-requires-clause-format g c = c.mend.ensures.same.format ∙ c.requires.format
+
+pub append-requires-clause-fits : goal.append-requires-clause-fits
+append-requires-clause-fits g c =
+    omega (arith, c.requires.fits, c.mend.ensures.length, c.mend.ensures.same.limit)
 
 pub returns-in-Ok-clause-answer : goal.returns-in-Ok-clause-answer
 returns-in-Ok-clause-answer g c = λ e spells.
     writes_behind c.args.store.now c.mend.new.self c.append.new.store e c.append.result c.mend.ensures.length
     c.in-Ok.ensures.ok.1 (c.append.ensures.answer e spells)
 
+pub returns-in-Ok-clause-same : goal.returns-in-Ok-clause-same
+returns-in-Ok-clause-same g c =
+    same_through c.args.store.now c.mend.new.self c.append.new.store c.mend.ensures.same c.append.ensures.same
+
 pub returns-in-Ok-clause-any_moment : goal.returns-in-Ok-clause-any_moment
-returns-in-Ok-clause-any_moment g c = λ e spells list failed h.
+returns-in-Ok-clause-any_moment g c = λ e spells h failed was.
     inr (
       disk_of c.mend.new.self,
-      c.mend.ensures.any_moment list failed h,
-      c.append.ensures.any_moment e spells list (c.in-Ok.ensures.ok.1 list failed h),
+      c.mend.ensures.recovered h failed was,
+      c.append.ensures.any_moment e spells h (c.in-Ok.ensures.ok.1 h failed was),
     )
 
 pub returns-in-Err-clause-any_moment : goal.returns-in-Err-clause-any_moment
-returns-in-Err-clause-any_moment g c = λ e spells list failed h. inl (c.mend.ensures.any_moment list failed h)
+returns-in-Err-clause-any_moment g c = λ e spells h failed was. inl (c.mend.ensures.recovered h failed was)

@@ -9,16 +9,16 @@ use Rattle.sm_rotation.proofs.starting.begin.Goals as goal
 
 pub returns-in-Ok-clause-kept : goal.returns-in-Ok-clause-kept
 returns-in-Ok-clause-kept c =
-    after_begin KeptUnsettled c.in-Ok.began c.args.row.now _ c.args.token.now c.args.moment
-    (begin_keeps c.args.row.now c.args.token.now c.args.moment) c.in-Ok.ensures.answer c.in-Ok.ensures.row
+    after_begin KeptUnsettled c.in-Ok.began c.args.row.now _ c.args.token.now c.args.when
+    (begin_keeps c.args.row.now c.args.token.now c.args.when) c.in-Ok.ensures.answer c.in-Ok.ensures.row
 
 pub returns-in-Ok-clause-sound : goal.returns-in-Ok-clause-sound
 returns-in-Ok-clause-sound c =
-    after_begin UnsettledSound c.in-Ok.began c.args.row.now _ c.args.token.now c.args.moment
-    (begin_sound c.args.row.now c.args.token.now c.args.moment c.requires) c.in-Ok.ensures.answer c.in-Ok.ensures.row
+    after_begin UnsettledSound c.in-Ok.began c.args.row.now _ c.args.token.now c.args.when
+    (begin_sound c.args.row.now c.args.token.now c.args.when c.requires) c.in-Ok.ensures.answer c.in-Ok.ensures.row
 
 pub returns-in-Ok-clause-vouched : goal.returns-in-Ok-clause-vouched
 returns-in-Ok-clause-vouched c = λ replies.
-    after_begin (λ (r : SecretRow). RowVouched replies r) c.in-Ok.began c.args.row.now _ c.args.token.now c.args.moment
-    (λ begins h. begin_vouched replies c.args.row.now c.args.token.now c.args.moment h) c.in-Ok.ensures.answer
+    after_begin (λ (r : SecretRow). RowVouched replies r) c.in-Ok.began c.args.row.now _ c.args.token.now c.args.when
+    (λ begins h. begin_vouched replies c.args.row.now c.args.token.now c.args.when.moment h) c.in-Ok.ensures.answer
     c.in-Ok.ensures.row

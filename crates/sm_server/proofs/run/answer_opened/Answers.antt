@@ -1,8 +1,9 @@
-use Rattle.std.proofs.Common.{◌≡◌, ℕ, length, refl, sym, ap, subst, ◌∙◌}
+use Rattle.std.proofs.Common.{◌≡◌, ℕ, refl, sym, ap, subst, ◌∙◌}
 use Rattle.sm_base.specs.declared.limits.TheConstants.{JOURNAL_LIMIT}
 use Rattle.sm_account.specs.Accounts.{history, base, began, taken, disk, failed}
 use Rattle.sm_account.specs.Books.{FaultsBound}
 use Rattle.sm_account.specs.States.{Base, base_of}
+use Rattle.sm_opening.specs.Lawful.{made_of}
 use Rattle.sm_server.specs.declared.asked.Task.TheVariants.{Answer}
 use Rattle.sm_server.specs.Outside.{Outside, outside_by}
 use Rattle.sm_server.specs.Ran.{Course, Story, Runs, course_of}
@@ -41,20 +42,17 @@ returns-clause-ran g c =
       replies = replies;
       people = c.args.people.now;
       base = b;
-      entries = length (taken new);
+      entries = (made_of (taken new)).entries;
       history = history new;
     } in
     subst (λ (b : Base). Runs (course b) status (before first) (after (g.D.Disk.faults (disk new)))) based
     (runs_since (course (base old))
     (before (g.D.Disk.faults (disk old))) (after (g.D.Disk.faults (disk new))) first c.requires.later status
-    (status_opened answered.result) (answered.ensures.runs (length (taken new)))) in
+    (status_opened answered.result) (answered.ensures.runs (made_of (taken new)).entries)) in
     let stands : Stands g.D.Disk story (began old) (disk new) = record {
-      images = c.standing.ensures.images;
+      on_disk = c.standing.ensures.on_disk;
       cause = cause_since (failed old) (failed new) first (g.D.Disk.faults (disk old)) (g.D.Disk.faults (disk new))
           c.requires.sure answered.ensures.unsure c.requires.later;
-      legal = c.standing.ensures.legal;
-      in_time = c.standing.ensures.in_time;
-      next = c.standing.ensures.next;
       faults = subst (λ d. FaultsBound (g.D.Disk.faults d) (history new) (g.D.Disk.faults (disk new)))
           answered.ensures.origin.began_stays c.standing.ensures.faults;
     } in (

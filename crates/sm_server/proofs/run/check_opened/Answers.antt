@@ -1,7 +1,9 @@
-use Rattle.std.proofs.Common.{◌≡◌, ◌++◌, false, is_some, length, ap, subst, ◌∙◌, append-nil}
+use Rattle.std.proofs.Common.{◌≡◌, ◌+◌, ℕ, [], false, is_some, length, ap, subst, ◌∙◌, arith}
 use Rattle.sm_base.specs.Faults.{Rose}
 use Rattle.sm_model.specs.declared.rows.Rows.{Rows}
-use Rattle.sm_account.specs.Accounts.{all_of, base, failed, rows, taken}
+use Rattle.sm_account.specs.Accounts.{all_of, base, failed, history, rows, taken}
+use Rattle.sm_account.proofs.HeldLemmas.{made_count}
+use Rattle.sm_opening.specs.Lawful.{made_of}
 use Rattle.sm_account.specs.History.{entries_in}
 use Rattle.sm_core.specs.Histories.{replay}
 use Rattle.sm_server.specs.Checks.{Shows}
@@ -15,26 +17,24 @@ returns-clause-shows g c =
     let cause = Rose (g.K.Sink.sink_faults c.args.sink.now) (g.K.Sink.sink_faults c.summarize-status.new.sink) in
     let same : rows account ≡ (base account).rows =
     c.standing.ensures.rows ∙ ap (λ h. replay (base account).rows (entries_in h)) c.requires.fresh in
-    let many : length (all_of account) ≡ length (taken account) =
-    ap (λ h. length (taken account ++ entries_in h)) c.requires.fresh
-    ∙ ap (λ entries. length entries) (append-nil (taken account)) in (
+    let many : (made_of (all_of account)).entries ≡ (made_of (taken account)).entries =
+    made_count (taken account) (entries_in (history account))
+    ∙ ap (λ h. (made_of (taken account)).entries + length (entries_in h)) c.requires.fresh ∙ omega arith in (
       s.0,
       s.1,
       s.2,
       s.3,
       subst (λ n. Shows cause (base account).rows s.0 n c.summarize-status.result s.1) many
-          (subst (λ (r : Rows). Shows cause r s.0 (length (all_of account)) c.summarize-status.result s.1) same s.4),
+          (subst (λ (r : Rows). Shows cause r s.0 (made_of (all_of account)).entries c.summarize-status.result s.1) same
+          s.4),
     )
 
 pub returns-clause-stands : goal.returns-clause-stands
 returns-clause-stands g c people =
     let standing = c.standing.ensures in
     record {
-      images = standing.images;
+      on_disk = standing.on_disk;
       cause = λ some. absurd (let h : is_some (failed c.args.account) ≡ false = ap is_some c.requires.sure in cc);
-      legal = standing.legal;
-      in_time = standing.in_time;
-      next = standing.next;
       faults = standing.faults;
     }
 

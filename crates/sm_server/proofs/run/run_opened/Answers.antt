@@ -1,6 +1,7 @@
-use Rattle.std.proofs.Common.{◌≤◌, ℕ, length, refl, sym, subst, ◌∙◌, arith}
+use Rattle.std.proofs.Common.{◌≤◌, ℕ, refl, sym, subst, ◌∙◌, arith}
 use Rattle.sm_account.specs.Accounts.{base, began, disk, failed, history, taken}
 use Rattle.sm_account.specs.States.{Base}
+use Rattle.sm_opening.specs.Lawful.{made_of}
 use Rattle.sm_spells.specs.Spells.{History}
 use Rattle.sm_server.specs.declared.asked.Task.TheVariants.{Summarize}
 use Rattle.sm_server.specs.Outside.{Outside, outside_by}
@@ -40,15 +41,15 @@ returns-in-Summarize-clause-ran g c =
       replies = replies;
       people = people;
       base = b;
-      entries = length (taken account);
+      entries = (made_of (taken account)).entries;
       history = h;
     } in
     let first = g.D.Disk.faults (began account) in
     let opened = g.D.Disk.faults (disk account) in
     let runs : Runs (course (base account) (history account)) status (before opened) after =
     subst (λ h. Runs (course (base account) h) status (before opened) after) (sym c.requires.fresh)
-    (runs_checked replies people (base account) (length (taken account)) (before opened) after s.0 s.1 status s.4 refl
-    s.3 s.2 refl) in (
+    (runs_checked replies people (base account) (made_of (taken account)).entries (before opened) after s.0 s.1 status
+    s.4 refl s.3 s.2 refl) in (
       story,
       sym c.in-Summarize.is,
       refl,

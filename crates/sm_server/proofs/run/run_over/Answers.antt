@@ -1,9 +1,8 @@
-use Rattle.std.proofs.Common.{◌≡◌, ◌≤◌, ℕ, List, inr, sym, refl, subst, arith}
-use Rattle.sm_model.specs.declared.entry.Entry.{Entry}
-use Rattle.sm_journal.specs.Openings.{ReadsAs}
+use Rattle.std.proofs.Common.{◌≡◌, ◌≤◌, ℕ, inr, sym, refl, subst, arith}
+use Rattle.sm_base.specs.declared.limits.TheConstants.{JOURNAL_LIMIT}
 use Rattle.sm_account.specs.Accounts.{disk}
-use Rattle.sm_store.specs.Entries.{HasEntries}
-use Rattle.sm_store.specs.declared.files.TheConstants.{JOURNAL}
+use Rattle.sm_account.specs.Openings.{TakenFrom}
+use Rattle.sm_store.specs.Held.{Held}
 use Rattle.sm_server.specs.declared.status.Status.{Status}
 use Rattle.sm_server.specs.Outside.{Outside, outside_by}
 use Rattle.sm_server.specs.Ran.{Runs, course_of}
@@ -26,8 +25,9 @@ returns-in-Ok-clause-ran g c =
     c.run_opened.new.sink (g.D.Disk.faults run.result.1) c.run_opened.new.clock c.run_opened.new.random
     c.run_opened.new.rotator in
     let records : Records g.D.Disk story c.args.disk run.result.1 = record {
-      recovered = subst (λ (t : List Entry). ReadsAs JOURNAL (λ bytes. HasEntries bytes t)
-          (g.D.Disk.sight c.args.disk)) (sym run.ensures.ran.3) c.in-Ok.ensures.list;
+      opened = disk c.in-Ok.account;
+      recovered = subst (λ (t : Held). TakenFrom g.D.Disk c.args.disk JOURNAL_LIMIT t (disk c.in-Ok.account))
+          (sym run.ensures.ran.3) c.in-Ok.ensures.taken;
       stands = subst (λ d. Stands g.D.Disk story d run.result.1) opened.began_is run.ensures.ran.5;
     } in (
       story,
@@ -96,7 +96,7 @@ run_opened-requires g c =
       base_is = opened.base_is;
       sure = opened.sure;
       later = subst (λ d. g.D.Disk.faults d ≤ g.D.Disk.faults (disk c.in-Ok.account)) (sym opened.began_is)
-          c.in-Ok.ensures.later;
+          c.in-Ok.ensures.taken.later;
     }
 
 pub returns-in-Ok-clause-source_later : goal.returns-in-Ok-clause-source_later
@@ -106,7 +106,7 @@ pub returns-in-Ok-clause-sink_later : goal.returns-in-Ok-clause-sink_later
 returns-in-Ok-clause-sink_later g c = c.run_opened.ensures.later.sink
 
 pub returns-in-Ok-clause-disk_later : goal.returns-in-Ok-clause-disk_later
-returns-in-Ok-clause-disk_later g c = omega (arith, c.in-Ok.ensures.later, c.run_opened.ensures.later.disk)
+returns-in-Ok-clause-disk_later g c = omega (arith, c.in-Ok.ensures.taken.later, c.run_opened.ensures.later.disk)
 
 pub returns-in-Ok-clause-random_later : goal.returns-in-Ok-clause-random_later
 returns-in-Ok-clause-random_later g c = c.run_opened.ensures.later.random

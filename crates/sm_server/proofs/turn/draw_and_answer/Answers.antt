@@ -1,4 +1,4 @@
-use Rattle.std.proofs.Common.{[], ◌∙◌, sym, subst, ◌<◌, Ok, append-nil, arith}
+use Rattle.std.proofs.Common.{[], ◌∙◌, sym, subst, ◌<◌, Ok, append-nil}
 use Rattle.sm_base.specs.Faults.{Rose}
 use Rattle.sm_account.specs.Accounts.{base, history, disk}
 use Rattle.sm_session.specs.Answer.{Asked}
@@ -7,9 +7,6 @@ use Rattle.sm_session.specs.Told.{nothing_told, told_once}
 use Rattle.sm_spells.proofs.KnownLemmas.{append_known-nil}
 use Rattle.sm_session.proofs.TurnLemmas.{failed_turn, forgotten_turn, reached_turn}
 use Rattle.sm_server.proofs.turn.draw_and_answer.Goals as goal
-
-pub turn-requires-clause-key : goal.turn-requires-clause-key
-turn-requires-clause-key g c = omega (arith, c.requires)
 
 pub returns-in-Bytes-clause-turn : goal.returns-in-Bytes-clause-turn
 returns-in-Bytes-clause-turn g c =

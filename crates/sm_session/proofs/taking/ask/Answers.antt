@@ -1,4 +1,4 @@
-use Rattle.std.proofs.Common.{◌≡◌, ◌<◌, ◌∙◌, Ok, refl, sym, ap, subst, arith}
+use Rattle.std.proofs.Common.{◌≡◌, ◌<◌, ◌∙◌, Ok, refl, sym, ap, subst}
 use Rattle.sm_base.specs.Faults.{Rose}
 use Rattle.sm_account.specs.Accounts.{base}
 use Rattle.sm_account.specs.Handled.{marks_of}
@@ -15,9 +15,6 @@ use Rattle.sm_session.specs.Views.{standing_by}
 use Rattle.sm_session.proofs.HoldLemmas.{fault_stands, is_touched, passed_by, traced_by}
 use Rattle.sm_session.proofs.TurnLemmas.{answered_by, failed_turn, forgotten_turn, reached_turn, untouched}
 use Rattle.sm_session.proofs.taking.ask.Goals as goal
-
-pub hold_once-pass-requires-clause-key : goal.hold_once-pass-requires-clause-key
-hold_once-pass-requires-clause-key g c = omega (arith, c.requires.key)
 
 pub returns-in-Bytes-clause-turn : goal.returns-in-Bytes-clause-turn
 returns-in-Bytes-clause-turn g c =

@@ -1,15 +1,16 @@
-use Rattle.sm_store.proofs.StoreStands.{holds_images}
+use Rattle.sm_store.proofs.BaseStands.{holds_recover}
 use Rattle.sm_account.specs.Accounts.{all_of, failed}
-use Rattle.sm_account.proofs.VouchLemmas.{all_in_time, kept_vouched}
+use Rattle.sm_account.proofs.VouchLemmas.{kept_vouched}
 use Rattle.sm_account.proofs.account.Account.standing.Goals as goal
 
-pub returns-clause-images : goal.returns-clause-images
-returns-clause-images g c =
-    holds_images c.args.self.now.books.store (all_of c.args.self.now) (failed c.args.self.now)
-    c.args.self.now.kept.holds
-
-pub returns-clause-in_time : goal.returns-clause-in_time
-returns-clause-in_time g c = all_in_time g.R.Rotator.replies c.args.self.now.books c.args.self.now.kept
+pub returns-clause-on_disk : goal.returns-clause-on_disk
+returns-clause-on_disk g c =
+    let account = c.args.self.now in
+    record {
+      images = holds_recover account.books.store (all_of account) (failed account) account.kept.holds;
+      lawful = account.kept.lawful;
+      next = account.kept.next;
+    }
 
 pub returns-clause-vouched : goal.returns-clause-vouched
 returns-clause-vouched g c =
