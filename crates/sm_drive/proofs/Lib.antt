@@ -1,0 +1,7 @@
+mod RunLemmas
+mod FollowsLaws
+mod RestartLemmas
+mod StepLemmas
+mod CallLemmas
+mod DriveLemmas
+mod AskedLemmas

@@ -1,0 +1,10 @@
+use Rattle.sm_drive.proofs.AskedLemmas.{all_made, all_on}
+use Rattle.sm_drive.proofs.asked.all_may_be_made.Goals as goal
+
+pub loop-call-preserved : goal.loop-call-preserved
+loop-call-preserved c =
+    all_on c.args.calls.now c.loop-call.call-index c.call-item.result c.loop-call-test.true c.call-item.is
+    (c.may_be_made.ensures c.if-not-may_be_made.false) c.loop-call.invariant
+
+pub returns : goal.returns
+returns c = λ made. all_made c.args.calls.now c.loop-call.call-index c.loop-call-test.false c.loop-call.invariant

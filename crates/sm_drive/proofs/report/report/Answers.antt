@@ -1,0 +1,13 @@
+use Rattle.sm_drive.proofs.CallLemmas.{report_calls, unnamed_calls}
+use Rattle.sm_drive.proofs.report.report.Goals as goal
+
+pub returns-in-Some : goal.returns-in-Some
+returns-in-Some g c =
+    report_calls g.D.Disk g.R.Rotator c.args.run.now c.report.new.self c.report.ensures.origin c.args.place c.args.now
+    c.in-Some.verdict.now c.report.result c.entries.result c.place_of-next.result c.outcome_of.result
+    c.in-Some.ensures c.entries.ensures c.place_of-next.ensures c.outcome_of.ensures c.report.ensures.reports
+    c.report.ensures.leaves
+
+pub returns-in-None : goal.returns-in-None
+returns-in-None g c =
+    unnamed_calls g.D.Disk g.R.Rotator c.args.run.now c.args.place c.args.now c.in-None.ensures

@@ -1,0 +1,14 @@
+pub mod Stands
+pub mod Asked
+pub mod Aims
+pub mod Outcomes
+pub mod Steps
+pub mod Runs
+pub mod Openings
+pub mod Working
+pub mod Standing
+pub mod Stepping
+pub mod Refused
+pub mod Drives
+pub mod Going
+pub mod Laws

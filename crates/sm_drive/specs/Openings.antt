@@ -1,0 +1,24 @@
+-- What the opening at the start of a run takes.
+use Rattle.std.specs.Prelude.{◌≡◌, []}
+use Rattle.sm_base.specs.declared.limits.TheConstants.{JOURNAL_LIMIT}
+use Rattle.sm_disk.specs.Sight.{Image, Sight}
+use Rattle.sm_journal.specs.declared.format.Format.{Format}
+use Rattle.sm_opening.specs.Openings.{IsFound}
+use Rattle.sm_opening.specs.Replacing.{taken_of}
+use Rattle.sm_store.specs.Held.{Held}
+use Rattle.sm_drive.specs.Stands.{Stand, opened}
+
+-- what a read of the disk gives, or the state that this makes as a base
+pub record Begins (now : Sight) (taken : Held) : Type 0 where
+  pub format : Format
+  pub held : Held
+  pub found : IsFound format held now
+  pub takes : taken ≡ taken_of format JOURNAL_LIMIT held
+
+-- before the first call
+abbrev pub beginning : Held → Stand
+beginning taken = opened taken [] []
+
+-- the disk tells what a read gives
+abbrev pub Tells : Sight → Type 0
+Tells now = (s : Image) × now.reads s

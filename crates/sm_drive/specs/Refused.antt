@@ -1,0 +1,50 @@
+-- Why a run has no end: the refusal of an opening.
+use Rattle.std.specs.Prelude.{◌≡◌, ◌⊎◌, ℕ, Bool, true, false, List, Some, slice_get, take}
+use Rattle.sm_disk.specs.declared.disk.Disk.{Ghosts as DiskGhosts}
+use Rattle.sm_journal.specs.declared.answers.OpenRefused.{OpenRefused}
+use Rattle.sm_journal.specs.declared.answers.OpenRefused.TheVariants.{Damaged, Failed, Memory}
+use Rattle.sm_rotation.specs.Vouched.{Replies}
+use Rattle.sm_rotator.specs.declared.rotator.Rotator.{Ghosts as RotatorGhosts}
+use Rattle.sm_store.specs.Held.{Held}
+use Rattle.sm_opening.specs.Openings.{IsRefused}
+use Rattle.sm_account.specs.Accounts.{disk}
+use Rattle.sm_account.specs.Crashes.{HoldsOnDisk}
+use Rattle.sm_drive.specs.Openings.{Begins, Tells, beginning}
+use Rattle.sm_drive.specs.Runs.{Runs}
+use Rattle.sm_drive.specs.Stands.{Stand, all_at}
+use Rattle.sm_drive.specs.declared.call.Call.{Call}
+use Rattle.sm_drive.specs.declared.call.Call.TheVariants.{Restart}
+use Rattle.sm_drive.specs.declared.outcome.Outcome.{Outcome}
+use Rattle.sm_drive.specs.declared.run.Run.{Run}
+
+abbrev pub is_damaged : {D : Type 0} → OpenRefused D → Bool
+is_damaged (Damaged now damage) = true
+is_damaged (Failed now) = false
+is_damaged (Memory now) = false
+
+-- the call is a Restart, whose opening was refused over the disk that the run left, and where that tells it is not
+-- damaged
+pub record IsRefusedAt {D R : Type 0} (G : DiskGhosts D) (V : RotatorGhosts R) (run : Run D R G V) (call : Call)
+    (refused : OpenRefused D) : Type 0 where
+  pub restarts : call ≡ Restart
+  pub refused_is : IsRefused G (disk run.account) refused
+  pub whole : Tells (G.sight (disk run.account)) → is_damaged refused ≡ false
+
+-- The calls before a Restart ran from what was taken, and it was refused over what they left on the disk, which is not
+-- damaged.
+pub record StopsBehind {D : Type 0} (G : DiskGhosts D) (replies : Replies) (taken : Held) (calls : List Call)
+    (refused : OpenRefused D) : Type 0 where
+  pub count : ℕ
+  pub restarts : slice_get calls count ≡ Some Restart
+  pub outcomes : List Outcome
+  pub last : Stand
+  pub runs : Runs replies (take count calls) outcomes (beginning taken) last
+  pub before : D
+  pub holds : HoldsOnDisk (all_at last) last.failed (G.sight before)
+  pub refused_is : IsRefused G before refused
+  pub whole : is_damaged refused ≡ false
+
+-- A run is refused at the start, by the opening's rule; or, over a disk that tells, at a Restart.
+abbrev pub IsStopped : {D : Type 0} → DiskGhosts D → Replies → D → List Call → OpenRefused D → Type 0
+IsStopped G replies disk calls refused = IsRefused G disk refused
+    ⊎ (Tells (G.sight disk) → (taken : Held) × Begins (G.sight disk) taken × StopsBehind G replies taken calls refused)

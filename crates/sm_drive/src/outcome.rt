@@ -1,0 +1,26 @@
+//! Outcomes of the calls of a run.
+
+/// What came of a call.
+#[derive(Clone, Copy, Debug, PartialEq, Eq)]
+pub enum Outcome {
+    /// An entry was made, and stands at this place of the run's entries, counted from 0.
+    Entered(u64),
+    /// A reply that needs no entry.
+    Quiet,
+    /// A refusal, but by a limit.
+    Refused,
+    /// The verdict is on a step that is past, or on a secret or a version that is gone.
+    Stale,
+    /// A refusal by a limit, or the entry would pass one.
+    Limit,
+    /// The disk failed where the entry was to be written.
+    DiskFault,
+    /// The rotator was asked, and its verdict is kept.
+    Asked,
+    /// No step is ready, no verdict has this number, or no rotation is due.
+    Nothing,
+    /// Memory was wanted. At most a claim was made.
+    Memory,
+    /// The account was opened again.
+    Reopened,
+}
