@@ -31,11 +31,7 @@ fn say_reason(rt: &HostRuntime, status: Status) {
         Status::Enough => eprintln!(rt;
             "secretsd: 1,000 messages were answered, and what stands behind them was not read"
         ),
-        Status::Done
-        | Status::Words
-        | Status::OpenFault
-        | Status::People(_)
-        | Status::EdgeFault
-        | Status::NotBuilt => Ok(()),
+        Status::Done | Status::Words | Status::OpenFault | Status::People(_) | Status::EdgeFault =>
+            Ok(()),
     };
 }

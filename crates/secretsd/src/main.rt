@@ -112,10 +112,7 @@ fn follow_mode<H: Threads + Wait + Sync>(
         Mode::Exec => follow_settings(rt, threads, words, settings),
         Mode::Serve => follow_settings(rt, threads, words, settings),
         Mode::Check => follow_settings(rt, threads, words, settings),
-        Mode::Drill => {
-            let _ = eprintln!(rt; "secretsd: --mode drill is not built yet");
-            Status::NotBuilt
-        }
+        Mode::Drill => follow_settings(rt, threads, words, settings),
         Mode::Agent => {
             say_start(rt, settings);
             read_for_others(rt, threads, words, settings)

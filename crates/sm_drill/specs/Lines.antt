@@ -25,9 +25,13 @@ lines refused totals shown =
     codes "messages 10000 refused " ++ (decimal refused ++ (codes "\n" ++ (totals
     ++ (codes "last " ++ (unwrap_or shown (codes "-") ++ codes "\n")))))
 
+-- what a reply shows, where there is one
+abbrev pub shown_by : Option Answered → Option (List ℕ)
+shown_by reply = option_and_then (λ r. shown_string r.status r.body) reply
+
 -- what message 9,999's reply shows
 abbrev pub last_shown : List Answered → Option (List ℕ)
-last_shown replies = option_and_then (λ reply. shown_string reply.status reply.body) (slice_get replies 9_999)
+last_shown replies = shown_by (slice_get replies 9_999)
 
 -- the three lines of all replies
 abbrev pub lines_of : List Answered → List ℕ → List ℕ

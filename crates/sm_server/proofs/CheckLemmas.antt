@@ -12,7 +12,7 @@ use Rattle.sm_spells.proofs.KnownLemmas.{append_known-nil, prepend_known-nil}
 use Rattle.sm_summary.specs.Summary.{IsSummary}
 use Rattle.sm_server.specs.declared.asked.Task.TheVariants.{Summarize}
 use Rattle.sm_server.specs.declared.status.Status.{Status}
-use Rattle.sm_server.specs.declared.status.Status.TheVariants.{Done, Words, Damaged, OpenFault, Memory, People, SinkFault, SourceFault, EdgeFault, Cut, BadMessage, Enough, NotBuilt}
+use Rattle.sm_server.specs.declared.status.Status.TheVariants.{Done, Words, Damaged, OpenFault, Memory, People, SinkFault, SourceFault, EdgeFault, Cut, BadMessage, Enough}
 use Rattle.sm_server.specs.Checks.{ChecksAt, ChecksBy, Shows, WritesBy}
 use Rattle.sm_server.specs.Outside.{Outside, Trace}
 use Rattle.sm_server.specs.Ran.{Checks, Course, Ended, Runs}
@@ -35,7 +35,6 @@ module _ (Cause : Type 0) (rows : Rows) (now : Moment) (entries : ℕ) (summary 
   shows_by (Cut bytes) writes = absurd writes
   shows_by (BadMessage place) writes = absurd writes
   shows_by Enough writes = absurd writes
-  shows_by NotBuilt writes = absurd writes
 
 module _ (Cause : Type 0) (rows : Rows) (now : Moment) (entries : ℕ) (written : List ℕ) where
   abbrev at : (status : Status) → Shows Cause rows now entries status written
@@ -56,7 +55,6 @@ module _ (Cause : Type 0) (rows : Rows) (now : Moment) (entries : ℕ) (written 
   checks_by (Cut bytes) shows = at (Cut bytes) shows
   checks_by (BadMessage place) shows = at (BadMessage place) shows
   checks_by Enough shows = at Enough shows
-  checks_by NotBuilt shows = at NotBuilt shows
 
   pub shows_opened : (status : Status) → Shows Cause rows now entries status written → WasOpened status
   shows_opened Done shows = tt
@@ -71,7 +69,6 @@ module _ (Cause : Type 0) (rows : Rows) (now : Moment) (entries : ℕ) (written 
   shows_opened (Cut bytes) shows = tt
   shows_opened (BadMessage place) shows = tt
   shows_opened Enough shows = tt
-  shows_opened NotBuilt shows = shows.writes
 
 -- the run that showed it
 module _ (replies : Replies) (people : Persons) (base : Base) (entries : ℕ) (before after : Outside) (now : Moment)
@@ -117,7 +114,6 @@ module _ (replies : Replies) (people : Persons) (base : Base) (entries : ℕ) (b
   ended_checked (Cut bytes) shows = checked (Cut bytes) shows
   ended_checked (BadMessage place) shows = checked (BadMessage place) shows
   ended_checked Enough shows = checked Enough shows
-  ended_checked NotBuilt shows = absurd shows.writes
 
   pub runs_checked : (status : Status) → Shows Cause base.rows now entries status written
       → after.left ≡ before.left → after.taken ≡ append_known before.taken written

@@ -15,7 +15,7 @@ use Rattle.sm_pool.proofs.RoundLemmas.{rotated_fell}
 use Rattle.sm_reply.specs.Shown.{Answered}
 use Rattle.sm_rotation.specs.Vouched.{Replies}
 use Rattle.sm_server.specs.declared.status.Status.{Status}
-use Rattle.sm_server.specs.declared.status.Status.TheVariants.{Done, Words, Damaged, OpenFault, Memory, People, SinkFault, SourceFault, EdgeFault, Cut, BadMessage, Enough, NotBuilt}
+use Rattle.sm_server.specs.declared.status.Status.TheVariants.{Done, Words, Damaged, OpenFault, Memory, People, SinkFault, SourceFault, EdgeFault, Cut, BadMessage, Enough}
 use Rattle.sm_principal.specs.declared.people.People.{People as Persons}
 use Rattle.sm_principal.specs.Callers.{people_of}
 use Rattle.sm_words.specs.Reading.{settings_of}
@@ -28,7 +28,7 @@ use Rattle.sm_session.specs.Told.{Growth}
 use Rattle.sm_session.proofs.StreamLemmas.{start_prefix, start_more, no_messages}
 use Rattle.sm_session.proofs.TurnLemmas.{turn_weaker}
 use Rattle.sm_server.specs.declared.asked.Task.{Task}
-use Rattle.sm_server.specs.declared.asked.Task.TheVariants.{Answer, Summarize}
+use Rattle.sm_server.specs.declared.asked.Task.TheVariants.{Answer, Practise, Summarize}
 use Rattle.sm_server.specs.Asked.{WordsDecide, PeopleDecide}
 use Rattle.sm_server.specs.Complete.{Steady, NoneFailed, ModelTurn, ModelTurns, AnswersEach, ReadsWhole, Orders, Ran}
 use Rattle.sm_server.specs.Outside.{Outside, Trace, growth}
@@ -206,12 +206,12 @@ module _ (course : Course) (before after : Outside) (trace : Trace)
           each_of input e.messages e.answered [] (alone e.answered.brought.replies e.ends.1)
           (λ all end are. let more = start_prefix input e.messages all end e.ends.2 are in
           first_of_more e.messages all more.0 more.1 e.ends.0)
-      each_answered NotBuilt e other = absurd e.ends
 
       each_at : (task : Task) (status : Status) → EndedAt task course status input left trace → (status ≡ Memory → ⊥)
           → AnswersEach course input trace.written
       each_at Answer status e other = each_answered status e other
       each_at Summarize status e other = each_none input e.unread
+      each_at (Practise number) status e other = each_none input e.unread
 
       pub each_by : (status : Status) → Ended course status input left trace → (status ≡ Memory → ⊥)
           → AnswersEach course input trace.written
@@ -227,7 +227,6 @@ module _ (course : Course) (before after : Outside) (trace : Trace)
       each_by (Cut n) e other = each_at course.task (Cut n) e other
       each_by (BadMessage at) e other = each_at course.task (BadMessage at) e other
       each_by Enough e other = each_at course.task Enough e other
-      each_by NotBuilt e other = each_none input e.0
 
       -- the source's bytes are those that were read and the rest
       module _ (rest : List ℕ) (all : List Message) (end : End) (are : Messages (input ++ rest) 0 all end)
@@ -267,12 +266,12 @@ module _ (course : Course) (before after : Outside) (trace : Trace)
         whole_answered (Cut n) e = absurd (not_cut n e.messages e.ends.2 e.ends.3 e.ends.4)
         whole_answered (BadMessage at) e = absurd (not_bad e.ends.0 e.ends.1.1.place e.messages e.ends.1.1.ends)
         whole_answered Enough e = absurd (not_enough e.messages e.ends.2 e.ends.0)
-        whole_answered NotBuilt e = absurd e.ends
 
         whole_at : (task : Task) → task ≡ Answer → (status : Status) → EndedAt task course status input left trace
             → (status ≡ Done) ⊎ (status ≡ Memory)
         whole_at Answer is status e = whole_answered status e
         whole_at Summarize is status e = absurd (let h : Summarize ≡ Answer = is in cc)
+        whole_at (Practise number) is status e = absurd (let h : Practise number ≡ Answer = is in cc)
 
         whole_of : course.task ≡ Answer → (status : Status) → WasOpened status
             → Ended course status input left trace → (status ≡ Done) ⊎ (status ≡ Memory)
@@ -288,7 +287,6 @@ module _ (course : Course) (before after : Outside) (trace : Trace)
         whole_of answers (Cut n) opened e = whole_at course.task answers (Cut n) e
         whole_of answers (BadMessage at) opened e = whole_at course.task answers (BadMessage at) e
         whole_of answers Enough opened e = whole_at course.task answers Enough e
-        whole_of answers NotBuilt opened e = absurd opened
 
       pub whole_by : (status : Status) → WasOpened status → Ended course status input left trace
           → (first : Option (List ℕ)) → first ≡ prepend_known input left → ReadsWhole course.task status first

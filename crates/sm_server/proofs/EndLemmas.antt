@@ -1,16 +1,17 @@
 -- The same run, counted from an earlier moment on.
 use Rattle.std.proofs.Common.{◌≡◌, ℕ, ◌≤◌, List, Option, Result, Ok, refl, sym, arith, subst}
+use Rattle.sm_drill.specs.Messages.{messages_of}
 use Rattle.sm_http.specs.Messages.{Message}
 use Rattle.sm_principal.specs.declared.people.People.{People as Persons}
 use Rattle.sm_words.specs.declared.settings.Settings.{Settings}
 use Rattle.sm_session.specs.Told.{Growth, Within}
 use Rattle.sm_server.specs.declared.asked.Task.{Task}
-use Rattle.sm_server.specs.declared.asked.Task.TheVariants.{Answer, Summarize}
+use Rattle.sm_server.specs.declared.asked.Task.TheVariants.{Answer, Practise, Summarize}
 use Rattle.sm_server.specs.declared.status.Status.{Status}
-use Rattle.sm_server.specs.declared.status.Status.TheVariants.{Done, Words, Damaged, OpenFault, Memory, People, SinkFault, SourceFault, EdgeFault, Cut, BadMessage, Enough, NotBuilt}
+use Rattle.sm_server.specs.declared.status.Status.TheVariants.{Done, Words, Damaged, OpenFault, Memory, People, SinkFault, SourceFault, EdgeFault, Cut, BadMessage, Enough}
 use Rattle.sm_server.specs.Asked.{task_of_words, WordsDecide, PeopleDecide}
 use Rattle.sm_server.specs.Outside.{Outside, growth, Trace}
-use Rattle.sm_server.specs.Ran.{Course, AreAnswered, Answers, Checks, EndedAt, Ended, Runs}
+use Rattle.sm_server.specs.Ran.{Course, AreAnswered, Answers, Checks, Drills, EndedAt, Ended, Runs}
 use Rattle.sm_server.specs.Status.{WasFollowed, WasOpened, WasUnderstood}
 
 -- the same run, whose disk is counted from an earlier moment on
@@ -38,23 +39,43 @@ module _ (course : Course) (before after : Outside) (earlier : ℕ) (early : ear
       rotator = a.rotator;
     }
 
+  module _ (trace : Trace) (disk_is : trace.disk ≡ growth (λ c. c.disk) before after) where
+    abbrev further : Trace
+    further = longer trace disk_is
+
     answers_since : (status : Status) (input : List ℕ) (left : Option (List ℕ))
-        → Answers course status input left trace → Answers course status input left longer
+        → Answers course status input left trace → Answers course status input left further
     answers_since status input left e =
-        record { messages = e.messages; answered = answered_since e.messages e.answered; ends = e.ends }
+        record {
+          messages = e.messages;
+          answered = answered_since trace disk_is e.messages e.answered;
+          ends = e.ends;
+        }
 
     checks_since : (status : Status) (input : List ℕ) → Checks course status input trace
-        → Checks course status input longer
+        → Checks course status input further
     checks_since status input e =
         record { unread = e.unread; unmarked = e.unmarked; undrawn = e.undrawn; checks = e.checks }
 
+    drills_since : (number : ℕ) (status : Status) (input : List ℕ) → Drills course number status input trace
+        → Drills course number status input further
+    drills_since number status input e = record {
+      unread = e.unread;
+      count = e.count;
+      few = e.few;
+      told = e.told;
+      answered = answered_since (record trace { told = e.told }) disk_is (messages_of number e.count) e.answered;
+      ends = e.ends;
+    }
+
     at_since : (task : Task) (status : Status) (input : List ℕ) (left : Option (List ℕ))
-        → EndedAt task course status input left trace → EndedAt task course status input left longer
+        → EndedAt task course status input left trace → EndedAt task course status input left further
     at_since Answer status input left e = answers_since status input left e
     at_since Summarize status input left e = checks_since status input e
+    at_since (Practise number) status input left e = drills_since number status input e
 
     ended_since : (status : Status) (input : List ℕ) (left : Option (List ℕ)) → Ended course status input left trace
-        → WasOpened status → Ended course status input left longer
+        → WasOpened status → Ended course status input left further
     ended_since Done input left e o = at_since course.task Done input left e
     ended_since Words input left e o = absurd o
     ended_since (Damaged at entry) input left e o = absurd o
@@ -67,7 +88,6 @@ module _ (course : Course) (before after : Outside) (earlier : ℕ) (early : ear
     ended_since (Cut bytes) input left e o = at_since course.task (Cut bytes) input left e
     ended_since (BadMessage place) input left e o = at_since course.task (BadMessage place) input left e
     ended_since Enough input left e o = at_since course.task Enough input left e
-    ended_since NotBuilt input left e o = absurd o
 
   pub runs_since : (status : Status) → WasOpened status → Runs course status before after
       → Runs course status since after
@@ -102,7 +122,6 @@ opened_followed EdgeFault o = tt
 opened_followed (Cut bytes) o = tt
 opened_followed (BadMessage place) o = tt
 opened_followed Enough o = tt
-opened_followed NotBuilt o = o
 
 -- a run that followed its words and its people followed its words
 pub followed_understood : (status : Status) → WasFollowed status → WasUnderstood status
@@ -118,7 +137,6 @@ followed_understood EdgeFault f = tt
 followed_understood (Cut bytes) f = tt
 followed_understood (BadMessage place) f = tt
 followed_understood Enough f = tt
-followed_understood NotBuilt f = f
 
 pub words_decided : (status : Status) (asked : Option Settings) (task : Task) → WasUnderstood status
     → task_of_words asked ≡ Ok task → WordsDecide status asked task
@@ -134,7 +152,6 @@ words_decided EdgeFault asked task f are = are
 words_decided (Cut bytes) asked task f are = are
 words_decided (BadMessage place) asked task f are = are
 words_decided Enough asked task f are = are
-words_decided NotBuilt asked task f are = absurd f
 
 pub people_decided : (status : Status) (read : Result Persons ℕ) (people : Persons) → WasFollowed status
     → read ≡ Ok people → PeopleDecide status read people
@@ -150,4 +167,3 @@ people_decided EdgeFault read people f are = are
 people_decided (Cut bytes) read people f are = are
 people_decided (BadMessage place) read people f are = are
 people_decided Enough read people f are = are
-people_decided NotBuilt read people f are = tt

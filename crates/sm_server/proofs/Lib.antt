@@ -5,5 +5,6 @@ pub mod CompleteLemmas
 pub mod StoredLemmas
 pub mod UnopenedLemmas
 pub mod CheckLemmas
+pub mod DrillLemmas
 pub mod ServedLemmas
 pub mod ReaderLemmas

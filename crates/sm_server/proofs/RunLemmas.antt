@@ -31,10 +31,11 @@ use Rattle.sm_session.specs.Told.{Told, Growth, Within}
 use Rattle.sm_spells.proofs.KnownLemmas.{append_known-nil, told_more}
 use Rattle.sm_session.proofs.WireLemmas.{Wire, wire_first, wire_enough, wire_stops, wire_more, wire_cut}
 use Rattle.sm_server.specs.declared.asked.Task.TheVariants.{Answer}
+use Rattle.sm_server.specs.Brought.{Brings}
 use Rattle.sm_server.specs.Outside.{Outside, sides_of, growth, Trace, Passed}
 use Rattle.sm_server.specs.Ran.{Course, AreAnswered, passage_of, Ended as RunEnded, Runs}
 use Rattle.sm_server.specs.Status.{status_of, WasOpened}
-use Rattle.sm_server.specs.Turns.{seat, Turn, TurnOf, Brought, GoesWell, brought_nothing, counts_before, Turns}
+use Rattle.sm_server.specs.Turns.{seat, Turn, TurnOf, Brought, GoesWell, brought_nothing, counts_before}
 use Rattle.sm_server.proofs.TurnsLemmas.{counts_last, turns_more, with_last}
 
 -- what passed between two states of the outside, where this was written and told
@@ -64,17 +65,6 @@ passed_by before after written told taken readings drawn = record {
   random_count = refl;
   rotator_count = refl;
 }
-
--- what messages brought, from before to now, where the history is this now
-pub record Brings (replies : Replies) (people : People) (base : Base) (before now : Outside) (history : History)
-    (messages : List Message) (brought : Brought) : Type 0 where
-  pub turns : Turns replies people base [] messages brought
-  pub disk : growth (λ c. c.disk) before now ≡ brought.disk
-  pub random : growth (λ c. c.random) before now ≡ brought.random
-  pub rotator : growth (λ c. c.rotator) before now ≡ brought.rotator
-  pub stands : history ≡ brought.history
-  pub readings : now.readings ≡ append_known before.readings brought.told.readings
-  pub drawn : now.drawn ≡ append_known before.drawn brought.told.drawn
 
 -- a point of a run: what the outside tells, what the reader holds, the history, and how many bytes are counted
 pub record Point : Type 0 where

@@ -103,7 +103,6 @@ module _ {E K C W R A O D : Type 0} {g : StoriedGhosts A O Mark} (views : Views 
   ends_at account (statuses.Cut bytes) ends closed left = absurd ends
   ends_at account (statuses.BadMessage place) ends closed left = absurd ends
   ends_at account statuses.Enough ends closed left = absurd ends
-  ends_at account statuses.NotBuilt ends closed left = absurd ends
 
   pub ends_closed : (before after : Account D R G V) (status : Status) → EndsWorkers status new
       → history before ≡ [] → base after ≡ base before

@@ -5,7 +5,7 @@ use Rattle.sm_base.specs.Faults.{Rose}
 use Rattle.sm_disk.specs.declared.disk.Disk.{Ghosts}
 use Rattle.sm_model.specs.declared.entry.Entry.{Entry}
 use Rattle.sm_server.specs.declared.status.Status.{Status}
-use Rattle.sm_server.specs.declared.status.Status.TheVariants.{Done, Words, Damaged, OpenFault, Memory, People, SinkFault, SourceFault, EdgeFault, Cut, BadMessage, Enough, NotBuilt}
+use Rattle.sm_server.specs.declared.status.Status.TheVariants.{Done, Words, Damaged, OpenFault, Memory, People, SinkFault, SourceFault, EdgeFault, Cut, BadMessage, Enough}
 use Rattle.sm_server.specs.Ran.{Story}
 use Rattle.sm_server.specs.Status.{WasOpened}
 use Rattle.sm_account.specs.Accounts.{base, failed, history, rows, taken}
@@ -40,7 +40,6 @@ leaves_opened G EdgeFault story old new opened r = r
 leaves_opened G (Cut bytes) story old new opened r = r
 leaves_opened G (BadMessage place) story old new opened r = r
 leaves_opened G Enough story old new opened r = r
-leaves_opened G NotBuilt story old new opened r = absurd opened
 
 -- a write is unsure only where the count rose since an earlier moment
 pub cause_since : (before failed : Option Entry) (began opened now : ℕ) → before ≡ None

@@ -151,3 +151,33 @@ module _ (replies : Replies) (base : Base) (history : History) (asked : Result A
     reply = refl;
     told = refl;
   }
+
+-- the turn of a message, and the history behind it, by what its own part and the rotation turns did at an account whose
+-- base and history these were between
+pub turn_of : (replies : Replies) (base : Base) (history : History) (asked : Result Asked Why) (own : sessions.Turn)
+    (first between last : Counts) (round : Round) (base' : Base) (middle to : History)
+    → sessions.IsTurn (Rose first.disk between.disk) (Rose first.words between.words) base history asked own
+    → middle ≡ history ++ by_seat seat own.marks → base' ≡ base
+    → Rotated replies base' seat (record { history = middle; counts = between }) round
+    (record { history = to; counts = last })
+    → between.rotator ≡ first.rotator → NoneFell first between
+    → TurnOf replies base history asked (record {
+      told = told_both own.told (told_for round);
+      reply = own.reply;
+      marks = own.marks ++ marks_of round;
+      disk = record { before = first.disk; after = last.disk };
+      random = record { before = first.words; after = last.words };
+      rotator = record { before = first.rotator; after = last.rotator };
+    }) × (to ≡ history ++ by_seat seat (own.marks ++ marks_of round))
+turn_of replies base history asked own first between last round base' middle to answered grew same turns unasked
+    fell =
+    let rotated : Rotated replies base seat
+    (record { history = history ++ by_seat seat own.marks; counts = between }) round
+    (record { history = to; counts = last }) =
+    subst (λ h. Rotated replies base seat (record { history = h; counts = between }) round
+    (record { history = to; counts = last })) grew
+    (subst (λ (b : Base). Rotated replies b seat (record { history = middle; counts = between }) round
+    (record { history = to; counts = last })) same turns) in (
+      turn_joined replies base history asked own first between last round to rotated answered unasked fell,
+      joined_marks replies base history asked own first between last round to rotated,
+    )

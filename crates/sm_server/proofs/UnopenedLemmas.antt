@@ -1,5 +1,5 @@
 -- Runs whose account was not opened.
-use Rattle.std.proofs.Common.{◌≡◌, ◌⊎◌, ◌≤◌, ℕ, List, [], Option, None, Some, Result, Ok, Err, refl, sym, ap, ◌∙◌, subst, inl, inr, arith}
+use Rattle.std.proofs.Common.{◌≡◌, ◌≤◌, ℕ, List, [], Option, None, Some, Result, Ok, Err, unwrap_or, refl, sym, ap, ◌∙◌, subst, inl, inr, arith}
 use Rattle.std.specs.Bool.{⊤}
 use Rattle.sm_base.specs.Faults.{Rose}
 use Rattle.sm_disk.specs.declared.disk.Disk.{Ghosts}
@@ -20,7 +20,7 @@ use Rattle.sm_principal.specs.Callers.{told}
 use Rattle.sm_session.specs.Told.{nothing_told}
 use Rattle.sm_spells.proofs.KnownLemmas.{append_known-nil, prepend_known-nil}
 use Rattle.sm_server.specs.declared.asked.Task.{Task}
-use Rattle.sm_server.specs.declared.asked.Task.TheVariants.{Answer, Summarize}
+use Rattle.sm_server.specs.declared.asked.Task.TheVariants.{Answer, Practise, Summarize}
 use Rattle.sm_server.specs.Asked.{end_of_people, task_of_mode, task_of_words, FollowsPeople, FollowsWords, WordsDecide, PeopleDecide}
 use Rattle.sm_server.specs.Outside.{Outside, Trace}
 use Rattle.sm_server.specs.Ran.{Course, Story, course_of, AreAnswered, EndedAt, Ended, Runs}
@@ -67,6 +67,14 @@ module _ (replies : Replies) (task : Task) (people : Persons) (before after : Ou
     ended_at Answer =
         record { messages = []; answered = none_answered Answer; ends = (omega arith, refl, inl ([], refl)) }
     ended_at Summarize = record { unread = refl; unmarked = refl; undrawn = refl; checks = refl }
+    ended_at (Practise number) = record {
+      unread = refl;
+      count = 0;
+      few = omega arith;
+      told = nothing_told;
+      answered = none_answered (Practise number);
+      ends = record { unwritten = refl; reading = inl refl };
+    }
 
     memory_ended : Ended (none task) statuses.Memory [] after.left nothing
     memory_ended = ended_at task
@@ -134,31 +142,27 @@ module _ {D : Type 0} (G : Ghosts D) (replies : Replies) (task : Task) (people :
 
 -- runs that do not follow their words
 
-at_mode : (mode : Mode) (status : Status) → Err status ≡ task_of_mode mode
-    → (status ≡ statuses.Words) ⊎ (status ≡ statuses.NotBuilt)
-at_mode Exec status is = absurd (let h : Err status ≡ Ok Answer = is in cc)
-at_mode Serve status is = inl (let h : Err status ≡ Err statuses.Words = is in cc)
-at_mode Check status is = absurd (let h : Err status ≡ Ok Summarize = is in cc)
-at_mode Drill status is = inr (let h : Err status ≡ Err statuses.NotBuilt = is in cc)
-at_mode Agent status is = inl (let h : Err status ≡ Err statuses.Words = is in cc)
+at_mode : (mode : Mode) (number : Option ℕ) (status : Status) → Err status ≡ task_of_mode mode number
+    → status ≡ statuses.Words
+at_mode Exec number status is = absurd (let h : Err status ≡ Ok Answer = is in cc)
+at_mode Serve number status is = let h : Err status ≡ Err statuses.Words = is in cc
+at_mode Check number status is = absurd (let h : Err status ≡ Ok Summarize = is in cc)
+at_mode Drill number status is = absurd (let h : Err status ≡ Ok (Practise (unwrap_or number 0)) = is in cc)
+at_mode Agent number status is = let h : Err status ≡ Err statuses.Words = is in cc
 
-at_words : (asked : Option Settings) (status : Status) → Err status ≡ task_of_words asked
-    → (status ≡ statuses.Words) ⊎ (status ≡ statuses.NotBuilt)
-at_words None status is = inl (let h : Err status ≡ Err statuses.Words = is in cc)
-at_words (Some settings) status is = at_mode settings.mode status is
+at_words : (asked : Option Settings) (status : Status) → Err status ≡ task_of_words asked → status ≡ statuses.Words
+at_words None status is = let h : Err status ≡ Err statuses.Words = is in cc
+at_words (Some settings) status is = at_mode settings.mode settings.number status is
 
 -- by how such a run ends
 by_end : (P : Status → Type 0) (status : Status) (asked : Option Settings) → FollowsWords (Err status) asked
-    → P statuses.Memory → (Err statuses.Words ≡ task_of_words asked → P statuses.Words)
-    → (Err statuses.NotBuilt ≡ task_of_words asked → P statuses.NotBuilt) → P status
-by_end P status asked (inl is) memory words unbuilt =
+    → P statuses.Memory → (Err statuses.Words ≡ task_of_words asked → P statuses.Words) → P status
+by_end P status asked (inl is) memory words =
     let same : status ≡ statuses.Memory = cc in subst P (sym same) memory
-by_end P status asked (inr is) memory words unbuilt =
+by_end P status asked (inr is) memory words =
     let Is : Status → Type 0 = λ s. Err s ≡ task_of_words asked in
-    elim (at_words asked status is) [
-      | inl w ↦ subst P (sym w) (words (subst Is w is))
-      | inr n ↦ subst P (sym n) (unbuilt (subst Is n is))
-    ]
+    let ends : status ≡ statuses.Words = at_words asked status is in
+    subst P (sym ends) (words (subst Is ends is))
 
 -- a run whose text of the people was not read
 pub still_outside : (outside : Outside) → Still outside outside
@@ -224,10 +228,10 @@ module _ (replies : Replies) (task : Task) (people : Persons) where
 
   module _ (status : Status) (asked : Option Settings) (ends : FollowsWords (Err status) asked) where
     pub words_decide : WordsDecide status asked task
-    words_decide = by_end (λ s. WordsDecide s asked task) status asked ends tt (λ is. sym is) (λ is. sym is)
+    words_decide = by_end (λ s. WordsDecide s asked task) status asked ends tt (λ is. sym is)
 
     pub people_undecided : (read : Result Persons ℕ) → PeopleDecide status read people
-    people_undecided read = by_end (λ s. PeopleDecide s read people) status asked ends tt (λ is. tt) (λ is. tt)
+    people_undecided read = by_end (λ s. PeopleDecide s read people) status asked ends tt (λ is. tt)
 
     -- the run, and what it leaves
     pub unfollowed : {D : Type 0} (G : Ghosts D) (Followed : Type 0) (disk : D) (outside : Outside)
@@ -237,12 +241,6 @@ module _ (replies : Replies) (task : Task) (people : Persons) where
         by_end (Unfollowed G Followed disk outside) status asked ends (none_wanted G Followed disk outside)
         (λ is. (
           runs_still replies task people outside outside still statuses.Words (refl, (refl, refl, refl)),
-          refl,
-          λ wants. absurd (cc),
-          none_vouched replies,
-        ))
-        (λ is. (
-          runs_still replies task people outside outside still statuses.NotBuilt (refl, (refl, refl, refl)),
           refl,
           λ wants. absurd (cc),
           none_vouched replies,

@@ -1,5 +1,5 @@
 -- What the words ask for, and how a run ends that cannot follow them.
-use Rattle.std.specs.Prelude.{◌≡◌, ◌⊎◌, ℕ, Option, Some, None, Result, Ok, Err, ⊤}
+use Rattle.std.specs.Prelude.{◌≡◌, ◌⊎◌, ℕ, Option, Some, None, Result, Ok, Err, unwrap_or, ⊤}
 use Rattle.sm_principal.specs.declared.people.People.{People as Persons}
 use Rattle.sm_principal.specs.declared.people.PeopleRefused.{PeopleRefused}
 use Rattle.sm_principal.specs.declared.people.PeopleRefused.TheVariants as refusals
@@ -7,22 +7,22 @@ use Rattle.sm_words.specs.declared.settings.Mode.{Mode}
 use Rattle.sm_words.specs.declared.settings.Mode.TheVariants.{Exec, Serve, Check, Drill, Agent}
 use Rattle.sm_words.specs.declared.settings.Settings.{Settings}
 use Rattle.sm_server.specs.declared.asked.Task.{Task}
-use Rattle.sm_server.specs.declared.asked.Task.TheVariants.{Answer, Summarize}
+use Rattle.sm_server.specs.declared.asked.Task.TheVariants.{Answer, Summarize, Practise}
 use Rattle.sm_server.specs.declared.status.Status.{Status}
-use Rattle.sm_server.specs.declared.status.Status.TheVariants.{Words, Memory, People, NotBuilt}
+use Rattle.sm_server.specs.declared.status.Status.TheVariants.{Words, Memory, People}
 
 -- what a run over one stream does in a mode, or how it ends that cannot follow it
-abbrev pub task_of_mode : Mode → Result Task Status
-task_of_mode Exec = Ok Answer
-task_of_mode Serve = Err Words
-task_of_mode Check = Ok Summarize
-task_of_mode Drill = Err NotBuilt
-task_of_mode Agent = Err Words
+abbrev pub task_of_mode : Mode → Option ℕ → Result Task Status
+task_of_mode Exec number = Ok Answer
+task_of_mode Serve number = Err Words
+task_of_mode Check number = Ok Summarize
+task_of_mode Drill number = Ok (Practise (unwrap_or number 0))
+task_of_mode Agent number = Err Words
 
 -- what a run does by its words, or how it ends that cannot follow them; words that are refused ask for nothing
 abbrev pub task_of_words : Option Settings → Result Task Status
 task_of_words None = Err Words
-task_of_words (Some settings) = task_of_mode settings.mode
+task_of_words (Some settings) = task_of_mode settings.mode settings.number
 
 -- a run follows its words, or ends as it must, or for want of memory
 abbrev pub FollowsWords : Result Task Status → Option Settings → Type 0
@@ -41,14 +41,12 @@ FollowsPeople (Err status) read = (status ≡ Memory) ⊎ ((line : ℕ) × (read
 -- the words decide whether anything is opened and read, and what is done; want of memory may come with any
 abbrev pub WordsDecide : Status → Option Settings → Task → Type 0
 WordsDecide Words asked task = task_of_words asked ≡ Err Words
-WordsDecide NotBuilt asked task = task_of_words asked ≡ Err NotBuilt
 WordsDecide Memory asked task = ⊤
 WordsDecide other asked task = task_of_words asked ≡ Ok task
 
 -- So does the text of the people, once the words are followed: a run that got further knows who may ask.
 abbrev pub PeopleDecide : Status → Result Persons ℕ → Persons → Type 0
 PeopleDecide Words read people = ⊤
-PeopleDecide NotBuilt read people = ⊤
 PeopleDecide Memory read people = ⊤
 PeopleDecide (People line) read people = read ≡ Err line
 PeopleDecide other read people = read ≡ Ok people

@@ -2,6 +2,8 @@ pub mod Asked
 pub mod Outside
 pub mod Turns
 pub mod Checks
+pub mod Brought
+pub mod Drills
 pub mod Status
 pub mod Ran
 pub mod Complete

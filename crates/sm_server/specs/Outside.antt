@@ -50,6 +50,30 @@ outside_by sources sinks clocks words rotators source sink disk clock random rot
   };
 }
 
+-- the same, where this is left of a source and this has the sink taken, and they have failed so often
+abbrev pub outside_inside : {C W R : Type 0} → Option (List ℕ) → Option (List ℕ) → ℕ → ℕ → ClockGhosts C
+    → WordsGhosts W → RotatorGhosts R → ℕ → C → W → R → Outside
+outside_inside left taken source sink clocks words rotators disk clock random rotator = record {
+  left = left;
+  taken = taken;
+  readings = clocks.readings clock;
+  drawn = words.drawn random;
+  counts = record {
+    source = source;
+    sink = sink;
+    disk = disk;
+    random = words.faults random;
+    rotator = rotators.faults rotator;
+  };
+}
+
+-- the same, where this is left of a source that has failed so often
+abbrev pub outside_beside : {K C W R : Type 0} → Option (List ℕ) → ℕ → SinkGhosts K → ClockGhosts C → WordsGhosts W
+    → RotatorGhosts R → K → ℕ → C → W → R → Outside
+outside_beside left source sinks clocks words rotators sink disk clock random rotator =
+    outside_inside left (sinks.taken sink) source (sinks.sink_faults sink) clocks words rotators disk clock random
+    rotator
+
 -- the two sides of the stream
 abbrev pub sides_of : Outside → Sides
 sides_of outside = record {

@@ -1,5 +1,5 @@
 -- What a run of the program over one stream does.
-use Rattle.std.specs.Prelude.{◌≡◌, ℕ, List, [], Option}
+use Rattle.std.specs.Prelude.{◌≡◌, ◌≤◌, ℕ, List, [], Option}
 use Rattle.std.specs.Io.KnownBytes.{prepend_known}
 use Rattle.sm_base.specs.Faults.{Rose}
 use Rattle.sm_base.specs.declared.bad_kind.BadKind.{BadKind}
@@ -16,12 +16,15 @@ use Rattle.sm_spells.specs.Spells.{History}
 use Rattle.sm_session.specs.declared.ended.Ended.TheVariants as ended
 use Rattle.sm_session.specs.Endings as streams
 use Rattle.sm_session.specs.Endings.{Passage}
-use Rattle.sm_session.specs.Told.{nothing_told, Within}
+use Rattle.sm_session.specs.Told.{Told, nothing_told, Within}
 use Rattle.sm_server.specs.declared.asked.Task.{Task}
-use Rattle.sm_server.specs.declared.asked.Task.TheVariants.{Answer, Summarize}
+use Rattle.sm_server.specs.declared.asked.Task.TheVariants.{Answer, Practise, Summarize}
 use Rattle.sm_server.specs.declared.status.Status.{Status}
-use Rattle.sm_server.specs.declared.status.Status.TheVariants.{Done, Words, Damaged, OpenFault, Memory, People, SinkFault, SourceFault, Cut, BadMessage, Enough, NotBuilt}
+use Rattle.sm_server.specs.declared.status.Status.TheVariants.{Done, Words, Damaged, OpenFault, Memory, People, SinkFault, SourceFault, Cut, BadMessage, Enough}
+use Rattle.sm_drill.specs.declared.step.TheConstants.{MESSAGES}
+use Rattle.sm_drill.specs.Messages.{messages_of}
 use Rattle.sm_server.specs.Checks.{ChecksBy}
+use Rattle.sm_server.specs.Drills.{EndsDrill}
 use Rattle.sm_server.specs.Outside.{Outside, Trace, Passed}
 use Rattle.sm_server.specs.Turns.{Brought, Turns}
 
@@ -88,16 +91,26 @@ pub record Checks (course : Course) (status : Status) (input : List ℕ) (trace 
   pub checks : ChecksBy (Rose trace.sink.before trace.sink.after) course.base.rows course.entries status
       trace.told.readings trace.written
 
+-- A run that answers the messages of a number reads none. What was told for them comes first.
+pub record Drills (course : Course) (number : ℕ) (status : Status) (input : List ℕ) (trace : Trace) : Type 0 where
+  pub unread : input ≡ []
+  pub count : ℕ
+  pub few : count ≤ MESSAGES
+  pub told : Told
+  pub answered : AreAnswered course (messages_of number count) (record trace { told = told })
+  pub ends : EndsDrill (Rose trace.sink.before trace.sink.after) course.base course.entries course.history count
+      answered.brought.replies told status trace.told trace.written
+
 -- why a run ended so that had this to do
 abbrev pub EndedAt : Task → Course → Status → List ℕ → Option (List ℕ) → Trace → Type 0
 EndedAt Answer course status input left trace = Answers course status input left trace
 EndedAt Summarize course status input left trace = Checks course status input trace
+EndedAt (Practise number) course status input left trace = Drills course number status input trace
 
 -- why the run ended so, where it read this input and the source has that left; no byte is read before an account is
 -- opened
 abbrev pub Ended : Course → Status → List ℕ → Option (List ℕ) → Trace → Type 0
 Ended course Words input left trace = (input ≡ []) × NothingDone course.history trace
-Ended course NotBuilt input left trace = (input ≡ []) × NothingDone course.history trace
 Ended course (People line) input left trace = (input ≡ []) × NothingDone course.history trace
 Ended course (Damaged at entry) input left trace = (input ≡ []) × NothingDone course.history trace
 Ended course OpenFault input left trace =

@@ -3,7 +3,7 @@ use Rattle.std.specs.Prelude.{ℕ}
 use Rattle.sm_session.specs.declared.ended.Ended.{Ended}
 use Rattle.sm_session.specs.declared.ended.Ended.TheVariants as ended
 use Rattle.sm_server.specs.declared.status.Status.{Status}
-use Rattle.sm_server.specs.declared.status.Status.TheVariants.{Done, Words, Damaged, OpenFault, Memory, People, SinkFault, SourceFault, EdgeFault, Cut, BadMessage, Enough, NotBuilt}
+use Rattle.sm_server.specs.declared.status.Status.TheVariants.{Done, Words, Damaged, OpenFault, Memory, People, SinkFault, SourceFault, EdgeFault, Cut, BadMessage, Enough}
 
 abbrev pub code_of : Status → ℕ
 code_of Done = 0
@@ -18,7 +18,6 @@ code_of EdgeFault = 9
 code_of (Cut bytes) = 10
 code_of (BadMessage place) = 11
 code_of Enough = 12
-code_of NotBuilt = 13
 
 -- how a run ended whose stream ended so
 abbrev pub status_of : Ended → Status
@@ -33,20 +32,17 @@ status_of ended.Memory = Memory
 -- a run that ended so followed its words
 abbrev pub WasUnderstood : Status → Type 0
 WasUnderstood Words = ⊥
-WasUnderstood NotBuilt = ⊥
 WasUnderstood status = Unit {0}
 
 -- a run that ended so followed its words and its text of the people
 abbrev pub WasFollowed : Status → Type 0
 WasFollowed Words = ⊥
-WasFollowed NotBuilt = ⊥
 WasFollowed (People line) = ⊥
 WasFollowed status = Unit {0}
 
 -- a run that ended so had its account opened
 abbrev pub WasOpened : Status → Type 0
 WasOpened Words = ⊥
-WasOpened NotBuilt = ⊥
 WasOpened (People line) = ⊥
 WasOpened (Damaged at entry) = ⊥
 WasOpened OpenFault = ⊥

@@ -14,7 +14,7 @@ use Rattle.sm_account.specs.Crashes.{HoldsOnDisk}
 use Rattle.sm_account.specs.History.{entries_in}
 use Rattle.sm_account.specs.Openings.{TakenFrom}
 use Rattle.sm_server.specs.declared.status.Status.{Status}
-use Rattle.sm_server.specs.declared.status.Status.TheVariants.{Words, Damaged, OpenFault, Memory, People, NotBuilt}
+use Rattle.sm_server.specs.declared.status.Status.TheVariants.{Words, Damaged, OpenFault, Memory, People}
 use Rattle.sm_core.specs.Effects.{effect}
 use Rattle.sm_core.specs.Vouching.{Vouched}
 use Rattle.sm_rotation.specs.Vouched.{Replies}
@@ -56,7 +56,6 @@ disk_unopened (refusals.Memory disk) = disk
 -- refused the account's own clause speaks of it, and else it has the story.
 abbrev pub Leaves : {D : Type 0} → Ghosts D → Status → Story → D → D → Type 0
 Leaves G Words story old new = new ≡ old
-Leaves G NotBuilt story old new = new ≡ old
 Leaves G (People line) story old new = new ≡ old
 Leaves G (Damaged at entry) story old new =
     IsRefused G old (refusals.Damaged new (record { at = at; entry = entry }))

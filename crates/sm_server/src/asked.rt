@@ -16,6 +16,8 @@ pub enum Task {
     Answer,
     /// It writes a summary of what the disk holds.
     Summarize,
+    /// It answers the messages that this number makes.
+    Practise(u64),
 }
 
 /// What a run over one stream does by its words, or how it ends that cannot follow them.
@@ -23,22 +25,22 @@ pub fn task_of_words(alloc: Global, words: &[String]) -> Result<Task, Status>
     ensures { FollowsWords result (settings_of (map string_bytes words.now)) }
 {
     match read_words(alloc, words) {
-        Ok(settings) => task_of_mode(settings.mode),
+        Ok(settings) => task_of_mode(settings.mode, settings.number),
         Err(WordsRefused::Refused) => Err(Status::Words),
         Err(WordsRefused::Memory) => Err(Status::Memory),
     }
 }
 
 /// What a run over one stream does in a mode, or how it ends that cannot follow it: serving is another top call's, and
-/// so is reading from a server; what is not built yet is `NotBuilt`.
-pub fn task_of_mode(mode: Mode) -> Result<Task, Status>
-    ensures { result ≡ task_of_mode mode }
+/// so is reading from a server. Without a number a drill is that of 0.
+pub fn task_of_mode(mode: Mode, number: Option<u64>) -> Result<Task, Status>
+    ensures { result ≡ task_of_mode mode number }
 {
     match mode {
         Mode::Exec => Ok(Task::Answer),
         Mode::Serve => Err(Status::Words),
         Mode::Check => Ok(Task::Summarize),
-        Mode::Drill => Err(Status::NotBuilt),
+        Mode::Drill => Ok(Task::Practise(number.unwrap_or(0))),
         Mode::Agent => Err(Status::Words),
     }
 }

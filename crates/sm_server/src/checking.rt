@@ -39,7 +39,7 @@ pub fn summarize<K: Sink, D: Disk, C: Clock, R: Rotator>(
 }
 
 /// Writes a text.
-fn show<K: Sink>(sink: &mut K, text: &[u8]) -> Status
+pub(crate) fn show<K: Sink>(sink: &mut K, text: &[u8]) -> Status
     ensures shows { (written : List ℕ) × (K.taken sink.new ≡ append_known (K.taken sink.old) written)
         × WritesBy (Rose (K.sink_faults sink.old) (K.sink_faults sink.new)) result text.now written }
     ensures later { K.sink_faults sink.old ≤ K.sink_faults sink.new }

@@ -4,6 +4,7 @@
 mod answering;
 mod asked;
 mod checking;
+mod drilling;
 pub mod laws;
 mod reader;
 mod run;

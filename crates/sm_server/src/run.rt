@@ -1,5 +1,5 @@
 //! The top call over one stream.
-ghost use Rattle.std.specs.Prelude.{◌≡◌, ◌≤◌, ◌∷◌, [], ℕ, List, None, Ok, map, string_bytes, ⊤};
+ghost use Rattle.std.specs.Prelude.{◌≡◌, ◌≤◌, ◌∷◌, [], ℕ, List, None, Ok, Option, map, string_bytes, ⊤};
 ghost use Rattle.std.specs.Io.KnownBytes.{append_known};
 ghost use Rattle.sm_base.specs.Faults.{Rose};
 ghost use Rattle.sm_base.specs.declared.moment.Moment.{Moment as moments};
@@ -7,14 +7,14 @@ ghost use Rattle.sm_account.specs.Accounts.{history, base, began, taken, disk, f
 ghost use Rattle.sm_account.specs.States.{base_of};
 ghost use Rattle.sm_base.specs.declared.limits.TheConstants.{JOURNAL_LIMIT};
 ghost use Rattle.sm_opening.specs.Lawful.{made_of};
-ghost use Rattle.sm_server.specs.declared.asked.Task.TheVariants.{Answer, Summarize};
+ghost use Rattle.sm_server.specs.declared.asked.Task.TheVariants.{Answer, Practise, Summarize};
 ghost use Rattle.sm_principal.specs.declared.people.People.{People as Persons};
 ghost use Rattle.sm_principal.specs.Callers.{people_of};
 ghost use Rattle.sm_server.specs.Asked.{PeopleDecide};
 ghost use Rattle.sm_server.specs.Checks.{Shows};
 ghost use Rattle.sm_server.specs.Complete.{AreFollowed, Ran};
 ghost use Rattle.sm_server.specs.JustOpened.{IsJustOpened};
-ghost use Rattle.sm_server.specs.Outside.{NoCountFell, outside_by};
+ghost use Rattle.sm_server.specs.Outside.{NoCountFell, outside_beside, outside_by};
 ghost use Rattle.sm_server.specs.Ran.{Runs, Story, course_of};
 ghost use Rattle.sm_server.specs.Status.{WasFollowed, WasOpened, WasUnderstood};
 ghost use Rattle.sm_server.specs.Stored.{Leaves, Stands, StaysVouched, WantsBy, status_unopened, disk_unopened};
@@ -24,6 +24,7 @@ ghost use Rattle.sm_words.specs.Reading.{settings_of};
 use crate::answering::answer_source;
 use crate::asked::{Task, people_of, task_of_words};
 use crate::checking::summarize;
+use crate::drilling::practise;
 use crate::status::{Status, status_of};
 use sm_account::{Account, OpenRefused};
 use sm_base::limits::JOURNAL_LIMIT;
@@ -34,9 +35,9 @@ use sm_rotator::Rotator;
 use std::alloc::Global;
 
 /// Follows the words of a command line: reads the text of the people who may ask, opens the account of the disk, and
-/// answers the messages of the source one after the other, at most 1,000, or writes a summary of what the disk holds.
-/// The reply to each message is written, and then rotation turns are taken, before the next one is read. The disk is
-/// handed back.
+/// answers the messages of the source one after the other, at most 1,000, or writes a summary of what the disk holds,
+/// or answers the 10,000 messages that a number makes and says how that went. The reply to each message of the source
+/// is written, and then rotation turns are taken, before the next one is read. The disk is handed back.
 pub fn run_once<Q: Source, K: Sink, D: Disk, C: Clock, W: Words, R: Rotator>(
     alloc: Global,
     words: &[String],
@@ -190,6 +191,9 @@ fn run_opened<Q: Source, K: Sink, D: Disk, C: Clock, W: Words, R: Rotator>(
     match task {
         Task::Answer => answer_opened(alloc, people, account, source, sink, clock, random, rotator),
         Task::Summarize => check_opened(alloc, account, sink, clock),
+        Task::Practise(number) => {
+            practise_opened(alloc, number, people, account, sink, clock, random, rotator)
+        }
     }
 }
 
@@ -265,5 +269,47 @@ fn check_opened<K: Sink, D: Disk, C: Clock, R: Rotator>(
 {
     account.standing();
     let status = summarize(alloc, &account, sink, clock);
+    (status, account.close())
+}
+
+/// Answers the messages that a number makes on an account that was just opened, and says how that went.
+fn practise_opened<K: Sink, D: Disk, C: Clock, W: Words, R: Rotator>(
+    alloc: Global,
+    number: u64,
+    people: &People,
+    account: Account<D, R>,
+    sink: &mut K,
+    clock: &mut C,
+    random: &mut W,
+    rotator: &mut R,
+) -> (Status, D)
+    requires { IsJustOpened account }
+    ensures ran { (left : Option (List ℕ)) → (source : ℕ) → (story : Story) × (story.task ≡ Practise number)
+        × (story.people ≡ people.now) × (story.taken ≡ taken account)
+        × Runs (course_of R.replies story) result.0
+        (outside_beside left source K.Sink C.Clock W.Words R.Rotator sink.old (D.faults (began account)) clock.old
+        random.old rotator.old)
+        (outside_beside left source K.Sink C.Clock W.Words R.Rotator sink.new (D.faults result.1) clock.new random.new
+        rotator.new)
+        × Stands D.Disk story (began account) result.1
+        × ∥ StaysVouched R.replies story.taken story.history story.failed ∥₁ }
+    ensures opened { WasOpened result.0 }
+    ensures sink_later { K.sink_faults sink.old ≤ K.sink_faults sink.new }
+    ensures disk_later { D.faults (disk account) ≤ D.faults result.1 }
+    ensures random_later { W.faults random.old ≤ W.faults random.new }
+    ensures rotator_later { R.faults rotator.old ≤ R.faults rotator.new }
+{
+    let mut account = account;
+    let status = practise(
+        alloc,
+        number,
+        people,
+        &mut account,
+        sink,
+        clock,
+        random,
+        rotator,
+    );
+    account.standing();
     (status, account.close())
 }

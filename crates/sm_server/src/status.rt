@@ -29,12 +29,10 @@ pub enum Status {
     BadMessage(u64),
     /// As many messages were answered as are answered at most, and nothing behind them was looked at.
     Enough,
-    /// What was asked for is not built yet.
-    NotBuilt,
 }
 
 impl Status {
-    /// The exit code of a program that ends so: 0, or 2 to 13.
+    /// The exit code of a program that ends so: 0, or 2 to 12.
     pub fn code(self) -> u8
         ensures { result ≡ code_of self }
     {
@@ -51,7 +49,6 @@ impl Status {
             Status::Cut(_) => 10,
             Status::BadMessage(_) => 11,
             Status::Enough => 12,
-            Status::NotBuilt => 13,
         }
     }
 }

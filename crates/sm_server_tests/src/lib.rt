@@ -4,6 +4,8 @@
 #[cfg(test)]
 mod conversations;
 #[cfg(test)]
+mod drills;
+#[cfg(test)]
 mod expecting;
 #[cfg(test)]
 mod outside;

@@ -10,9 +10,10 @@ use Rattle.sm_model.specs.declared.rows.SecretRow.{SecretRow}
 use Rattle.sm_versions.specs.Sound.{RowSound}
 use Rattle.sm_table.specs.Sound.{EachSound}
 use Rattle.sm_table.specs.Sweep.{is_gone, swept}
+use Rattle.sm_summary.specs.declared.walk.Counted.{Counted}
 use Rattle.sm_summary.specs.declared.walk.Shown.{Shown}
 use Rattle.sm_summary.specs.Lines.{IsLine, AreLines}
-use Rattle.sm_summary.specs.Summary.{version_count, IsShown, IsSummaryOf, totals, with_row}
+use Rattle.sm_summary.specs.Summary.{version_count, IsCounted, IsShown, IsSummaryOf, totals, with_row}
 use Rattle.sm_summary.proofs.LineLemmas.{same_lines}
 
 -- ---- one secret more
@@ -44,6 +45,15 @@ pub shown_with : (row : SecretRow) (old new : Shown) (line : List ℕ) → IsLin
     → IsShown (before ++ row ∷ []) new
 shown_with row old new line one secrets versions lines before is =
     shown_push before row old new line is one secrets versions lines
+
+-- what is counted with one secret more
+pub counted_with : (row : SecretRow) (old new : Counted) → new.secrets ≡ old.secrets + 1
+    → new.versions ≡ old.versions + length row.versions → (before : List SecretRow) → IsCounted before old
+    → IsCounted (before ++ row ∷ []) new
+counted_with row old new secrets versions before is = record {
+  secrets = secrets ∙ rw is.secrets (sym (length-append before (row ∷ [])));
+  versions = versions ∙ rw is.versions (sym (count_push before row));
+}
 
 -- ---- the walk
 
@@ -85,6 +95,18 @@ pub shown_all : (rows : List SecretRow) (place : ℕ) (moment : Moment) (shown :
     → IsShown (swept (take place rows) moment) shown → IsShown (swept rows moment) shown
 shown_all rows place moment shown end is =
     subst (λ taken. IsShown (swept taken moment) shown) (take_all place rows end) is
+
+-- the same of what is counted
+pub counted_next : (rows : List SecretRow) (place : ℕ) (row : SecretRow) (moment : Moment) (counted : Counted)
+    → slice_get rows place ≡ Some row → IsCounted (with_row (swept (take place rows) moment) row moment) counted
+    → IsCounted (swept (take (place + 1) rows) moment) counted
+counted_next rows place row moment counted at is =
+    rw (next_taken rows place row at) (rw (swept_push (take place rows) row moment) is)
+
+pub counted_all : (rows : List SecretRow) (place : ℕ) (moment : Moment) (counted : Counted) → length rows ≤ place
+    → IsCounted (swept (take place rows) moment) counted → IsCounted (swept rows moment) counted
+counted_all rows place moment counted end is =
+    subst (λ taken. IsCounted (swept taken moment) counted) (take_all place rows end) is
 
 -- ---- what holds of each secret
 

@@ -5,6 +5,7 @@ use Rattle.sm_base.specs.declared.moment.Moment.{Moment}
 use Rattle.sm_model.specs.declared.rows.Rows.{Rows}
 use Rattle.sm_model.specs.declared.rows.SecretRow.{SecretRow}
 use Rattle.sm_table.specs.Sweep.{is_gone, swept}
+use Rattle.sm_summary.specs.declared.walk.Counted.{Counted}
 use Rattle.sm_summary.specs.declared.walk.Shown.{Shown}
 use Rattle.sm_summary.specs.Lines.{AreLines}
 
@@ -18,6 +19,12 @@ abbrev pub totals : ℕ → ℕ → ℕ → List ℕ
 totals secrets versions entries =
     codes "secrets " ++ (decimal secrets ++ (codes " versions " ++ (decimal versions
     ++ (codes " entries " ++ (decimal entries ++ codes "\n")))))
+
+-- the first line of what is said of the secrets that are still there at the moment
+abbrev pub totals_of : Rows → Moment → ℕ → List ℕ
+totals_of rows moment entries =
+    let there = swept rows.secrets moment in
+    totals (length there) (version_count there) entries
 
 -- what is said of these secrets, and of so many entries
 abbrev pub IsSummaryOf : List SecretRow → ℕ → List ℕ → Type 0
@@ -37,3 +44,8 @@ pub record IsShown (rows : List SecretRow) (shown : Shown) : Type 0 where
   pub secrets : shown.secrets ≡ length rows
   pub versions : shown.versions ≡ version_count rows
   pub lines : AreLines rows (string_bytes shown.lines)
+
+-- what was counted of some secrets
+pub record IsCounted (rows : List SecretRow) (counted : Counted) : Type 0 where
+  pub secrets : counted.secrets ≡ length rows
+  pub versions : counted.versions ≡ version_count rows

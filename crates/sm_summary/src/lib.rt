@@ -4,4 +4,4 @@
 mod line;
 pub mod walk;
 
-pub use walk::summary;
+pub use walk::{summary, totals};

@@ -2,7 +2,7 @@
 ghost use Rattle.std.specs.Prelude.{◌≡◌, ◌≤◌, ◌<◌, ◌+◌, ◌*◌, ◌++◌, ◌∷◌, [], List, ℕ, IfOk, OnOk, length, slice_get, Some, string_bytes};
 ghost use Rattle.sm_base.specs.declared.limits.TheConstants.{SECRETS_LIMIT, VERSIONS_LIMIT};
 ghost use Rattle.sm_model.specs.declared.rows.SecretRow.{SecretRow as rows};
-ghost use Rattle.sm_summary.specs.Summary.{IsShown, IsSummary, totals, with_row};
+ghost use Rattle.sm_summary.specs.Summary.{IsCounted, IsShown, IsSummary, totals, totals_of, with_row};
 ghost use Rattle.sm_table.specs.Sound.{Sound};
 ghost use Rattle.sm_table.specs.Sweep.{is_gone, swept};
 ghost use Rattle.sm_versions.specs.Sound.{RowSound};
@@ -20,6 +20,13 @@ pub struct Shown {
     pub lines: String,
 }
 
+/// How many secrets were counted, and how many versions they have.
+#[derive(Clone, Copy)]
+pub struct Counted {
+    pub secrets: u64,
+    pub versions: u64,
+}
+
 /// The summary of the secrets that are still there at a moment, and of so many entries: a line with how much there is,
 /// and then a line for each secret in order of creation.
 pub fn summary(alloc: Global, table: &Table, moment: Moment, entries: u64) -> Result<Text, NoMemory>
@@ -32,6 +39,55 @@ pub fn summary(alloc: Global, table: &Table, moment: Moment, entries: u64) -> Re
     let shown = show_rows(alloc, table, moment)?;
     let text = with_totals(alloc, &shown, entries)?;
     Ok(Text::new(text))
+}
+
+/// The first line of the summary alone.
+pub fn totals(
+    alloc: Global,
+    table: &Table,
+    moment: Moment,
+    entries: u64,
+) -> Result<String, NoMemory>
+    requires { Sound table.now }
+    ensures { IfOk result (λ text. string_bytes text ≡ totals_of table.now moment entries) }
+{
+    let counted = count_rows(table, moment);
+    Ok(format!(in alloc;
+        "secrets {} versions {} entries {entries}\n",
+        counted.secrets, counted.versions
+    )?)
+}
+
+/// How many secrets are still there at the moment, and how many versions they have.
+fn count_rows(table: &Table, moment: Moment) -> Counted
+    requires { Sound table.now }
+    ensures { IsCounted (swept table.now.secrets moment) result }
+{
+    let mut counted = Counted {
+        secrets: 0,
+        versions: 0,
+    };
+    for place in 0..table.count() {
+        count_if_there(&mut counted, row_at(table, place), moment);
+    }
+    counted
+}
+
+/// Counts one secret more, where it is still there at the moment.
+fn count_if_there(counted: &mut Counted, row: &SecretRow, moment: Moment)
+    requires sound { RowSound row.now }
+    requires secrets { counted.old.secrets ≤ SECRETS_LIMIT }
+    requires versions { counted.old.versions ≤ VERSIONS_LIMIT * SECRETS_LIMIT }
+    ensures counted { (before : List rows) → IsCounted before counted.old
+        → IsCounted (with_row before row.now moment) counted.new }
+    ensures secrets { counted.new.secrets ≤ counted.old.secrets + 1 }
+    ensures versions { counted.new.versions ≤ counted.old.versions + VERSIONS_LIMIT }
+{
+    if is_gone(row, moment) {
+        return;
+    }
+    counted.secrets += 1;
+    counted.versions += row.versions.len() as u64;
 }
 
 /// The totals before the lines.

@@ -44,10 +44,10 @@ pub fn mode<'a>(alloc: Global) -> Arg<'a>
         alloc,
         "mode",
         "MODE",
-        "What the run does: exec, serve, check or agent",
+        "What the run does: exec, serve, check, drill or agent",
         "What the run does: exec answers the messages of standard input and ends, serve answers at an address until it \
          is stopped, check says what a folder holds, and agent answers at 127.0.0.1:2773 what it reads from a server \
-         and keeps for a while; drill is to make messages of its own and answer them, and is not built yet.\n\
+         and keeps for a while; drill answers 10,000 messages that it makes of a number, and says how that went.\n\
          Example: --mode serve",
     )
     .value_parser(ValueParser::Names(MODES.as_slice()))

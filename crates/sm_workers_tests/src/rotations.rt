@@ -167,9 +167,9 @@ fn two_secrets_are_rotated_at_once(rt: HostRuntime) -> Result<(), Fail> {
     Ok(())
 }
 
-/// The calls of the disk in which the start of the rotation is written, the first and the last: a new journal takes six
-/// calls, and each of the two entries before that six more.
-const CALLS_OF_THE_START: [u64; 2] = [19, 24];
+/// The calls of the disk in which the start of the rotation is written, the first and the last: looking for a root
+/// takes two calls, a new journal six, and each of the two entries before that six more.
+const CALLS_OF_THE_START: [u64; 2] = [21, 26];
 
 /// A door that makes a secret and has it rotated each day, one that reads it behind the first of a meeting, and a
 /// turner of a day later, whose rotator is that first at setSecret. Until then the second door is open, and the turner

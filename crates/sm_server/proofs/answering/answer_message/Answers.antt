@@ -1,19 +1,16 @@
-use Rattle.std.proofs.Common.{◌++◌, refl, subst, arith}
+use Rattle.std.proofs.Common.{◌++◌, refl, arith}
 use Rattle.sm_account.specs.Accounts.{history, base, disk}
-use Rattle.sm_account.specs.History.{by_seat}
-use Rattle.sm_account.specs.States.{Base}
 use Rattle.sm_http.specs.Reading.{content}
-use Rattle.sm_pool.specs.Rounds.{Counts, Rotated, courses_in, drawn_in, marks_of, readings_in}
+use Rattle.sm_pool.specs.Rounds.{Counts, courses_in, drawn_in, marks_of, readings_in}
 use Rattle.sm_spells.proofs.OriginLemmas.{same_origin}
-use Rattle.sm_spells.specs.Spells.{History}
 use Rattle.sm_session.specs.Answer.{heard}
 use Rattle.sm_session.specs.Replies.{reply_of}
 use Rattle.sm_session.specs.Told.{told_both}
 use Rattle.sm_session.specs.Turns as sessions
 use Rattle.sm_spells.proofs.KnownLemmas.{told_more}
 use Rattle.sm_spells.proofs.OriginLemmas.{unsure_since}
-use Rattle.sm_server.specs.Turns.{seat, told_for}
-use Rattle.sm_server.proofs.TurnsLemmas.{joined_marks, turn_joined}
+use Rattle.sm_server.specs.Turns.{told_for}
+use Rattle.sm_server.proofs.TurnsLemmas.{turn_of}
 use Rattle.sm_server.proofs.answering.answer_message.Goals as goal
 
 pub returns-clause-turn : goal.returns-clause-turn
@@ -39,15 +36,10 @@ returns-clause-turn g c =
       words = g.W.Words.faults c.turns.new.words;
       rotator = g.R.Rotator.faults c.turns.new.rotator;
     } in
-    let to : History = history c.turns.new.account in
-    let rotated : Rotated g.R.Rotator.replies (base old) seat
-    (record { history = history old ++ by_seat seat t.1; counts = between }) round
-    (record { history = to; counts = last }) =
-    subst (λ h. Rotated g.R.Rotator.replies (base old) seat (record { history = h; counts = between }) round
-    (record { history = to; counts = last })) t.5
-    (subst (λ (b : Base). Rotated g.R.Rotator.replies b seat
-    (record { history = history said.new.account; counts = between }) round
-    (record { history = to; counts = last })) said.ensures.origin.base_stays r.3) in (
+    let turn = turn_of g.R.Rotator.replies (base old) (history old)
+    (heard c.args.people.now (content c.args.message.now)) own first between last round (base said.new.account)
+    (history said.new.account) (history c.turns.new.account) t.4 t.5 said.ensures.origin.base_stays r.3 refl
+    (record { disk = said.ensures.disk_later; words = said.ensures.random_later; rotator = omega arith }) in (
       told_both t.0 (told_for round),
       t.1 ++ marks_of round,
       reply_of said.result,
@@ -55,15 +47,8 @@ returns-clause-turn g c =
           (g.C.Clock.readings c.turns.new.clock) t.0.readings (readings_in (courses_in round)) t.2 r.1,
       told_more (g.W.Words.drawn c.args.random.now) (g.W.Words.drawn said.new.random)
           (g.W.Words.drawn c.turns.new.words) t.0.drawn (drawn_in (courses_in round)) t.3 r.2,
-      turn_joined g.R.Rotator.replies (base old) (history old) (heard c.args.people.now (content c.args.message.now))
-          own first between last round to rotated t.4 refl
-          (record {
-            disk = said.ensures.disk_later;
-            words = said.ensures.random_later;
-            rotator = omega arith;
-          }),
-      joined_marks g.R.Rotator.replies (base old) (history old) (heard c.args.people.now (content c.args.message.now))
-          own first between last round to rotated,
+      turn.0,
+      turn.1,
       c.send-sent.ensures.sent,
     )
 

@@ -83,3 +83,18 @@ returns-in-Answer-clause-later g c = record {
   random = c.answer_opened.ensures.random_later;
   rotator = c.answer_opened.ensures.rotator_later;
 }
+
+pub returns-in-Practise-clause-ran : goal.returns-in-Practise-clause-ran
+returns-in-Practise-clause-ran g c =
+    let ran = c.practise_opened.ensures.ran (g.Q.Source.left c.args.source.now)
+    (g.Q.Source.source_faults c.args.source.now) in
+    (ran.0, ran.1 ∙ sym c.in-Practise.is, ran.2, ran.3, ran.4, ran.5, ran.6)
+
+pub returns-in-Practise-clause-later : goal.returns-in-Practise-clause-later
+returns-in-Practise-clause-later g c = record {
+  source = omega arith;
+  sink = c.practise_opened.ensures.sink_later;
+  disk = c.practise_opened.ensures.disk_later;
+  random = c.practise_opened.ensures.random_later;
+  rotator = c.practise_opened.ensures.rotator_later;
+}
