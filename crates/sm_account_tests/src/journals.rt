@@ -1,5 +1,5 @@
 //! Journals byte by byte: AWS Secrets Manager has none, so they are made from the format alone.
-use sm_base::{Bytes, Fails, List, NoMemory};
+use sm_base::{Bytes, Fails, NoMemory};
 use sm_disk::MemoryDisk;
 use std::alloc::Global;
 
@@ -82,11 +82,4 @@ pub fn disk_of(alloc: Global, journal: Bytes, fails: Fails) -> Result<MemoryDisk
         Bytes::empty(alloc),
         fails,
     )
-}
-
-/// This call fails, or it and all later ones.
-pub fn failing(alloc: Global, call: u64, later: bool) -> Result<Fails, NoMemory> {
-    let calls = List::new(Vec::from_slice(alloc, &[call])?);
-    let from = if later { Some(call) } else { None };
-    Ok(Fails { calls, from })
 }

@@ -1,5 +1,4 @@
-//! Accounts on disks in memory: what an opening finds, what requests are answered, rotations, and each device call
-//! failing in turn.
+//! Accounts on disks in memory: what an opening finds, what requests are answered, and rotations.
 #![tactic(auto)]
 
 #[cfg(test)]
@@ -8,8 +7,6 @@ mod asked;
 mod bases;
 #[cfg(test)]
 mod crowds;
-#[cfg(test)]
-mod faults;
 #[cfg(test)]
 mod journals;
 #[cfg(test)]
