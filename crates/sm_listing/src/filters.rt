@@ -1,13 +1,19 @@
 //! Filters of secrets.
-ghost use Rattle.std.specs.Prelude.{◌≡◌, nat_eq, min, ◌+◌, ◌^◌, ◌-◌, option_map};
+ghost use Rattle.std.specs.Prelude.{◌≡◌, nat_eq, min, ◌+◌, ◌^◌, ◌-◌, ◌≤◌, ◌<◌, option_map, map, take, drop, length, IfSome};
 ghost use Rattle.std.specs.List.{list_all, list_any, starts_with};
 ghost use Rattle.sm_base.specs.Texts.{has_at_most};
 ghost use Rattle.sm_listing.specs.Filters.{key_of, is_filter, first_fault, texts_of, some_begins, value_holds, filter_holds};
+ghost use Rattle.sm_listing.specs.declared.beginnings.TagPart.TheVariants.{Key, Value};
+ghost use Rattle.sm_listing.specs.Beginnings.{text_of, values_of, IsSought, IsSoughtOf, AreKnown};
 
+use crate::beginnings::{self, Known, Sought, TagPart, place_at};
 use sm_base::Text;
-use sm_base::limits::{FILTER_VALUE_LIMIT, FILTER_VALUES_LIMIT};
+use sm_base::limits::{FILTER_VALUE_LIMIT, FILTER_VALUES_LIMIT, TAGS_LIMIT};
 use sm_base::text::has_at_most;
 use sm_model::{Filter, SecretRow, Tag};
+
+/// Of so many tags what is known is kept.
+const MOST_TAGS: usize = TAGS_LIMIT as usize;
 
 /// What a filter's key names.
 #[derive(Clone, Copy)]
@@ -137,9 +143,95 @@ fn filter_holds(row: &SecretRow, filter: &Filter) -> bool
     }
 }
 
-/// Whether every filter holds.
-pub(crate) fn pass(row: &SecretRow, filters: &[Filter]) -> bool
+/// Whether a filter holds whose values stand among those that are sought, from a place on.
+fn sought_holds(
+    row: &SecretRow,
+    filter: &Filter,
+    sought: &Sought,
+    first: usize,
+    keys: &mut [Known],
+    values: &mut [Known],
+) -> bool
+    requires places { first + length filter.now.values ≤ length sought.now.values }
+    requires values { take (length filter.now.values) (drop first sought.now.values) ≡ filter.now.values }
+    requires sought { IsSought sought.now }
+    requires known_keys { AreKnown sought.now.values (map (text_of Key) row.now.tags) keys.old }
+    requires known_values { AreKnown sought.now.values (map (text_of Value) row.now.tags) values.old }
+    ensures holds { result ≡ filter_holds row.now filter.now }
+    ensures known_keys { AreKnown sought.now.values (map (text_of Key) row.now.tags) keys.new }
+    ensures known_values { AreKnown sought.now.values (map (text_of Value) row.now.tags) values.new }
+{
+    let count = filter.values.len();
+    let tags = row.tags.as_slice();
+    match key_of(&filter.key) {
+        Some(FilterKey::Name) => {
+            some_value_holds(row, FilterKey::Name, filter.values.as_slice())
+        }
+        Some(FilterKey::Description) => {
+            some_value_holds(row, FilterKey::Description, filter.values.as_slice())
+        }
+        Some(FilterKey::TagKey) => {
+            beginnings::some_value_holds(sought, first, count, tags, TagPart::Key, keys)
+        }
+        Some(FilterKey::TagValue) => {
+            beginnings::some_value_holds(sought, first, count, tags, TagPart::Value, values)
+        }
+        None => false,
+    }
+}
+
+/// Whether every filter holds, with what is known of the texts of the tags.
+#[tactic(auto, using(crate::proofs::KnownLemmas::values_end, crate::proofs::KnownLemmas::values_at))]
+fn all_sought_hold(
+    row: &SecretRow,
+    filters: &[Filter],
+    sought: &Sought,
+    keys: &mut [Known],
+    values: &mut [Known],
+) -> bool
+    requires sought { IsSoughtOf filters.now sought.now }
+    requires known_keys { AreKnown sought.now.values (map (text_of Key) row.now.tags) keys.old }
+    requires known_values { AreKnown sought.now.values (map (text_of Value) row.now.tags) values.old }
+    ensures { result ≡ list_all (filter_holds row.now) filters.now }
+{
+    let mut first = 0;
+    for filter in filters {
+        if !sought_holds(row, filter, sought, first, keys, values) {
+            return false;
+        }
+        first = place_at(sought, first, filter.values.len());
+    }
+    true
+}
+
+/// Whether every filter holds, one value after the other.
+fn all_hold(row: &SecretRow, filters: &[Filter]) -> bool
     ensures { result ≡ list_all (filter_holds row.now) filters.now }
 {
     filters.iter().all(|filter| filter_holds(row, filter))
+}
+
+/// Whether every filter holds, with what the values that are sought have alike.
+#[tactic(auto, using(crate::proofs::KnownLemmas::known_nothing))]
+fn all_hold_by(row: &SecretRow, filters: &[Filter], sought: &Sought) -> bool
+    requires { IsSoughtOf filters.now sought.now }
+    ensures { result ≡ list_all (filter_holds row.now) filters.now }
+{
+    if MOST_TAGS < row.tags.len() {
+        return all_hold(row, filters);
+    }
+    let mut keys = [Known { place: 0, bytes: 0 }; MOST_TAGS];
+    let mut values = [Known { place: 0, bytes: 0 }; MOST_TAGS];
+    all_sought_hold(row, filters, sought, &mut keys, &mut values)
+}
+
+/// Whether every filter holds.
+pub(crate) fn pass(row: &SecretRow, filters: &[Filter], sought: &Option<Sought>) -> bool
+    requires { IfSome sought.now (IsSoughtOf filters.now) }
+    ensures { result ≡ list_all (filter_holds row.now) filters.now }
+{
+    match sought {
+        Some(sought) => all_hold_by(row, filters, sought),
+        None => all_hold(row, filters),
+    }
 }

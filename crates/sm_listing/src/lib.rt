@@ -3,6 +3,7 @@
 #![tactic(auto)]
 
 mod asks;
+pub mod beginnings;
 pub mod filters;
 pub mod pages;
 mod shown;

@@ -1,12 +1,14 @@
 //! Pages of secrets, and of the versions of a secret.
-ghost use Rattle.std.specs.Prelude.{◌≡◌, ◌<◌, ◌≤◌, ◌-◌, if◌then◌else◌, IfOk, Some, length, slice_get, option_copied};
+ghost use Rattle.std.specs.Prelude.{◌≡◌, ◌<◌, ◌≤◌, ◌-◌, if◌then◌else◌, IfOk, IfSome, Some, length, slice_get, option_copied};
 ghost use Rattle.sm_base.specs.Outcomes.{OrMemory};
 ghost use Rattle.sm_base.specs.Texts.{same_text};
 ghost use Rattle.sm_model.specs.Labels.{is_labelled};
 ghost use Rattle.sm_listing.specs.Pages.{ordered, is_behind, is_there, comes, row_serials, version_comes, version_serials, start_of, secrets_page, versions_page, told};
 ghost use Rattle.sm_listing.specs.Walks.{IsPage};
+ghost use Rattle.sm_listing.specs.Beginnings.{IsSoughtOf};
 
 use crate::asks::{Listed, PageAsk, PageRefused};
+use crate::beginnings::{Sought, sought_of};
 use crate::filters::{bad_filter, pass};
 use crate::shown::{Shown, page_shown};
 use crate::tokens::{SECRETS, VERSIONS, serial_of};
@@ -41,12 +43,19 @@ fn is_there(planned: bool, moment: Moment, deletion: Option<Moment>) -> bool
 }
 
 /// Whether a row is listed, behind the start.
-fn comes(moment: Moment, ask: &PageAsk, start: Option<u64>, row: &SecretRow) -> bool
+fn comes(
+    moment: Moment,
+    ask: &PageAsk,
+    sought: &Option<Sought>,
+    start: Option<u64>,
+    row: &SecretRow,
+) -> bool
+    requires { IfSome sought.now (IsSoughtOf ask.now.filters) }
     ensures { result ≡ comes moment ask.now start row.now }
 {
     is_behind(ask.descending, start, row.serial)
         && is_there(ask.planned, moment, row.deletion)
-        && pass(row, ask.filters.as_slice())
+        && pass(row, ask.filters.as_slice(), sought)
 }
 
 /// The place at which a walk is after so many steps.
@@ -76,8 +85,10 @@ fn shown_rows<L: RowList>(
     rows: &L,
     moment: Moment,
     ask: &PageAsk,
+    sought: &Option<Sought>,
     start: Option<u64>,
 ) -> Result<Shown, NoMemory>
+    requires { IfSome sought.now (IsSoughtOf ask.now.filters) }
     ensures { IfOk result
         (λ shown. IsPage ask.now.max (row_serials (L.rows rows.now) moment ask.now start) shown.serials.items
         shown.follows) }
@@ -85,7 +96,7 @@ fn shown_rows<L: RowList>(
     let mut serials = Vec::new(alloc);
     for step in 0..rows.count() {
         let row = row_at(rows, ask.descending, step);
-        if !comes(moment, ask, start, row) {
+        if !comes(moment, ask, sought, start, row) {
             continue;
         }
         if serials.len() >= ask.max as usize {
@@ -190,7 +201,8 @@ pub fn page<L: RowList>(
         return Err(PageRefused::BadFilter(number));
     }
     let start = start_of(SECRETS, ask.token.as_ref())?;
-    let shown = shown_rows(alloc, rows, moment, ask, start)?;
+    let sought = sought_of(alloc, ask.filters.as_slice())?;
+    let shown = shown_rows(alloc, rows, moment, ask, &sought, start)?;
     Ok(page_shown(alloc, SECRETS, shown)?)
 }
 

@@ -26,7 +26,7 @@ type Case = (
     &'static str,
 );
 
-static CASES: [Case; 26] = [
+static CASES: [Case; 29] = [
     (2, false, false, 0, None, &[], "0 1 s1"),
     (2, false, false, 0, Some("s1"), &[], "2 "),
     (3, false, false, 0, None, &[], "0 1 2 "),
@@ -79,6 +79,37 @@ static CASES: [Case; 26] = [
         None,
         &[("tag-value", &["!prod"])],
         "0 2 ",
+    ),
+    (
+        9,
+        false,
+        false,
+        0,
+        None,
+        &[("tag-value", &["devx", "prodx", "de!", "dev", "d!"])],
+        "0 ",
+    ),
+    (
+        9,
+        false,
+        false,
+        0,
+        None,
+        &[("tag-key", &["!env", "te", "tea", "teamx", "!e"])],
+        "1 2 ",
+    ),
+    (
+        9,
+        false,
+        false,
+        0,
+        None,
+        &[
+            ("tag-value", &["prox", "p", "pro"]),
+            ("name", &["b", "!b"]),
+            ("tag-key", &["enx", "envx", "tea"]),
+        ],
+        "1 ",
     ),
     (9, false, false, 0, None, &[("name", &["", "!"])], "0 1 2 "),
     (9, false, false, 0, None, &[("name", &["!"])], ""),
