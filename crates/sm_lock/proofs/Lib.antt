@@ -3,6 +3,7 @@ pub mod Stories
 pub mod Passes
 pub mod Moved
 pub mod QueueSteps
+pub mod FlagSteps
 pub mod SlotSteps
 pub mod SeatSteps
 pub mod Closing

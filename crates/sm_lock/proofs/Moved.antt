@@ -6,11 +6,11 @@ use lib.ListN.{get_elem?}
 use Rattle.atomic_table.specs.Table.{State}
 use Rattle.atomic_table.proofs.Lists.{at_set}
 use Rattle.sm_lock.specs.declared.view.Turn.{Turn}
-use Rattle.sm_lock.specs.declared.view.Turn.TheVariants.{Out, Waiting, Inside, Holding}
+use Rattle.sm_lock.specs.declared.view.Turn.TheVariants.{Out, Waiting, Flagged, Parked, Inside, Holding, Waking}
 use Rattle.sm_lock.specs.declared.view.View.{View}
 use Rattle.sm_lock.specs.Story.{times, made_by}
-use Rattle.sm_lock.specs.View.{has_ticket, has, holds, numbers}
-use Rattle.sm_lock.specs.Rule.{total, within, Fits, IsServed, IsHome, IsAway, Counted}
+use Rattle.sm_lock.specs.View.{has_ticket, has, holds, parks, wakes, numbers}
+use Rattle.sm_lock.specs.Rule.{total, within, Fits, IsServed, IsHome, IsAway, NoneSleepsOn, Counted}
 use Rattle.sm_lock.proofs.Sums.{total-set, term_le, terms_le, total_le, if_same, within_le, within-is}
 
 module _ {T O E : Type 0} (org : T → O) (sty : T → List (ℕ × E)) (o : O) (built : List (ℕ × E)) (seats : ℕ) where
@@ -48,10 +48,21 @@ module _ {T O E : Type 0} (org : T → O) (sty : T → List (ℕ × E)) (o : O) 
       ⊎_elim (λ home. inl (home.0, home.1, home.2, home.3, omega (arith, home.4, t, same)))
       (λ away. inr (away.0, omega (arith, away.1, t, same))) r.slot
 
+  -- no wake-up is lost where the flags stay, and the changed view parks no more and wakes no less than before
+  pub flags_stay : (s : St) (r : Rule s) (id : ℕ) (v w : V) → get_elem? s.views id ≡ some v
+      → parks r.served w.turn ≤ parks r.served v.turn → wakes r.served v.turn ≤ wakes r.served w.turn
+      → NoneSleepsOn r.served r.flags (set s.views id w)
+  flags_stay s r id v w at fewer more = λ parked up.
+      let waking = r.none_sleeps_on
+      (omega (arith, parked, fewer, total-set (λ (x : V). parks r.served x.turn) s.views id v w at)) up in
+      omega (arith, waking, more, total-set (λ (x : V). wakes r.served x.turn) s.views id v w at)
+
   pub moved : (s : St) (r : Rule s) (id : ℕ) (v w : V) (words' : List ℕ) (homes' : Homes) (log' added' : List (ℕ × E))
-      (drawn' served' : ℕ)
+      (drawn' served' : ℕ) (flags' : List ℕ)
       → get_elem? s.views id ≡ some v
-      → words' ≡ (drawn' % 2 ^ 64) ∷ (served' % 2 ^ 64) ∷ length log' ∷ []
+      → words' ≡ (drawn' % 2 ^ 64) ∷ (served' % 2 ^ 64) ∷ length log' ∷ flags'
+      → length flags' ≡ 128
+      → NoneSleepsOn served' flags' (set s.views id w)
       → drawn' + r.served + has_ticket v.turn ≡ r.drawn + served' + has_ticket w.turn
       → ((t : ℕ) → within served' drawn' t + has t v.turn ≡ within r.served r.drawn t + has t w.turn)
       → Slot log' (state words' homes' (set s.views id w))
@@ -60,14 +71,17 @@ module _ {T O E : Type 0} (org : T → O) (sty : T → List (ℕ × E)) (o : O) 
       → Fits o built log' served' r.next w
       → ((j : ℕ) (u : V) → j ≢ id → get_elem? s.views j ≡ some u → Fits o built log' served' r.next u)
       → Rule (state words' homes' (set s.views id w))
-  moved s r id v w words' homes' log' added' drawn' served' at words_are queue tickets slot begins numbered given
-      numbers_are mine others = record {
+  moved s r id v w words' homes' log' added' drawn' served' flags' at words_are all_flags none_sleeps_on queue tickets
+      slot begins numbered given numbers_are mine others = record {
         log = log';
         added = added';
         drawn = drawn';
         served = served';
         next = r.next;
+        flags = flags';
         words_are = words_are;
+        all_flags = all_flags;
+        none_sleeps_on = none_sleeps_on;
         queue = omega (arith, queue, r.queue, total-set (λ (x : V). has_ticket x.turn) s.views id v w at);
         tickets = λ t. omega (arith, tickets t, r.tickets t, total-set (λ (x : V). has t x.turn) s.views id v w at);
         slot = slot;
@@ -125,13 +139,19 @@ module _ {T O E : Type 0} (org : T → O) (sty : T → List (ℕ × E)) (o : O) 
       → IsServed log served seen turn → IsServed log' served' seen turn
   elsewhere log log' seen served served' Out h f = tt
   elsewhere log log' seen served served' (Waiting t) h f = tt
+  elsewhere log log' seen served served' (Flagged t) h f = tt
+  elsewhere log log' seen served served' (Parked t) h f = tt
   elsewhere log log' seen served served' (Inside t) h f = absurd (omega (arith, h, if_same served t (sym f.0)))
   elsewhere log log' seen served served' (Holding t) h f = absurd (omega (arith, h, if_same served t (sym f.0)))
+  elsewhere log log' seen served served' (Waking t) h f = tt
 
   -- who has the value has the ticket that is served
   pub holder_served : (log seen : List (ℕ × E)) (served : ℕ) (turn : Turn) → 0 < holds turn
       → IsServed log served seen turn → has served turn ≡ 1
   holder_served log seen served Out h f = absurd (omega arith)
   holder_served log seen served (Waiting t) h f = absurd (omega arith)
+  holder_served log seen served (Flagged t) h f = absurd (omega arith)
+  holder_served log seen served (Parked t) h f = absurd (omega arith)
   holder_served log seen served (Inside t) h f = absurd (omega arith)
   holder_served log seen served (Holding t) h f = if_same served t (sym f.0)
+  holder_served log seen served (Waking t) h f = absurd (omega arith)

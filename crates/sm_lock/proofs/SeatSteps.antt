@@ -10,16 +10,16 @@ use lib.Seq.{set-get_or}
 use Rattle.atomic_table.specs.Table.{State, Me, step, keeps, Allows, Splits, Joins, opening, Final, Seen}
 use Rattle.atomic_table.proofs.Lists.{at_snoc, set_again, set_else}
 use Rattle.sm_lock.specs.declared.view.Turn.{Turn}
-use Rattle.sm_lock.specs.declared.view.Turn.TheVariants.{Out, Waiting, Inside, Holding}
+use Rattle.sm_lock.specs.declared.view.Turn.TheVariants.{Out, Waiting, Flagged, Parked, Inside, Holding, Waking}
 use Rattle.sm_lock.specs.declared.view.View.{View}
 use Rattle.sm_lock.specs.declared.view.Known.{Known}
 use Rattle.sm_lock.specs.Story.{times, made_by, Grows}
-use Rattle.sm_lock.specs.View.{has_ticket, has, holds, nothing, numbers, first_view, spent, counted_up, newcomer, noted, beside, merged}
+use Rattle.sm_lock.specs.View.{has_ticket, has, holds, parks, wakes, nothing, numbers, first_view, spent, counted_up, newcomer, noted, beside, merged}
 use Rattle.sm_lock.specs.Rule.{total, Fits, IsServed, IsHome, IsAway}
 use Rattle.sm_lock.specs.Told.{took_in}
 use Rattle.sm_lock.proofs.Sums.{total-append, total-set, terms_le, some_term, times-append, times-length, within-in, within-more, within-after}
 use Rattle.sm_lock.proofs.Stories.{grows-nil, grows-none, joins}
-use Rattle.sm_lock.proofs.Moved.{Rule, state, slot_stays, moved, each_set}
+use Rattle.sm_lock.proofs.Moved.{Rule, state, slot_stays, flags_stay, moved, each_set}
 
 module _ {T O E : Type 0} (org : T → O) (sty : T → List (ℕ × E)) (o : O) (built : List (ℕ × E)) (seats : ℕ) where
   abbrev V : Type 0
@@ -32,15 +32,19 @@ module _ {T O E : Type 0} (org : T → O) (sty : T → List (ℕ × E)) (o : O) 
   R = Rule org sty o built seats
 
   -- the table at the start
-  pub opens : (words : List ℕ) (value : T) → words ≡ 0 ∷ 0 ∷ length built ∷ [] → sty value ≡ built → org value ≡ o
+  pub opens : (words flags : List ℕ) (value : T) → words ≡ 0 ∷ 0 ∷ length built ∷ flags → length flags ≡ 128
+      → sty value ≡ built → org value ≡ o
       → R (opening words (Some value ∷ []) (first_view o built))
-  opens words value words_are list origin = record {
+  opens words flags value words_are all_flags list origin = record {
     log = built;
     added = [];
     drawn = 0;
     served = 0;
     next = 1;
+    flags = flags;
     words_are = words_are;
+    all_flags = all_flags;
+    none_sleeps_on = λ parked _. absurd (omega (arith, parked));
     queue = refl;
     tickets = λ t. sym (within-after 0 0 t (omega arith));
     slot = inl (value, refl, list, origin, refl);
@@ -86,7 +90,12 @@ module _ {T O E : Type 0} (org : T → O) (sty : T → List (ℕ × E)) (o : O) 
         drawn = r.drawn;
         served = r.served;
         next = r.next;
+        flags = r.flags;
         words_are = r.words_are;
+        all_flags = r.all_flags;
+        none_sleeps_on = λ parked up.
+            let waking = r.none_sleeps_on (omega (arith, parked, sum (λ x. parks r.served x.turn) refl)) up in
+            omega (arith, waking, sum (λ x. wakes r.served x.turn) refl);
         queue = r.queue ∙ ap (λ (x : ℕ). r.served + x) (sym (sum (λ x. has_ticket x.turn) refl));
         tickets = λ t. sum (λ x. has t x.turn) refl ∙ r.tickets t;
         slot = slot_more s r (set s.views id v ++ noted v ∷ []) (sum (λ x. holds x.turn) refl);
@@ -138,7 +147,12 @@ module _ {T O E : Type 0} (org : T → O) (sty : T → List (ℕ × E)) (o : O) 
         drawn = r.drawn;
         served = r.served;
         next = r.next + 1;
+        flags = r.flags;
         words_are = r.words_are;
+        all_flags = r.all_flags;
+        none_sleeps_on = λ parked up.
+            let waking = r.none_sleeps_on (omega (arith, parked, sum (λ x. parks r.served x.turn))) up in
+            omega (arith, waking, sum (λ x. wakes r.served x.turn));
         queue = omega (arith, r.queue, sum (λ x. has_ticket x.turn));
         tickets = λ t. omega (arith, sum (λ x. has t x.turn), r.tickets t);
         slot = slot_more s r views (omega (arith, sum (λ x. holds x.turn)));
@@ -202,7 +216,13 @@ module _ {T O E : Type 0} (org : T → O) (sty : T → List (ℕ × E)) (o : O) 
         drawn = r.drawn;
         served = r.served;
         next = r.next;
+        flags = r.flags;
         words_are = r.words_are;
+        all_flags = r.all_flags;
+        none_sleeps_on = λ parked up.
+            let waking = r.none_sleeps_on
+            (omega (arith, parked, sum (λ x. parks r.served x.turn), ap (parks r.served) out)) up in
+            omega (arith, waking, sum (λ x. wakes r.served x.turn), ap (wakes r.served) out);
         queue = omega (arith, r.queue, sum (λ x. has_ticket x.turn), ap has_ticket out);
         tickets = λ t. omega (arith, r.tickets t, sum (λ x. has t x.turn), ap (has t) out);
         slot = slot_more s r (set vs other spent) (omega (arith, sum (λ x. holds x.turn), ap holds out));
@@ -262,7 +282,8 @@ module _ {T O E : Type 0} (org : T → O) (sty : T → List (ℕ × E)) (o : O) 
         keeps,
         tt,
         moved org sty o built seats s r id v w (set s.words 0 (get_or s.words 0 0)) s.homes r.log r.added r.drawn
-            r.served me (set-get_or s.words 0 0 ∙ r.words_are)
+            r.served r.flags me (set-get_or s.words 0 0 ∙ r.words_are) r.all_flags
+            (flags_stay org sty o built seats s r id v w me (omega arith) (omega arith))
             refl (λ _. refl) (slot_stays org sty o built seats s r (set s.words 0 (get_or s.words 0 0)) id v w me refl)
             r.begins r.numbered refl (append-nil (numbers v))
             (record {
@@ -282,8 +303,11 @@ module _ {T O E : Type 0} (org : T → O) (sty : T → List (ℕ × E)) (o : O) 
   holds-ticket : (turn : Turn) → holds turn ≤ has_ticket turn
   holds-ticket Out = omega arith
   holds-ticket (Waiting t) = omega arith
+  holds-ticket (Flagged t) = omega arith
+  holds-ticket (Parked t) = omega arith
   holds-ticket (Inside t) = omega arith
   holds-ticket (Holding t) = omega arith
+  holds-ticket (Waking t) = omega arith
 
   -- what the last state shows to a seat that has all numbers
   pub closes : (id : ℕ) (v : V) (ws : List ℕ) (xs : List (Option T)) → v.turn ≡ Out → v.told ≡ nothing

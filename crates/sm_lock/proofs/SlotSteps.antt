@@ -12,13 +12,13 @@ use Rattle.atomic_table.specs.Table.{State, Me, step, keeps, takes, gives, Allow
 use Rattle.sm_lock.specs.declared.view.Turn.TheVariants.{Inside, Holding}
 use Rattle.sm_lock.specs.declared.view.View.{View}
 use Rattle.sm_lock.specs.Story.{times, made_by, Grows}
-use Rattle.sm_lock.specs.View.{has_ticket, has, holds, ticket, turned, saw, numbers}
+use Rattle.sm_lock.specs.View.{has_ticket, has, holds, parks, wakes, ticket, turned, saw, numbers}
 use Rattle.sm_lock.specs.Rule.{IsServed, IsHome, IsAway}
 use Rattle.sm_lock.specs.Standing.{AddsOne}
 use Rattle.sm_lock.specs.Told.{took, raised, returned}
 use Rattle.sm_lock.proofs.Sums.{total-set, term_le, terms_le, some_term, if_same, times-append, times-here, times-else, within_le, within-is}
 use Rattle.sm_lock.proofs.Stories.{made-append, grows-same, grows-trans}
-use Rattle.sm_lock.proofs.Moved.{Rule, state, moved, fits_turned, others_none, elsewhere, holder_served}
+use Rattle.sm_lock.proofs.Moved.{Rule, state, flags_stay, moved, fits_turned, others_none, elsewhere, holder_served}
 
 module _ {T O E : Type 0} (org : T → O) (sty : T → List (ℕ × E)) (o : O) (built : List (ℕ × E)) (seats : ℕ) where
   abbrev V : Type 0
@@ -67,7 +67,10 @@ module _ {T O E : Type 0} (org : T → O) (sty : T → List (ℕ × E)) (o : O) 
         takes 0 (Some home.0),
         ap (λ (hs : List (maybe.Option (Option T))). get_elem? hs 0) home.1,
         moved org sty o built seats s r id v w (set s.words 2 (get_or s.words 2 0))
-            (set s.homes 0 none) r.log r.added r.drawn r.served me (set-get_or s.words 2 0 ∙ r.words_are)
+            (set s.homes 0 none) r.log r.added r.drawn r.served r.flags me (set-get_or s.words 2 0 ∙ r.words_are)
+            r.all_flags
+            (flags_stay org sty o built seats s r id v w me (omega (arith, ap (parks r.served) inside))
+            (omega (arith, ap (wakes r.served) inside)))
             (omega (arith, ap has_ticket inside)) (λ k. omega (arith, ap (has k) inside))
             (inr (slots, omega (arith, held, home.4, ap holds inside)))
             r.begins r.numbered refl refl
@@ -118,11 +121,12 @@ module _ {T O E : Type 0} (org : T → O) (sty : T → List (ℕ × E)) (o : O) 
       let sum : (length r.log + k) % 2 ^ 64 ≡ length after =
       omega (arith, ap length whole, length-append r.log extra, len, small) in
       let words : set s.words 2 ((get_or s.words 2 0 + k) % 2 ^ 64) ≡ (r.drawn % 2 ^ 64) ∷ (r.served % 2 ^ 64)
-      ∷ length after ∷ [] =
+      ∷ length after ∷ r.flags =
       ap (λ (ws : List ℕ). set ws 2 ((get_or ws 2 0 + k) % 2 ^ 64)) r.words_are
-      ∙ ap (λ (x : ℕ). (r.drawn % 2 ^ 64) ∷ (r.served % 2 ^ 64) ∷ x ∷ []) sum in
+      ∙ ap (λ (x : ℕ). (r.drawn % 2 ^ 64) ∷ (r.served % 2 ^ 64) ∷ x ∷ r.flags) sum in
       moved org sty o built seats s r id v w (set s.words 2 ((get_or s.words 2 0 + k) % 2 ^ 64)) s.homes after
-      (r.added ++ extra) r.drawn r.served me words refl (λ _. refl)
+      (r.added ++ extra) r.drawn r.served r.flags me words r.all_flags
+      (flags_stay org sty o built seats s r id v w me (omega arith) (omega arith)) refl (λ _. refl)
       (inr (away.0, omega (arith, away.1, total-set (λ (x : V). holds x.turn) s.views id v w me)))
       (whole ∙ ap (λ (l : List (ℕ × E)). l ++ extra) r.begins ∙ append_assoc built r.added extra)
       (λ n h. dite (dec_lt 0 (made_by (n ∷ []) r.added)) (λ old. r.numbered n old)
@@ -201,7 +205,10 @@ module _ {T O E : Type 0} (org : T → O) (sty : T → List (ℕ × E)) (o : O) 
         gives,
         tt,
         moved org sty o built seats s r id v w (set s.words 2 (get_or s.words 2 0))
-            (set s.homes 0 (some (Some value))) r.log r.added r.drawn r.served me (set-get_or s.words 2 0 ∙ r.words_are)
+            (set s.homes 0 (some (Some value))) r.log r.added r.drawn r.served r.flags me
+            (set-get_or s.words 2 0 ∙ r.words_are) r.all_flags
+            (flags_stay org sty o built seats s r id v w me (omega (arith, ap (parks r.served) holding))
+            (omega (arith, ap (wakes r.served) holding)))
             (omega (arith, ap has_ticket holding)) (λ k. omega (arith, ap (has k) holding))
             (inl (value, slots, list ∙ here.1, origin, omega (arith, held, away.1, ap holds holding)))
             r.begins r.numbered refl refl

@@ -1,13 +1,13 @@
 -- What holds of the words, the slot and all views between any two steps.
-use Rattle.std.specs.Prelude.{◌≡◌, ◌⊎◌, ℕ, ◌+◌, ◌%◌, ◌^◌, ◌<◌, ◌≤◌, List, [], ◌∷◌, ◌++◌, length, Option, Some, None, if◌then◌else◌, nat_lt}
+use Rattle.std.specs.Prelude.{◌≡◌, ◌⊎◌, ℕ, ◌+◌, ◌%◌, ◌^◌, ◌<◌, ◌≤◌, List, [], ◌∷◌, ◌++◌, length, Option, Some, None, if◌then◌else◌, nat_lt, slice_index}
 use mathlib.Core.Option.{some, none}
 use lib.ListN.{get_elem?}
 use Rattle.atomic_table.specs.Table.{State}
 use Rattle.sm_lock.specs.declared.view.Turn.{Turn}
-use Rattle.sm_lock.specs.declared.view.Turn.TheVariants.{Out, Waiting, Inside, Holding}
+use Rattle.sm_lock.specs.declared.view.Turn.TheVariants.{Out, Waiting, Flagged, Parked, Inside, Holding, Waking}
 use Rattle.sm_lock.specs.declared.view.View.{View}
 use Rattle.sm_lock.specs.Story.{times, made_by, Grows}
-use Rattle.sm_lock.specs.View.{has_ticket, has, holds, numbers}
+use Rattle.sm_lock.specs.View.{has_ticket, has, holds, parks, wakes, numbers}
 
 -- the sum of f over a list
 abbrev pub total : {A : Type 0} → (A → ℕ) → List A → ℕ
@@ -22,8 +22,18 @@ within low high n = if nat_lt n low then 0 else (if nat_lt n high then 1 else 0)
 abbrev pub IsServed : {E : Type 0} → List (ℕ × E) → ℕ → List (ℕ × E) → Turn → Type 0
 IsServed log served seen Out = Unit {0}
 IsServed log served seen (Waiting t) = Unit {0}
+IsServed log served seen (Flagged t) = Unit {0}
+IsServed log served seen (Parked t) = Unit {0}
 IsServed log served seen (Inside t) = (t ≡ served) × (seen ≡ log)
 IsServed log served seen (Holding t) = (t ≡ served) × (seen ≡ log)
+IsServed log served seen (Waking t) = Unit {0}
+
+-- the word that has a ticket's flag, and the flag among all of them
+abbrev pub flag_word : ℕ → ℕ
+flag_word t = 3 + t % 128
+
+abbrev pub flag : ℕ → List ℕ → ℕ
+flag t flags = slice_index flags (t % 128)
 
 -- what holds of each view
 pub record Fits {O E : Type 0} (origin : O) (built log : List (ℕ × E)) (served next : ℕ) (v : View O E) : Type 0 where
@@ -37,6 +47,12 @@ pub record Fits {O E : Type 0} (origin : O) (built log : List (ℕ × E)) (serve
   pub numbered : has_ticket v.turn ≤ length v.own.numbers
   -- only the builder counts numbers
   pub counts : (v.given ≡ 0) ⊎ (v.given ≡ next)
+
+-- no wake-up is lost: where a seat may be parked though its ticket is served, its flag is down, or another seat has yet
+-- to see to that flag
+abbrev pub NoneSleepsOn : {O E : Type 0} → ℕ → List ℕ → List (View O E) → Type 0
+NoneSleepsOn served flags views =
+    0 < total (λ v. parks served v.turn) views → flag served flags ≡ 1 → 0 < total (λ v. wakes served v.turn) views
 
 module _ {T O E : Type 0} where
   -- the value is with one seat
@@ -59,7 +75,11 @@ pub record Counted {T O E : Type 0} (origin_of : T → O) (story_of : T → List
   pub drawn : ℕ
   pub served : ℕ
   pub next : ℕ
-  pub words_are : s.words ≡ (drawn % 2 ^ 64) ∷ (served % 2 ^ 64) ∷ length log ∷ []
+  -- the flags of the tickets
+  pub flags : List ℕ
+  pub words_are : s.words ≡ (drawn % 2 ^ 64) ∷ (served % 2 ^ 64) ∷ length log ∷ flags
+  pub all_flags : length flags ≡ 128
+  pub none_sleeps_on : NoneSleepsOn served flags s.views
   -- the tickets held are the numbers from `served` up to `drawn`, each once
   pub queue : drawn ≡ served + total (λ v. has_ticket v.turn) s.views
   pub tickets : (t : ℕ) → total (λ v. has t v.turn) s.views ≡ within served drawn t

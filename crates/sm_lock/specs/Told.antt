@@ -1,10 +1,10 @@
 -- What each step tells its seat: of the step, the seat before, the word that was found and the seat after.
-use Rattle.std.specs.Prelude.{◌≡◌, ◌≢◌, ℕ, ◌%◌, ◌^◌, List, ◌∷◌, length, Option, Some}
+use Rattle.std.specs.Prelude.{◌≡◌, ◌≢◌, ℕ, ◌+◌, ◌%◌, ◌^◌, List, ◌∷◌, length, Option, Some}
 use Rattle.atomic_table.specs.Table.{Me, Step, rest}
-use Rattle.sm_lock.specs.declared.view.Turn.TheVariants.{Out, Waiting, Inside, Holding}
+use Rattle.sm_lock.specs.declared.view.Turn.TheVariants.{Out, Waiting, Flagged, Parked, Inside, Holding, Waking}
 use Rattle.sm_lock.specs.declared.view.View.{View}
 use Rattle.sm_lock.specs.Story.{Grows}
-use Rattle.sm_lock.specs.View.{turned, saw, merged}
+use Rattle.sm_lock.specs.View.{turned, saw, merged, ticket}
 
 abbrev Sat : Type 0 → Type 0 → Type 0 → Type 0
 Sat T O E = Me (Option T) (View O E)
@@ -24,6 +24,17 @@ module _ {T O E : Type 0} where
       × (m' ≡ (turned (Inside t) (saw log m.0), m.1)))
       × (found ≢ t % 2 ^ 64 → m' ≡ m)
 
+  -- its ticket's flag was raised
+  abbrev pub flagged : At T → Sat T O E → ℕ → Sat T O E → Type 0
+  flagged st m found m' = m' ≡ (turned (Flagged (ticket m.0.turn)) m.0, m.1)
+
+  -- the same as `looked`, with its flag raised: where its ticket is not served, it may park
+  abbrev pub looked_again : At T → Sat T O E → ℕ → Sat T O E → Type 0
+  looked_again st m found m' = (t : ℕ) → m.0.turn ≡ Flagged t
+      → (found ≡ t % 2 ^ 64 → (log : List (ℕ × E)) × Grows m.0.own.numbers m.0.own.seen log
+      × (m' ≡ (turned (Inside t) (saw log m.0), m.1)))
+      × (found ≢ t % 2 ^ 64 → m' ≡ (turned (Parked t) m.0, m.1))
+
   module _ (origin_of : T → O) (story_of : T → List (ℕ × E)) where
     -- the value is with it
     abbrev pub took : At T → Sat T O E → ℕ → Sat T O E → Type 0
@@ -41,8 +52,18 @@ module _ {T O E : Type 0} where
   abbrev pub returned : At T → Sat T O E → ℕ → Sat T O E → Type 0
   returned st m found m' = (t : ℕ) → m.0.turn ≡ Holding t → m' ≡ (turned (Inside t) m.0, rest m.1)
 
+  -- the next ticket is served, and it has yet to see to that one's flag
   abbrev pub served : At T → Sat T O E → ℕ → Sat T O E → Type 0
-  served st m found m' = m' ≡ (turned Out m.0, m.1)
+  served st m found m' = (t : ℕ) → m.0.turn ≡ Inside t
+      → (found ≡ t % 2 ^ 64) × (m' ≡ (turned (Waking (t + 1)) m.0, m.1))
+
+  -- it is out, but for where the flag was up
+  abbrev pub saw_flag : At T → Sat T O E → ℕ → Sat T O E → Type 0
+  saw_flag st m found m' = (found ≡ 1 → m' ≡ m) × (found ≢ 1 → m' ≡ (turned Out m.0, m.1))
+
+  -- the flag was lowered, and it is out
+  abbrev pub lowered : At T → Sat T O E → ℕ → Sat T O E → Type 0
+  lowered st m found m' = m' ≡ (turned Out m.0, m.1)
 
   -- what it was told is taken in, and the list that it has then extends both
   abbrev pub took_in : At T → Sat T O E → ℕ → Sat T O E → Type 0

@@ -1,7 +1,7 @@
 -- What a seat knows, and what it knows after each step.
 use Rattle.std.specs.Prelude.{ℕ, ◌+◌, List, [], ◌∷◌, ◌++◌, Some, None, if◌then◌else◌, ◌==◌}
 use Rattle.sm_lock.specs.declared.view.Turn.{Turn}
-use Rattle.sm_lock.specs.declared.view.Turn.TheVariants.{Out, Waiting, Inside, Holding}
+use Rattle.sm_lock.specs.declared.view.Turn.TheVariants.{Out, Waiting, Flagged, Parked, Inside, Holding, Waking}
 use Rattle.sm_lock.specs.declared.view.Known.{Known}
 use Rattle.sm_lock.specs.declared.view.View.{View}
 use Rattle.sm_lock.specs.Story.{longer}
@@ -10,29 +10,61 @@ use Rattle.sm_lock.specs.Story.{longer}
 abbrev pub has_ticket : Turn → ℕ
 has_ticket Out = 0
 has_ticket (Waiting t) = 1
+has_ticket (Flagged t) = 1
+has_ticket (Parked t) = 1
 has_ticket (Inside t) = 1
 has_ticket (Holding t) = 1
+has_ticket (Waking t) = 0
 
 -- 1 where its ticket is n, and else 0
 abbrev pub has : ℕ → Turn → ℕ
 has n Out = 0
 has n (Waiting t) = if n == t then 1 else 0
+has n (Flagged t) = if n == t then 1 else 0
+has n (Parked t) = if n == t then 1 else 0
 has n (Inside t) = if n == t then 1 else 0
 has n (Holding t) = if n == t then 1 else 0
+has n (Waking t) = 0
 
 -- 1 where the value is with it, and else 0
 abbrev pub holds : Turn → ℕ
 holds Out = 0
 holds (Waiting t) = 0
+holds (Flagged t) = 0
+holds (Parked t) = 0
 holds (Inside t) = 0
 holds (Holding t) = 1
+holds (Waking t) = 0
 
--- its ticket, and 0 where it has none
+-- 1 where it may be parked with ticket n, and else 0
+abbrev pub parks : ℕ → Turn → ℕ
+parks n Out = 0
+parks n (Waiting t) = 0
+parks n (Flagged t) = 0
+parks n (Parked t) = if n == t then 1 else 0
+parks n (Inside t) = 0
+parks n (Holding t) = 0
+parks n (Waking t) = 0
+
+-- 1 where it has yet to see to the flag of ticket n, and else 0
+abbrev pub wakes : ℕ → Turn → ℕ
+wakes n Out = 0
+wakes n (Waiting t) = 0
+wakes n (Flagged t) = 0
+wakes n (Parked t) = 0
+wakes n (Inside t) = 0
+wakes n (Holding t) = 0
+wakes n (Waking t) = if n == t then 1 else 0
+
+-- its ticket, or the one that it served, and 0 where there is none
 abbrev pub ticket : Turn → ℕ
 ticket Out = 0
 ticket (Waiting t) = t
+ticket (Flagged t) = t
+ticket (Parked t) = t
 ticket (Inside t) = t
 ticket (Holding t) = t
+ticket (Waking t) = t
 
 module _ {E : Type 0} where
   -- a list that was seen, with the numbers whose entries are all in it

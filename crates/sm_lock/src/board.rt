@@ -1,4 +1,5 @@
-//! The table that all seats of a lock share: three words and one slot, which holds the value.
+//! The table that all seats of a lock share: three words, a flag for each ticket that may be out, and one slot, which
+//! holds the value.
 use crate::storied::Storied;
 use crate::view::View;
 use atomic_table::{Seat, Table, TableRule};
@@ -8,11 +9,23 @@ use std::snapshot::Snapshot;
 /// Counts the tickets that were drawn, modulo 2^64.
 pub(crate) const TICKET: usize = 0;
 
-/// Counts the tickets that were served, modulo 2^64. Who waits parks on it.
+/// Counts the tickets that were served, modulo 2^64.
 pub(crate) const SERVING: usize = 1;
 
 /// Counts the entries of the value's list.
 pub(crate) const COUNT: usize = 2;
+
+/// The flag of ticket 0; those of the next tickets stand behind it.
+pub(crate) const FIRST_FLAG: usize = 3;
+
+/// How many flags there are, as many as there may be seats: so the tickets that are out at one time have a flag each.
+pub(crate) const FLAGS: usize = 128;
+
+/// A flag that is up: who has the ticket may be parked on it.
+pub(crate) const UP: u64 = 1;
+
+/// A flag that is down.
+pub(crate) const DOWN: u64 = 0;
 
 /// What is fixed when a lock is built. The value is remembered for proofs alone.
 #[derive(Drop)]

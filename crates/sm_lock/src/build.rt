@@ -6,7 +6,7 @@ ghost use Rattle.sm_lock.specs.declared.gate.BuildRefused.TheVariants.{Memory};
 ghost use Rattle.sm_lock.specs.View.{first_view};
 ghost use Rattle.sm_lock.specs.Handles.{built_with, seats as seats_of, number, seen, mine, IsIn};
 
-use crate::board::{Board, Key, Place};
+use crate::board::{Board, COUNT, FIRST_FLAG, FLAGS, Key, Place};
 use crate::gate::{BuildRefused, Gate};
 use crate::pass::Pass;
 use crate::plays::Number;
@@ -34,7 +34,7 @@ fn lay<T: Storied>(
     value: T,
     seats: u32,
 ) -> Result<(Board<T>, Place<T>), BuildRefused<T>>
-    ensures sized { IfOk result (λ r. (r.0.shared.table_id.words ≡ 3) × (r.0.shared.table_id.slots ≡ 1)) }
+    ensures sized { IfOk result (λ r. (r.0.shared.table_id.words ≡ 131) × (r.0.shared.table_id.slots ≡ 1)) }
     ensures key { IfOk result (λ r. (r.0.shared.key.seats ≡ seats) × (r.0.shared.key.built.value ≡ value)) }
     ensures builder { IfOk result (λ r. (r.1.table_id ≡ r.0.shared.table_id)
         × (r.1.me ≡ (first_view (T.origin value) (T.story value), []))) }
@@ -44,7 +44,8 @@ fn lay<T: Storied>(
         built: Snapshot::of(&value),
         seats,
     };
-    let words = [0, 0, value.length()];
+    let mut words = [0; FIRST_FLAG + FLAGS];
+    words[COUNT] = value.length();
     let Ok(mut slots) = Vec::with_capacity(alloc, 1) else {
         return Err(BuildRefused::Memory(value));
     };

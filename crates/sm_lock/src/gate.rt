@@ -10,7 +10,7 @@ use crate::storied::Storied;
 pub struct Gate<T: Storied> {
     pub(crate) board: Board<T>,
     pub(crate) seats: u32,
-    pub ghost sized: { (board.shared.table_id.words ≡ 3) × (board.shared.table_id.slots ≡ 1) },
+    pub ghost sized: { (board.shared.table_id.words ≡ 131) × (board.shared.table_id.slots ≡ 1) },
     pub ghost counted: { (board.shared.key.seats ≡ seats) × (1 ≤ seats) × (seats ≤ SEATS_LIMIT) },
 }
 

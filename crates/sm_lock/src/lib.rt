@@ -14,6 +14,7 @@ mod reads;
 pub mod storied;
 mod turns;
 pub mod view;
+mod waiting;
 
 pub use gate::{BuildRefused, Gate};
 pub use pass::{Held, Note, Pass};

@@ -1,5 +1,5 @@
 //! The names of the steps, and what each tells its seat.
-ghost use Rattle.sm_lock.specs.Told.{drew, looked, took, raised, returned, served, took_in};
+ghost use Rattle.sm_lock.specs.Told.{drew, looked, flagged, looked_again, took, raised, returned, served, saw_flag, lowered, took_in};
 ghost use Rattle.sm_lock.specs.View.{beside, spent, counted_up, newcomer, noted};
 
 use crate::storied::Storied;
@@ -16,6 +16,18 @@ pub(crate) struct Look;
 
 impl<T, O, E> Play<Option<T>, View<O, E>> for Look {
     ghost then = { looked };
+}
+
+pub(crate) struct Flag;
+
+impl<T, O, E> Play<Option<T>, View<O, E>> for Flag {
+    ghost then = { flagged };
+}
+
+pub(crate) struct LookAgain;
+
+impl<T, O, E> Play<Option<T>, View<O, E>> for LookAgain {
+    ghost then = { looked_again };
 }
 
 pub(crate) struct Take;
@@ -40,6 +52,18 @@ pub(crate) struct Serve;
 
 impl<T, O, E> Play<Option<T>, View<O, E>> for Serve {
     ghost then = { served };
+}
+
+pub(crate) struct SeeFlag;
+
+impl<T, O, E> Play<Option<T>, View<O, E>> for SeeFlag {
+    ghost then = { saw_flag };
+}
+
+pub(crate) struct Lower;
+
+impl<T, O, E> Play<Option<T>, View<O, E>> for Lower {
+    ghost then = { lowered };
 }
 
 pub(crate) struct TakeIn;

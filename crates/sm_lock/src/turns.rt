@@ -1,6 +1,6 @@
 //! Entering and leaving.
-ghost use Rattle.std.specs.Prelude.{◌≡◌, ◌<◌, ◌⊎◌, ◌%◌, ◌^◌, [], ◌∷◌, ◌++◌, length, Some, None};
-ghost use Rattle.sm_lock.specs.declared.view.Turn.TheVariants.{Out, Waiting, Inside, Holding};
+ghost use Rattle.std.specs.Prelude.{◌≡◌, ◌<◌, ◌⊎◌, ◌^◌, [], ◌∷◌, ◌++◌, length, Some, None};
+ghost use Rattle.sm_lock.specs.declared.view.Turn.TheVariants.{Out, Inside, Holding};
 ghost use Rattle.sm_lock.specs.Story.{Grows};
 ghost use Rattle.sm_lock.specs.Standing.{AddsOne};
 ghost use Rattle.sm_lock.specs.View.{turned, saw, ticket as ticket_of};
@@ -9,7 +9,7 @@ ghost use Rattle.sm_lock.specs.Handles.{built_with, number, seen, mine, holder, 
 use crate::board::{COUNT, Place, SERVING, TICKET};
 use crate::gate::Gate;
 use crate::pass::{Held, Pass, Stay};
-use crate::plays::{Draw, Look, Raise, Return, Serve, Take};
+use crate::plays::{Draw, Raise, Return, Serve, Take};
 use crate::storied::Storied;
 use std::sync::Wait;
 
@@ -40,31 +40,6 @@ impl<T: Storied> Gate<T> {
                 place,
             },
         }
-    }
-
-    /// Sleeps until the ticket is served.
-    fn wait_for<R: Wait>(&self, rt: &R, place: &mut Place<T>, ticket: u64)
-        requires gate { place.old.table_id ≡ self.now.board.shared.table_id }
-        requires turn { (place.old.me.0.turn ≡ Waiting (ticket_of place.old.me.0.turn))
-            × (ticket ≡ ticket_of place.old.me.0.turn % 2 ^ 64) }
-        ensures gate { place.new.table_id ≡ place.old.table_id }
-        ensures place { place.new.me ≡ (
-          turned (Inside (ticket_of place.old.me.0.turn))
-              (saw place.new.me.0.own.seen place.old.me.0),
-          place.old.me.1,
-        ) }
-        ensures seen { Grows place.old.me.0.own.numbers place.old.me.0.own.seen place.new.me.0.own.seen }
-    {
-        let shared = &self.board.shared;
-        for _ in rt.forever() {
-            let serving = shared.load::<Look>(place, SERVING);
-            if serving == ticket {
-                return;
-            }
-            // A leave changes the low 32 bits, on which a sleep depends, and then wakes all.
-            shared.park(rt, SERVING, (serving % (1 << 32)) as u32);
-        }
-        unreachable!()
     }
 
     /// Takes the value out of its slot, with the number of its entries.
@@ -129,7 +104,7 @@ impl<T: Storied> Gate<T> {
         let None = before else { unreachable!() };
         shared.fetch_add::<Raise>(place, COUNT, more);
         shared.load::<Return>(place, COUNT);
-        shared.fetch_add::<Serve>(place, SERVING, 1);
-        shared.wake_all(SERVING);
+        let served = shared.fetch_add::<Serve>(place, SERVING, 1);
+        self.wake(place, served.wrapping_add(1));
     }
 }

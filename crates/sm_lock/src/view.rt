@@ -5,10 +5,16 @@ use std::collections::LinkedList;
 pub enum Turn {
     Out,
     Waiting(u64),
+    /// It waits, and has raised its ticket's flag.
+    Flagged(u64),
+    /// With its flag raised it saw that its ticket was not served, so it may park.
+    Parked(u64),
     /// Its ticket is served, and the value is in the slot.
     Inside(u64),
     /// Its ticket is served, and the value is with the seat.
     Holding(u64),
+    /// It has served this ticket, and has yet to see to its flag.
+    Waking(u64),
 }
 
 /// A list that was seen, and numbers whose entries are all in it.

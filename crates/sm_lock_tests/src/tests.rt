@@ -40,7 +40,7 @@ fn a_note_is_heard(rt: HostRuntime) {
 /// The greatest number of rounds that those who wait are woken in.
 const ROUNDS: u32 = 100_000;
 
-// A leave that wakes nobody, or one alone, or who sleeps on another word, makes it wait for ever.
+// A leave that wakes nobody, or at another flag, or who parks on another ticket's flag, makes it wait for ever.
 #[test]
 fn those_who_wait_are_woken(rt: HostRuntime) {
     let tally = Tally::new(rt.alloc(), 0);
