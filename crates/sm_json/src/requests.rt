@@ -11,6 +11,7 @@ use crate::body::{Body, object_of};
 use crate::fields::{Fault, Mark};
 use crate::operation::Operation;
 use crate::{passwords, policies, rotation, secrets, values};
+use json::Scratch;
 use serde_json::Value;
 use sm_model::{Request, Text};
 use std::alloc::Global;
@@ -128,7 +129,19 @@ pub fn asked(alloc: Global, operation: Operation, object: &Value) -> ReadRequest
 pub fn request_of(alloc: Global, operation: Operation, body: &[u8]) -> ReadRequest
     ensures { OrMemory (told result) (asks_of operation body.now) }
 {
-    match object_of(alloc, body) {
+    request_of_with(&mut Scratch::new(alloc), alloc, operation, body)
+}
+
+/// `request_of` over memory that is kept from body to body. It grows to the longest of them.
+pub fn request_of_with(
+    scratch: &mut Scratch,
+    alloc: Global,
+    operation: Operation,
+    body: &[u8],
+) -> ReadRequest
+    ensures { OrMemory (told result) (asks_of operation body.now) }
+{
+    match object_of(alloc, scratch, body) {
         Body::Object(object) => asked(alloc, operation, &object),
         Body::NotJson => ReadRequest::NotJson,
         Body::Memory => ReadRequest::Memory,
@@ -140,8 +153,15 @@ pub fn request_of(alloc: Global, operation: Operation, body: &[u8]) -> ReadReque
 pub fn request(alloc: Global, target: &[u8], body: &[u8]) -> ReadRequest
     ensures { OrMemory (told result) (asks target.now body.now) }
 {
+    request_with(&mut Scratch::new(alloc), alloc, target, body)
+}
+
+/// `request` over memory that is kept from message to message. It grows to the longest body.
+pub fn request_with(scratch: &mut Scratch, alloc: Global, target: &[u8], body: &[u8]) -> ReadRequest
+    ensures { OrMemory (told result) (asks target.now body.now) }
+{
     match Operation::of_target(target) {
-        Some(operation) => request_of(alloc, operation, body),
+        Some(operation) => request_of_with(scratch, alloc, operation, body),
         None => ReadRequest::Unknown,
     }
 }

@@ -1,6 +1,6 @@
 //! What messages ask for.
 use crate::shown::shown;
-use sm_json::request;
+use sm_json::{Scratch, request, request_with};
 use sm_model::NoMemory;
 use std::alloc::Global;
 use std::process::Abort;
@@ -10,6 +10,18 @@ use std::test::Fail;
 fn asked(alloc: Global, operation: &str, body: &str) -> Result<String, NoMemory> {
     let target = format!(in alloc; "secretsmanager.{operation}")?;
     let read = request(alloc, target.as_bytes(), body.as_bytes());
+    shown(alloc, &read)
+}
+
+/// The same over memory that was kept from the messages before.
+fn asked_with(
+    alloc: Global,
+    scratch: &mut Scratch,
+    operation: &str,
+    body: &str,
+) -> Result<String, NoMemory> {
+    let target = format!(in alloc; "secretsmanager.{operation}")?;
+    let read = request_with(scratch, alloc, target.as_bytes(), body.as_bytes());
     shown(alloc, &read)
 }
 
@@ -450,10 +462,16 @@ static MEMBERS: [Row; 55] = [
 
 #[test]
 fn messages_ask(rt: HostRuntime) -> Result<(), Fail> {
+    let mut scratch = Scratch::new(rt.alloc());
     for (operation, body, wanted) in ASKED.iter() {
-        let answer = asked(rt.alloc(), operation, body)?;
+        let alone = asked(rt.alloc(), operation, body)?;
+        let kept = asked_with(rt.alloc(), &mut scratch, operation, body)?;
         assert_eq!(rt;
-            (*operation, *body, answer.as_str()),
+            (*operation, *body, alone.as_str()),
+            (*operation, *body, *wanted)
+        );
+        assert_eq!(rt;
+            (*operation, *body, kept.as_str()),
             (*operation, *body, *wanted)
         );
     }
@@ -462,10 +480,16 @@ fn messages_ask(rt: HostRuntime) -> Result<(), Fail> {
 
 #[test]
 fn members_are_of_their_types(rt: HostRuntime) -> Result<(), Fail> {
+    let mut scratch = Scratch::new(rt.alloc());
     for (operation, body, wanted) in MEMBERS.iter() {
-        let answer = asked(rt.alloc(), operation, body)?;
+        let alone = asked(rt.alloc(), operation, body)?;
+        let kept = asked_with(rt.alloc(), &mut scratch, operation, body)?;
         assert_eq!(rt;
-            (*operation, *body, answer.as_str()),
+            (*operation, *body, alone.as_str()),
+            (*operation, *body, *wanted)
+        );
+        assert_eq!(rt;
+            (*operation, *body, kept.as_str()),
             (*operation, *body, *wanted)
         );
     }

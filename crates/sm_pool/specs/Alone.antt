@@ -1,14 +1,9 @@
 -- A rotation turn of an account that nobody else holds.
-use Rattle.std.specs.Prelude.{◌≡◌, ⊤}
-use Rattle.sm_spells.specs.Spells.{History}
+use Rattle.std.specs.Prelude.{⊤}
 use Rattle.sm_pool.specs.declared.done.Done.{Done}
 use Rattle.sm_pool.specs.declared.done.Done.TheVariants as ends
 use Rattle.sm_pool.specs.declared.done.Trouble.{Trouble}
 use Rattle.sm_pool.specs.declared.done.Trouble.TheVariants as troubles
-
--- nothing comes between
-abbrev pub NoGap : History → History → Type 0
-NoGap from to = to ≡ from
 
 -- the verdict came too late
 abbrev pub IsStale : Done → Type 0

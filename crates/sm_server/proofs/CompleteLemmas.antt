@@ -7,6 +7,7 @@ use Rattle.sm_base.specs.Faults.{Rose}
 use Rattle.sm_base.specs.declared.bad_kind.BadKind.{BadKind}
 use Rattle.sm_model.specs.declared.why.Why.{Why}
 use Rattle.sm_account.specs.States.{Base}
+use Rattle.sm_drill.specs.Messages.{messages_of}
 use Rattle.sm_http.specs.Messages.{Message, End, Closing, Bad, Rest, Messages}
 use Rattle.sm_http.proofs.ChainLemmas.{stays_read}
 use Rattle.sm_http.proofs.OneReadingLemmas.{one_reading}
@@ -123,7 +124,7 @@ module _ (course : Course) (before after : Outside) (trace : Trace)
     (random_is : trace.random ≡ growth (λ c. c.random) before after) (none : NoneFailed before.counts after.counts)
   where
     -- the replies to messages that were answered, and something behind them, are the model's
-    answers_model : (messages : List Message) (a : AreAnswered course messages trace)
+    pub answers_model : (messages : List Message) (a : AreAnswered course messages trace)
         → ModelTurns course.replies course.people course.base [] messages a.brought.replies
     answers_model messages a =
         let disk : Steady trace.disk.before trace.disk.after =
@@ -308,6 +309,9 @@ ran_by replies orders status before after story decide people runs =
       runs = runs;
       each = λ none other. each_by course before after runs.trace runs.passed.disk_count runs.passed.random_count none
           runs.passed.sink_count runs.passed.source_count runs.input after.left status runs.ended other;
+      practised = λ none number drills.
+          answers_model course before after (record runs.trace { told = drills.told }) runs.passed.disk_count
+          runs.passed.random_count none (messages_of number drills.count) drills.answered;
       whole = λ none opened. whole_by course before after runs.trace runs.passed.disk_count runs.passed.random_count
           none runs.passed.sink_count runs.passed.source_count runs.input after.left status opened runs.ended
           before.left runs.reads;

@@ -26,6 +26,7 @@ use Rattle.sm_session.specs.Answer.{heard}
 use Rattle.sm_session.specs.Endings as streams
 use Rattle.sm_session.specs.Endings.{Sides, StopsBy, Finishes, Streamed}
 use Rattle.sm_session.specs.Replies.{framed_answer}
+use Rattle.sm_session.specs.Sessions.{Standing}
 use Rattle.sm_session.specs.Streams.{message_limit}
 use Rattle.sm_session.specs.Told.{Told, Growth, Within}
 use Rattle.sm_spells.proofs.KnownLemmas.{append_known-nil, told_more}
@@ -35,7 +36,7 @@ use Rattle.sm_server.specs.Brought.{Brings}
 use Rattle.sm_server.specs.Outside.{Outside, sides_of, growth, Trace, Passed}
 use Rattle.sm_server.specs.Ran.{Course, AreAnswered, passage_of, Ended as RunEnded, Runs}
 use Rattle.sm_server.specs.Status.{status_of, WasOpened}
-use Rattle.sm_server.specs.Turns.{seat, Turn, TurnOf, Brought, GoesWell, brought_nothing, counts_before}
+use Rattle.sm_server.specs.Turns.{seat, TakesTurns, Turn, TurnOf, Brought, GoesWell, brought_nothing, counts_before}
 use Rattle.sm_server.proofs.TurnsLemmas.{counts_last, turns_more, with_last}
 
 -- what passed between two states of the outside, where this was written and told
@@ -132,13 +133,20 @@ turn_in s told marks = record {
   rotator = growth (λ c. c.rotator) s.now s.after;
 }
 
+-- the standing of a run's only caller
+abbrev pub standing_in : Outside → History → Standing
+standing_in outside history = record {
+  seen = history;
+  readings = outside.readings;
+  drawn = outside.drawn;
+  random = outside.counts.random;
+}
+
 -- a message's turn
 abbrev pub Turned : Replies → People → Base → Step → Type 0
-Turned replies people base s = (told : Told) × (marks : List Mark)
-    × (s.after.readings ≡ append_known s.now.readings told.readings)
-    × (s.after.drawn ≡ append_known s.now.drawn told.drawn)
-    × TurnOf replies base s.history (heard people (content s.message)) (turn_in s told marks)
-    × (s.history' ≡ s.history ++ by_seat seat marks)
+Turned replies people base s = TakesTurns replies base (heard people (content s.message))
+    (standing_in s.now s.history) (standing_in s.after s.history') (growth (λ c. c.disk) s.now s.after)
+    (growth (λ c. c.rotator) s.now s.after) s.reply
 
 -- what holds after it
 pub record Later (base : Base) (s : Step) : Type 0 where
@@ -150,13 +158,13 @@ module _ (replies : Replies) (people : People) (base : Base) (before : Outside) 
     (brought : Brought) (b : Brings replies people base before s.now s.history messages brought)
     (turned : Turned replies people base s) (later : Later base s) where
   abbrev one : Turn
-  one = turn_in s turned.0 turned.1
+  one = turn_in s turned.told turned.marks
 
   abbrev pub brought_more : Brought
   brought_more = with_last brought one
 
   history_now : s.history' ≡ brought_more.history
-  history_now = turned.5 ∙ ap (λ h. h ++ by_seat seat turned.1) b.stands
+  history_now = turned.stands ∙ ap (λ h. h ++ by_seat seat turned.marks) b.stands
 
   well : GoesWell base brought.history one
   well = record {
@@ -176,15 +184,16 @@ module _ (replies : Replies) (people : People) (base : Base) (before : Outside) 
       brought_more
   brings_more = record {
     turns = turns_more one replies people base (content s.message) [] messages brought
-        (subst (λ h. TurnOf replies base h (heard people (content s.message)) one) b.stands turned.4) follows well
+        (subst (λ h. TurnOf replies base h (heard people (content s.message)) one) b.stands turned.turn) follows well
         b.turns;
     disk = ap (λ (g : Growth). record { before = g.before; after = s.after.counts.disk }) b.disk;
     random = ap (λ (g : Growth). record { before = g.before; after = s.after.counts.random }) b.random;
     rotator = ap (λ (g : Growth). record { before = g.before; after = s.after.counts.rotator }) b.rotator;
     stands = history_now;
-    readings = told_more before.readings s.now.readings s.after.readings brought.told.readings turned.0.readings
-        b.readings turned.2;
-    drawn = told_more before.drawn s.now.drawn s.after.drawn brought.told.drawn turned.0.drawn b.drawn turned.3;
+    readings = told_more before.readings s.now.readings s.after.readings brought.told.readings turned.told.readings
+        b.readings turned.readings;
+    drawn = told_more before.drawn s.now.drawn s.after.drawn brought.told.drawn turned.told.drawn
+        b.drawn turned.drawn;
   }
 
 -- the run ends as its stream does

@@ -1,20 +1,24 @@
 -- One message's turn behind those of others.
-use Rattle.std.proofs.Common.{◌≡◌, ℕ, List, [], ◌∷◌, ◌++◌, Result, refl, sym, ap, ◌∙◌, subst, append-nil, append_assoc}
+use Rattle.std.proofs.Common.{◌≡◌, ◌≤◌, ℕ, List, [], ◌∷◌, ◌++◌, Result, refl, sym, ap, ◌∙◌, subst, arith, append-nil, append_assoc}
+use Rattle.std.specs.Io.KnownBytes.{append_known}
 use Rattle.sm_model.specs.declared.entry.Mark.{Mark}
 use Rattle.sm_model.specs.declared.why.Why.{Why}
 use Rattle.sm_base.specs.Faults.{Rose}
 use Rattle.sm_account.specs.History.{by_seat}
 use Rattle.sm_account.specs.States.{Base}
 use Rattle.sm_http.specs.Messages.{Message}
-use Rattle.sm_pool.specs.Rounds.{Counts, NoneFell, Rotated, Round, marks_of}
+use Rattle.sm_pool.specs.Rounds.{Counts, Point, Rotated, Round, courses_in, drawn_in, marks_of, readings_in}
 use Rattle.sm_pool.proofs.RoundLemmas.{marked_more, rotated_marks}
 use Rattle.sm_principal.specs.declared.people.People.{People}
+use Rattle.sm_reply.specs.Shown.{Answered}
 use Rattle.sm_rotation.specs.Vouched.{Replies}
 use Rattle.sm_spells.specs.Spells.{History}
+use Rattle.sm_spells.proofs.KnownLemmas.{told_more}
 use Rattle.sm_session.specs.Answer.{Asked, heard}
+use Rattle.sm_session.specs.Sessions.{Standing, TakesTurnAlone}
 use Rattle.sm_session.specs.Told.{Told, nothing_told, told_both}
 use Rattle.sm_session.specs.Turns as sessions
-use Rattle.sm_server.specs.Turns.{seat, Turn, TurnOf, marked, told_for, counts_before, counts_after, counts_first, Brought, growth_both, with_others, brought_nothing, GoesWell, Turns}
+use Rattle.sm_server.specs.Turns.{seat, TakesTurns, Turn, TurnOf, marked, told_for, counts_before, counts_after, counts_first, Brought, growth_both, with_others, brought_nothing, GoesWell, Turns}
 
 -- what some messages and a turn after them brought
 abbrev pub with_last : Brought → Turn → Brought
@@ -114,70 +118,58 @@ module _ (turn : Turn) where
           ap (λ (b : Brought). with_last b turn) is ∙ behind first others,
         )
 
--- a message's own part, and then rotation turns
-module _ (replies : Replies) (base : Base) (history : History) (asked : Result Asked Why) (own : sessions.Turn)
-    (first between last : Counts) (round : Round) (to : History)
-    (rotated : Rotated replies base seat (record { history = history ++ by_seat seat own.marks; counts = between })
-    round
-    (record { history = to; counts = last })) where
-  abbrev pub joined : Turn
-  joined = record {
-    told = told_both own.told (told_for round);
-    reply = own.reply;
-    marks = own.marks ++ marks_of round;
-    disk = record { before = first.disk; after = last.disk };
-    random = record { before = first.words; after = last.words };
-    rotator = record { before = first.rotator; after = last.rotator };
-  }
+-- a message's own part, by what an account's only caller did, and then rotation turns
+module _ (replies : Replies) (base : Base) (asked : Result Asked Why) (old mid : Standing) (reply : Answered)
+    (disk disk' rotator : ℕ) (t : TakesTurnAlone (Rose disk disk') (record { base = base; seat = seat }) asked old mid
+    reply) where
+  abbrev own : sessions.Turn
+  own = record { told = t.told; reply = reply; marks = t.marks }
 
-  pub joined_marks : to ≡ history ++ by_seat seat (own.marks ++ marks_of round)
-  joined_marks =
-      rotated_marks replies base seat (record { history = history ++ by_seat seat own.marks; counts = between }) round
-      (record { history = to; counts = last }) rotated
-      ∙ marked_more seat history own.marks (marks_of round)
+  abbrev between : Counts
+  between = record { disk = disk'; words = mid.random; rotator = rotator }
 
-  pub turn_joined : sessions.IsTurn (Rose first.disk between.disk) (Rose first.words between.words) base history asked
-      own → between.rotator ≡ first.rotator → NoneFell first between → TurnOf replies base history asked joined
-  turn_joined answered unasked fell = record {
-    own = own;
-    between = between;
-    answered = answered;
-    unasked = unasked;
-    later = fell;
-    round = round;
-    rotated = subst (λ h. Rotated replies base seat
-        (record { history = history ++ by_seat seat own.marks; counts = between }) round
-        (record { history = h; counts = last })) joined_marks rotated;
-    reply = refl;
-    told = refl;
-  }
+  answered : sessions.IsTurn (Rose disk disk') (Rose old.random mid.random) base old.seen asked own
+  answered =
+      subst (λ h. sessions.IsTurn (Rose disk disk') (Rose old.random mid.random) base h asked own) t.gap t.right
 
--- the turn of a message, and the history behind it, by what its own part and the rotation turns did at an account whose
--- base and history these were between
-pub turn_of : (replies : Replies) (base : Base) (history : History) (asked : Result Asked Why) (own : sessions.Turn)
-    (first between last : Counts) (round : Round) (base' : Base) (middle to : History)
-    → sessions.IsTurn (Rose first.disk between.disk) (Rose first.words between.words) base history asked own
-    → middle ≡ history ++ by_seat seat own.marks → base' ≡ base
-    → Rotated replies base' seat (record { history = middle; counts = between }) round
-    (record { history = to; counts = last })
-    → between.rotator ≡ first.rotator → NoneFell first between
-    → TurnOf replies base history asked (record {
-      told = told_both own.told (told_for round);
-      reply = own.reply;
-      marks = own.marks ++ marks_of round;
-      disk = record { before = first.disk; after = last.disk };
-      random = record { before = first.words; after = last.words };
-      rotator = record { before = first.rotator; after = last.rotator };
-    }) × (to ≡ history ++ by_seat seat (own.marks ++ marks_of round))
-turn_of replies base history asked own first between last round base' middle to answered grew same turns unasked
-    fell =
-    let rotated : Rotated replies base seat
-    (record { history = history ++ by_seat seat own.marks; counts = between }) round
-    (record { history = to; counts = last }) =
-    subst (λ h. Rotated replies base seat (record { history = h; counts = between }) round
-    (record { history = to; counts = last })) grew
-    (subst (λ (b : Base). Rotated replies b seat (record { history = middle; counts = between }) round
-    (record { history = to; counts = last })) same turns) in (
-      turn_joined replies base history asked own first between last round to rotated answered unasked fell,
-      joined_marks replies base history asked own first between last round to rotated,
-    )
+  grew : mid.seen ≡ old.seen ++ by_seat seat t.marks
+  grew = t.stands ∙ ap (λ h. h ++ by_seat seat t.marks) t.gap
+
+  -- where the base is still that, and these were the rotation turns
+  pub turns_of : (new : Standing) (disk'' rotator' : ℕ) (round : Round) (base' : Base) → base' ≡ base → disk ≤ disk'
+      → new.readings ≡ append_known mid.readings (readings_in (courses_in round))
+      → new.drawn ≡ append_known mid.drawn (drawn_in (courses_in round))
+      → Rotated replies base' seat (record { history = mid.seen; counts = between }) round
+      (record { history = new.seen; counts = record { disk = disk''; words = new.random; rotator = rotator' } })
+      → TakesTurns replies base asked old new (record { before = disk; after = disk'' })
+      (record { before = rotator; after = rotator' }) reply
+  turns_of new disk'' rotator' round base' same later readings drawn turns =
+      let own_history : History = old.seen ++ by_seat seat t.marks in
+      let from : History → Point = λ h. record { history = h; counts = between } in
+      let to : History → Point
+      = λ h. record { history = h; counts = record { disk = disk''; words = new.random; rotator = rotator' } } in
+      let rotated : Rotated replies base seat (from own_history) round (to new.seen) =
+      subst (λ h. Rotated replies base seat (from h) round (to new.seen)) grew
+      (subst (λ (b : Base). Rotated replies b seat (from mid.seen) round (to new.seen)) same turns) in
+      let stands : new.seen ≡ old.seen ++ by_seat seat (t.marks ++ marks_of round) =
+      rotated_marks replies base seat (from own_history) round (to new.seen) rotated
+      ∙ marked_more seat old.seen t.marks (marks_of round) in
+      record {
+        told = told_both t.told (told_for round);
+        marks = t.marks ++ marks_of round;
+        readings = told_more old.readings mid.readings new.readings t.told.readings (readings_in (courses_in round))
+            t.readings readings;
+        drawn = told_more old.drawn mid.drawn new.drawn t.told.drawn (drawn_in (courses_in round)) t.drawn drawn;
+        turn = record {
+          own = own;
+          between = between;
+          answered = answered;
+          unasked = refl;
+          later = record { disk = later; words = t.later; rotator = omega arith };
+          round = round;
+          rotated = subst (λ h. Rotated replies base seat (from own_history) round (to h)) stands rotated;
+          reply = refl;
+          told = refl;
+        };
+        stands = stands;
+      }

@@ -4,6 +4,7 @@ use Rattle.sm_base.specs.Faults.{Rose}
 use Rattle.sm_model.specs.declared.why.Why.{Why}
 use Rattle.sm_rotation.specs.Vouched.{Replies}
 use Rattle.sm_account.specs.States.{Base}
+use Rattle.sm_drill.specs.Messages.{messages_of}
 use Rattle.sm_http.specs.Messages.{Message, End, Messages}
 use Rattle.sm_principal.specs.declared.people.People.{People}
 use Rattle.sm_principal.specs.declared.people.People.{People as Persons}
@@ -21,8 +22,8 @@ use Rattle.sm_server.specs.declared.asked.Task.TheVariants.{Answer}
 use Rattle.sm_server.specs.declared.status.Status.{Status}
 use Rattle.sm_server.specs.declared.status.Status.TheVariants.{Done, Memory}
 use Rattle.sm_server.specs.Asked.{task_of_words, WordsDecide, PeopleDecide}
-use Rattle.sm_server.specs.Outside.{Counts, Outside}
-use Rattle.sm_server.specs.Ran.{Course, Story, course_of, Runs}
+use Rattle.sm_server.specs.Outside.{Counts, Outside, Trace}
+use Rattle.sm_server.specs.Ran.{Course, Drills, Story, course_of, Runs}
 use Rattle.sm_server.specs.Status.{WasOpened}
 use Rattle.sm_server.specs.Turns.{Turn, TurnOf, marked}
 
@@ -60,6 +61,12 @@ AnswersEach course input written = (all : List Message) (end : End) → Messages
     × ModelTurns course.replies course.people course.base [] (take message_limit all) replies ×
     (written ≡ joined replies ++ more)
 
+-- Each of the messages of a number that were answered got the model's reply or the one for want of memory.
+abbrev pub DrillsEach : Course → Status → List ℕ → Trace → Type 0
+DrillsEach course status input trace = (number : ℕ) → (drills : Drills course number status input trace)
+    → ModelTurns course.replies course.people course.base [] (messages_of number drills.count)
+    drills.answered.brought.replies
+
 -- a source that holds whole messages, fewer than are answered at most, is read to its end by a run that answers
 abbrev pub ReadsWhole : Task → Status → Option (List ℕ) → Type 0
 ReadsWhole task status left =
@@ -82,4 +89,6 @@ pub record Ran (replies : Replies) (orders : Orders) (status : Status) (before a
   pub runs : Runs (course_of replies story) status before after
   pub each : NoneFailed before.counts after.counts → (status ≡ Memory → ⊥)
       → AnswersEach (course_of replies story) runs.input runs.trace.written
+  pub practised : NoneFailed before.counts after.counts
+      → DrillsEach (course_of replies story) status runs.input runs.trace
   pub whole : NoneFailed before.counts after.counts → WasOpened status → ReadsWhole story.task status before.left

@@ -1,6 +1,7 @@
 -- What the messages of a run bring, one after the other: their replies, what the clock and the random source told for
 -- them and for the rotation turns behind each, and the marks that these leave in the history.
 use Rattle.std.specs.Prelude.{◌≡◌, ℕ, List, [], ◌∷◌, ◌++◌, Result}
+use Rattle.std.specs.Io.KnownBytes.{append_known}
 use Rattle.sm_base.specs.Faults.{Rose}
 use Rattle.sm_model.specs.declared.entry.Mark.{Mark}
 use Rattle.sm_model.specs.declared.why.Why.{Why}
@@ -15,6 +16,7 @@ use Rattle.sm_principal.specs.declared.people.People.{People}
 use Rattle.sm_reply.specs.Shown.{Answered}
 use Rattle.sm_spells.specs.Spells.{History}
 use Rattle.sm_session.specs.Answer.{Asked, heard}
+use Rattle.sm_session.specs.Sessions.{Standing}
 use Rattle.sm_session.specs.Told.{Told, nothing_told, told_both, Growth}
 use Rattle.sm_session.specs.Turns as sessions
 
@@ -64,6 +66,24 @@ pub record TurnOf (replies : Replies) (base : Base) (history : History) (asked :
       (record { history = history ++ marked turn; counts = counts_after turn })
   pub reply : turn.reply ≡ own.reply
   pub told : turn.told ≡ told_both own.told (told_for round)
+
+-- A message's turn by an account's only caller and the rotation turns behind it, from one standing to another, and how
+-- the counts of the disk and of the rotator grew.
+pub record TakesTurns (replies : Replies) (base : Base) (asked : Result Asked Why) (old new : Standing)
+    (disk rotator : Growth) (reply : Answered) : Type 0 where
+  pub told : Told
+  pub marks : List Mark
+  pub readings : new.readings ≡ append_known old.readings told.readings
+  pub drawn : new.drawn ≡ append_known old.drawn told.drawn
+  pub turn : TurnOf replies base old.seen asked (record {
+    told = told;
+    reply = reply;
+    marks = marks;
+    disk = disk;
+    random = record { before = old.random; after = new.random };
+    rotator = rotator;
+  })
+  pub stands : new.seen ≡ old.seen ++ by_seat seat marks
 
 -- what some messages brought together
 pub record Brought : Type 0 where

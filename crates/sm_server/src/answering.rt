@@ -1,27 +1,25 @@
 //! The messages of a source, answered one after the other on an account.
-ghost use Rattle.std.specs.Prelude.{◌≡◌, ◌≤◌, ◌⊎◌, ◌++◌, ℕ, [], List, IsSome};
-ghost use Rattle.std.specs.Io.KnownBytes.{append_known};
+ghost use Rattle.std.specs.Prelude.{◌≡◌, ◌≤◌, ◌⊎◌, ℕ, [], IsSome};
 ghost use Rattle.sm_base.specs.Faults.{Rose};
-ghost use Rattle.sm_model.specs.declared.entry.Mark.{Mark};
 ghost use Rattle.sm_account.specs.Accounts.{history, base, disk, failed, SameOrigin};
-ghost use Rattle.sm_account.specs.History.{by_seat};
 ghost use Rattle.sm_http.specs.Framed.{Sends};
 ghost use Rattle.sm_http.specs.Reading.{content};
 ghost use Rattle.sm_reply.specs.Shown.{Answered};
 ghost use Rattle.sm_session.specs.Answer.{heard};
 ghost use Rattle.sm_session.specs.Replies.{framed_answer};
-ghost use Rattle.sm_session.specs.Told.{Told};
+ghost use Rattle.sm_session.specs.Views.{standing_by};
 ghost use Rattle.sm_server.specs.declared.asked.Task.TheVariants.{Answer};
 ghost use Rattle.sm_server.specs.Outside.{outside_by};
 ghost use Rattle.sm_server.specs.Ran.{Runs};
 ghost use Rattle.sm_server.specs.Status.{status_of};
-ghost use Rattle.sm_server.specs.Turns.{TurnOf, seat};
+ghost use Rattle.sm_server.specs.Turns.{TakesTurns};
 
 use crate::turn::{SEAT, take_turn};
 use sm_account::Account;
 use sm_disk::Disk;
 use sm_http::{Message, Piece, Reader, Sent};
 use sm_io::{Clock, Sink, Source, Words};
+use sm_json::Scratch;
 use sm_pool::turns;
 use sm_principal::People;
 use sm_rotator::Rotator;
@@ -64,6 +62,7 @@ pub fn answer_source<Q: Source, K: Sink, D: Disk, C: Clock, W: Words, R: Rotator
 {
     let mut reader = Reader::new(alloc);
     let mut piece = Piece::new();
+    let mut scratch = Scratch::new(alloc);
     let mut count: u64 = 0;
     for number in 0..MESSAGE_LIMIT {
         let message = match next_message(&mut reader, source) {
@@ -71,7 +70,16 @@ pub fn answer_source<Q: Source, K: Sink, D: Disk, C: Clock, W: Words, R: Rotator
             Err(stop) => return finish(alloc, sink, &mut piece, count, stop),
         };
         let sent = answer_message(
-            alloc, people, account, &message, sink, &mut piece, clock, random, rotator,
+            &mut scratch,
+            alloc,
+            people,
+            account,
+            &message,
+            sink,
+            &mut piece,
+            clock,
+            random,
+            rotator,
         );
         account.standing();
         count = count.saturating_add(sent.taken);
@@ -84,6 +92,7 @@ pub fn answer_source<Q: Source, K: Sink, D: Disk, C: Clock, W: Words, R: Rotator
 
 /// Answers a message, and then takes rotation turns.
 fn answer_message<K: Sink, D: Disk, C: Clock, W: Words, R: Rotator>(
+    scratch: &mut Scratch,
     alloc: Global,
     people: &People,
     account: &mut Account<D, R>,
@@ -94,18 +103,12 @@ fn answer_message<K: Sink, D: Disk, C: Clock, W: Words, R: Rotator>(
     random: &mut W,
     rotator: &mut R,
 ) -> Sent
-    ensures turn { (told : Told) × (marks : List Mark) × (reply : Answered)
-        × (C.readings clock.new ≡ append_known (C.readings clock.old) told.readings)
-        × (W.drawn random.new ≡ append_known (W.drawn random.old) told.drawn)
-        × TurnOf R.replies (base account.old) (history account.old) (heard people.now (content message.now)) (record {
-          told = told;
-          reply = reply;
-          marks = marks;
-          disk = record { before = D.faults (disk account.old); after = D.faults (disk account.new) };
-          random = record { before = W.faults random.old; after = W.faults random.new };
-          rotator = record { before = R.faults rotator.old; after = R.faults rotator.new };
-        })
-        × (history account.new ≡ history account.old ++ by_seat seat marks)
+    ensures turn { (reply : Answered)
+        × TakesTurns R.replies (base account.old) (heard people.now (content message.now))
+        (standing_by C.Clock W.Words (history account.old) clock.old random.old)
+        (standing_by C.Clock W.Words (history account.new) clock.new random.new)
+        (record { before = D.faults (disk account.old); after = D.faults (disk account.new) })
+        (record { before = R.faults rotator.old; after = R.faults rotator.new }) reply
         × Sends result (framed_answer reply) (K.taken sink.old) (K.taken sink.new)
         (K.sink_faults sink.old) (K.sink_faults sink.new) }
     ensures origin { SameOrigin account.old account.new }
@@ -116,7 +119,7 @@ fn answer_message<K: Sink, D: Disk, C: Clock, W: Words, R: Rotator>(
     ensures random_later { W.faults random.old ≤ W.faults random.new }
     ensures rotator_later { R.faults rotator.old ≤ R.faults rotator.new }
 {
-    let said = take_turn(alloc, people, account, message, clock, random);
+    let said = take_turn(scratch, alloc, people, account, message, clock, random);
     let sent = send(sink, piece, &said);
     turns(account, SEAT, rotator, clock, random);
     sent

@@ -1,23 +1,21 @@
 //! The messages that a number makes, answered one after the other on an account, and what is said of their replies.
-ghost use Rattle.std.specs.Prelude.{◌≡◌, ◌≤◌, ◌⊎◌, ◌++◌, ◌∷◌, [], List, Option, Some, None, ℕ, IfOk, IsSome, if◌then◌else◌, ◌==◌, option_map, string_bytes};
+ghost use Rattle.std.specs.Prelude.{◌≡◌, ◌≤◌, ◌⊎◌, ◌∷◌, [], List, Option, Some, None, ℕ, IfOk, IsSome, if◌then◌else◌, ◌==◌, option_map, string_bytes};
 ghost use Rattle.std.specs.Io.KnownBytes.{append_known};
 ghost use Rattle.sm_base.specs.Faults.{Rose};
 ghost use Rattle.sm_base.specs.declared.moment.Moment.{Moment as moments};
-ghost use Rattle.sm_model.specs.declared.entry.Mark.{Mark};
 ghost use Rattle.sm_account.specs.Accounts.{base, disk, failed, history, taken, SameOrigin};
-ghost use Rattle.sm_account.specs.History.{by_seat};
 ghost use Rattle.sm_drill.specs.Lines.{lines, shown_by};
 ghost use Rattle.sm_http.specs.Reading.{content};
 ghost use Rattle.sm_session.specs.Answer.{heard};
 ghost use Rattle.sm_session.specs.Replies.{reply_of};
-ghost use Rattle.sm_session.specs.Told.{Told};
+ghost use Rattle.sm_session.specs.Views.{standing_by};
 ghost use Rattle.sm_opening.specs.Lawful.{made_of};
 ghost use Rattle.sm_server.specs.declared.asked.Task.TheVariants.{Practise};
 ghost use Rattle.sm_server.specs.Drills.{AnswersMade, Says, totals_after};
 ghost use Rattle.sm_server.specs.Outside.{outside_beside, outside_inside};
 ghost use Rattle.sm_server.specs.Ran.{Runs};
 ghost use Rattle.sm_server.specs.Status.{WasOpened};
-ghost use Rattle.sm_server.specs.Turns.{TurnOf, seat};
+ghost use Rattle.sm_server.specs.Turns.{TakesTurns};
 
 use crate::checking::show;
 use crate::status::Status;
@@ -27,6 +25,7 @@ use sm_disk::Disk;
 use sm_drill::{Drill, MESSAGES, lines, shown_string};
 use sm_http::Message;
 use sm_io::{Clock, Sink, Words};
+use sm_json::Scratch;
 use sm_model::{Moment, NoMemory};
 use sm_pool::turns;
 use sm_principal::People;
@@ -107,11 +106,21 @@ fn answer_made<D: Disk, C: Clock, W: Words, R: Rotator>(
     ensures rotator_later { R.faults rotator.old ≤ R.faults rotator.new }
 {
     let mut drill = Drill::new(number);
+    let mut scratch = Scratch::new(alloc);
     let mut refused: u64 = 0;
     let mut last = None;
     for index in 0..MESSAGES {
         let message = drill.next(alloc)?;
-        let said = answer_one(alloc, people, account, &message, clock, random, rotator);
+        let said = answer_one(
+            &mut scratch,
+            alloc,
+            people,
+            account,
+            &message,
+            clock,
+            random,
+            rotator,
+        );
         account.standing();
         refused += refusals_in(&said);
         last = Some(said);
@@ -121,6 +130,7 @@ fn answer_made<D: Disk, C: Clock, W: Words, R: Rotator>(
 
 /// Answers a message, and then takes rotation turns.
 fn answer_one<D: Disk, C: Clock, W: Words, R: Rotator>(
+    scratch: &mut Scratch,
     alloc: Global,
     people: &People,
     account: &mut Account<D, R>,
@@ -129,18 +139,11 @@ fn answer_one<D: Disk, C: Clock, W: Words, R: Rotator>(
     random: &mut W,
     rotator: &mut R,
 ) -> Said
-    ensures turn { (told : Told) × (marks : List Mark)
-        × (C.readings clock.new ≡ append_known (C.readings clock.old) told.readings)
-        × (W.drawn random.new ≡ append_known (W.drawn random.old) told.drawn)
-        × TurnOf R.replies (base account.old) (history account.old) (heard people.now (content message.now)) (record {
-          told = told;
-          reply = reply_of result;
-          marks = marks;
-          disk = record { before = D.faults (disk account.old); after = D.faults (disk account.new) };
-          random = record { before = W.faults random.old; after = W.faults random.new };
-          rotator = record { before = R.faults rotator.old; after = R.faults rotator.new };
-        })
-        × (history account.new ≡ history account.old ++ by_seat seat marks) }
+    ensures turn { TakesTurns R.replies (base account.old) (heard people.now (content message.now))
+        (standing_by C.Clock W.Words (history account.old) clock.old random.old)
+        (standing_by C.Clock W.Words (history account.new) clock.new random.new)
+        (record { before = D.faults (disk account.old); after = D.faults (disk account.new) })
+        (record { before = R.faults rotator.old; after = R.faults rotator.new }) (reply_of result) }
     ensures origin { SameOrigin account.old account.new }
     ensures unsure { IsSome (failed account.new) → IsSome (failed account.old)
         ⊎ Rose (D.faults (disk account.old)) (D.faults (disk account.new)) }
@@ -148,7 +151,7 @@ fn answer_one<D: Disk, C: Clock, W: Words, R: Rotator>(
     ensures random_later { W.faults random.old ≤ W.faults random.new }
     ensures rotator_later { R.faults rotator.old ≤ R.faults rotator.new }
 {
-    let said = take_turn(alloc, people, account, message, clock, random);
+    let said = take_turn(scratch, alloc, people, account, message, clock, random);
     turns(account, SEAT, rotator, clock, random);
     said
 }

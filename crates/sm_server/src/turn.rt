@@ -1,22 +1,20 @@
 //! One message's turn at the account.
-ghost use Rattle.std.specs.Prelude.{◌≡◌, ◌≤◌, ◌⊎◌, ◌++◌, List, length, Ok, IsSome};
+ghost use Rattle.std.specs.Prelude.{◌≤◌, ◌⊎◌, Ok, IsSome};
 ghost use Rattle.sm_account.specs.Handling.{HasShortTexts};
-ghost use Rattle.std.specs.Io.KnownBytes.{append_known};
 ghost use Rattle.sm_base.specs.Faults.{Rose};
-ghost use Rattle.sm_model.specs.declared.entry.Mark.{Mark};
 ghost use Rattle.sm_account.specs.Accounts.{history, base, disk, failed, SameOrigin};
-ghost use Rattle.sm_account.specs.History.{by_seat};
 ghost use Rattle.sm_http.specs.Reading.{content};
 ghost use Rattle.sm_session.specs.Answer.{heard};
 ghost use Rattle.sm_session.specs.Replies.{reply_of};
-ghost use Rattle.sm_session.specs.Told.{Told};
-ghost use Rattle.sm_session.specs.Turns.{IsTurn};
+ghost use Rattle.sm_session.specs.Sessions.{TakesTurnAlone};
+ghost use Rattle.sm_session.specs.Views.{standing_by};
 ghost use Rattle.sm_server.specs.Turns.{seat};
 
 use sm_account::Account;
 use sm_disk::Disk;
 use sm_http::Message;
 use sm_io::{Clock, Drew, Words};
+use sm_json::Scratch;
 use sm_model::{Person, Request, Why, need};
 use sm_principal::People;
 use sm_rotator::Rotator;
@@ -28,6 +26,7 @@ pub const SEAT: u32 = 1;
 
 /// The reply to a message.
 pub fn take_turn<D: Disk, C: Clock, W: Words, R: Rotator>(
+    scratch: &mut Scratch,
     alloc: Global,
     people: &People,
     account: &mut Account<D, R>,
@@ -35,20 +34,17 @@ pub fn take_turn<D: Disk, C: Clock, W: Words, R: Rotator>(
     clock: &mut C,
     random: &mut W,
 ) -> Said
-    ensures turn { (told : Told) × (marks : List Mark)
-        × (C.readings clock.new ≡ append_known (C.readings clock.old) told.readings)
-        × (W.drawn random.new ≡ append_known (W.drawn random.old) told.drawn)
-        × IsTurn (Rose (D.faults (disk account.old)) (D.faults (disk account.new)))
-        (Rose (W.faults random.old) (W.faults random.new)) (base account.old) (history account.old)
-        (heard people.now (content message.now)) (record { told = told; reply = reply_of result; marks = marks })
-        × (history account.new ≡ history account.old ++ by_seat seat marks) }
+    ensures turn { TakesTurnAlone (Rose (D.faults (disk account.old)) (D.faults (disk account.new)))
+        (record { base = base account.old; seat = seat }) (heard people.now (content message.now))
+        (standing_by C.Clock W.Words (history account.old) clock.old random.old)
+        (standing_by C.Clock W.Words (history account.new) clock.new random.new) (reply_of result) }
     ensures origin { SameOrigin account.old account.new }
     ensures unsure { IsSome (failed account.new) → IsSome (failed account.old)
         ⊎ Rose (D.faults (disk account.old)) (D.faults (disk account.new)) }
     ensures disk_later { D.faults (disk account.old) ≤ D.faults (disk account.new) }
     ensures random_later { W.faults random.old ≤ W.faults random.new }
 {
-    match read(alloc, people, message) {
+    match read(scratch, alloc, people, message) {
         Heard::Ask(person, request) => {
             draw_and_answer(alloc, account, &person, &request, clock, random)
         }
@@ -67,14 +63,10 @@ fn draw_and_answer<D: Disk, C: Clock, W: Words, R: Rotator>(
     random: &mut W,
 ) -> Said
     requires { HasShortTexts person.now }
-    ensures turn { (told : Told) × (marks : List Mark)
-        × (C.readings clock.new ≡ append_known (C.readings clock.old) told.readings)
-        × (W.drawn random.new ≡ append_known (W.drawn random.old) told.drawn)
-        × IsTurn (Rose (D.faults (disk account.old)) (D.faults (disk account.new)))
-        (Rose (W.faults random.old) (W.faults random.new)) (base account.old) (history account.old)
-        (Ok (record { person = person.now; request = request.now }))
-        (record { told = told; reply = reply_of result; marks = marks })
-        × (history account.new ≡ history account.old ++ by_seat seat marks) }
+    ensures turn { TakesTurnAlone (Rose (D.faults (disk account.old)) (D.faults (disk account.new)))
+        (record { base = base account.old; seat = seat }) (Ok (record { person = person.now; request = request.now }))
+        (standing_by C.Clock W.Words (history account.old) clock.old random.old)
+        (standing_by C.Clock W.Words (history account.new) clock.new random.new) (reply_of result) }
     ensures origin { SameOrigin account.old account.new }
     ensures unsure { IsSome (failed account.new) → IsSome (failed account.old)
         ⊎ Rose (D.faults (disk account.old)) (D.faults (disk account.new)) }

@@ -1,5 +1,5 @@
 -- One hold of the lock, and the turn that it is a part of.
-use Rattle.std.proofs.Common.{◌≡◌, ◌⊎◌, ◌≤◌, ℕ, List, [], ◌∷◌, ◌++◌, length, drop, Some, None, Result, refl, sym, ap, ◌∙◌, inl, inr, append-nil}
+use Rattle.std.proofs.Common.{◌≡◌, ◌⊎◌, ◌≤◌, ℕ, List, [], ◌∷◌, ◌++◌, length, drop, Some, None, Result, refl, sym, ap, ◌∙◌, subst, inl, inr, append-nil}
 use Rattle.sm_base.specs.Faults.{Rose}
 use Rattle.sm_base.specs.declared.moment.Moment.{Moment}
 use Rattle.sm_model.specs.declared.entry.Mark.{Mark}
@@ -20,9 +20,11 @@ use Rattle.sm_lock.proofs.Stories.{grows-same}
 use Rattle.sm_reply.specs.Shown.{Answered}
 use Rattle.sm_spells.specs.Spells.{History, Spell, marks_in}
 use Rattle.sm_spells.proofs.SpellLaws.{spell_mine}
+use Rattle.sm_session.specs.declared.said.Said.{Said}
 use Rattle.sm_session.specs.declared.trace.TraceItem.{TraceItem}
 use Rattle.sm_session.specs.Answer.{Asked}
-use Rattle.sm_session.specs.Sessions.{Place, Standing, MessageTurn, turn_shape, item_at, TakesTurn}
+use Rattle.sm_session.specs.Replies.{reply_of}
+use Rattle.sm_session.specs.Sessions.{Place, Standing, MessageTurn, turn_shape, item_at, TakesTurn, TakesTurnBy}
 use Rattle.sm_session.specs.Told.{nothing_told, told_once}
 use Rattle.sm_session.specs.Turns.{Untouched, IsTurn}
 use Rattle.sm_spells.proofs.KnownLemmas.{append_known-nil}
@@ -72,21 +74,37 @@ traced_by position position' now drawn status status' placed same =
     ap (λ p. of p status) placed ∙ ap (of position') same
 
 -- a turn that did not reach the account
-pub passed_by : (place : Place) (wanted : Result Asked Why) (old new : Standing) (reply : Answered) (item : TraceItem)
-    → new.seen ≡ old.seen → new.readings ≡ old.readings → new.drawn ≡ old.drawn → old.random ≤ new.random
-    → IsTurn (Unit {0}) (Rose old.random new.random) place.base old.seen wanted (untouched reply)
-    → item ≡ item_at (length old.seen) nothing_told reply.status → TakesTurn place wanted old new reply item
-passed_by place wanted old new reply item seen readings drawn later right traced = record {
+pub passed_by : (Gap : History → History → Type 0) (Cause : Type 0) (place : Place) (wanted : Result Asked Why)
+    (old new : Standing) (reply : Answered) → Gap old.seen old.seen → new.seen ≡ old.seen
+    → new.readings ≡ old.readings → new.drawn ≡ old.drawn → old.random ≤ new.random
+    → IsTurn Cause (Rose old.random new.random) place.base old.seen wanted (untouched reply)
+    → TakesTurnBy Gap Cause place wanted old new reply
+passed_by Gap Cause place wanted old new reply none seen readings drawn later right = record {
   before = old.seen;
   told = nothing_told;
   marks = [];
-  gap = grows-same (place.seat ∷ []) old.seen;
-  still = λ none. refl;
+  gap = none;
+  still = λ untold. refl;
   right = right;
   stands = seen ∙ sym (append-nil old.seen);
   readings = readings ∙ sym (append_known-nil old.readings);
   drawn = drawn ∙ sym (append_known-nil old.drawn);
   later = later;
+}
+
+-- the same behind a lock, where this is said
+pub passed_behind : (place : Place) (wanted : Result Asked Why) (old new : Standing) (said said' : Said)
+    (item : TraceItem) → new.seen ≡ old.seen → new.readings ≡ old.readings → new.drawn ≡ old.drawn
+    → old.random ≤ new.random → said' ≡ said
+    → IsTurn (Unit {0}) (Rose old.random new.random) place.base old.seen wanted (untouched (reply_of said))
+    → item ≡ item_at (length old.seen) nothing_told (reply_of said').status
+    → TakesTurn place wanted old new (reply_of said') item
+unfolding passed_by
+passed_behind place wanted old new said said' item seen readings drawn later same right traced = record {
+  taken = passed_by (Grows (place.seat ∷ [])) (Unit {0}) place wanted old new (reply_of said')
+      (grows-same (place.seat ∷ []) old.seen) seen readings drawn later
+      (subst (λ (s : Said). IsTurn (Unit {0}) (Rose old.random new.random) place.base old.seen wanted
+      (untouched (reply_of s))) (sym same) right);
   traced = traced;
 }
 

@@ -127,26 +127,26 @@ module _ (people : People) (place : Place) where
     abbrev pub turn_taken : MessageTurn
     turn_taken = record {
       message = message;
-      before = t.before;
-      told = t.told;
+      before = t.taken.before;
+      told = t.taken.told;
       reply = reply;
-      marks = t.marks;
+      marks = t.taken.marks;
       random = record { before = now.random; after = new.random };
     }
 
     pub done_more : Done people place old new (turns ++ turn_taken ∷ []) (items ++ item ∷ [])
     done_more = record {
       spell = subst (Spell turn_shape (Grows (place.seat ∷ [])) place.seat (IsRight people place.base) old.seen
-          (turns ++ turn_taken ∷ [])) (sym t.stands)
+          (turns ++ turn_taken ∷ [])) (sym t.taken.stands)
           (spell_more turn_shape (Grows (place.seat ∷ [])) place.seat (IsRight people place.base)
-          (grows_join place.seat) old.seen now.seen turns turn_taken done.spell t.gap t.right);
-      last = t.stands ∙ sym (seen_more place.seat old.seen turns turn_taken);
-      still = still_more place.seat old.seen turns turn_taken done.still (λ none. t.still none ∙ done.last);
-      readings = told_more old.readings now.readings new.readings (told_of turns).readings t.told.readings
-          done.readings t.readings ∙ ap (append_known old.readings) (sym (readings_more turns turn_taken));
-      drawn = told_more old.drawn now.drawn new.drawn (told_of turns).drawn t.told.drawn done.drawn t.drawn
+          (grows_join place.seat) old.seen now.seen turns turn_taken done.spell t.taken.gap t.taken.right);
+      last = t.taken.stands ∙ sym (seen_more place.seat old.seen turns turn_taken);
+      still = still_more place.seat old.seen turns turn_taken done.still (λ none. t.taken.still none ∙ done.last);
+      readings = told_more old.readings now.readings new.readings (told_of turns).readings t.taken.told.readings
+          done.readings t.taken.readings ∙ ap (append_known old.readings) (sym (readings_more turns turn_taken));
+      drawn = told_more old.drawn now.drawn new.drawn (told_of turns).drawn t.taken.told.drawn done.drawn t.taken.drawn
           ∙ ap (append_known old.drawn) (sym (drawn_more turns turn_taken));
-      random = counts_more old.random turns now.random turn_taken done.random refl t.later;
+      random = counts_more old.random turns now.random turn_taken done.random refl t.taken.later;
       trace = ap (λ xs. xs ++ item ∷ []) done.trace ∙ ap (λ x. map item_of turns ++ x ∷ []) t.traced
           ∙ sym (map-append item_of turns (turn_taken ∷ []));
     }

@@ -14,7 +14,7 @@ use Rattle.sm_http.specs.Messages.{Message}
 use Rattle.sm_lock.specs.Story.{Grows}
 use Rattle.sm_principal.specs.declared.people.People.{People}
 use Rattle.sm_reply.specs.Shown.{Answered}
-use Rattle.sm_spells.specs.Spells.{History, Shape, Spell}
+use Rattle.sm_spells.specs.Spells.{History, NoGap, Shape, Spell}
 use Rattle.sm_session.specs.declared.ended.Ended.{Ended}
 use Rattle.sm_session.specs.declared.trace.TraceItem.{TraceItem}
 use Rattle.sm_session.specs.Answer.{Asked, heard}
@@ -119,21 +119,32 @@ pub record Serves (people : People) (place : Place) (old new : Around) (ended : 
   pub stream : Streamed ended old.sides new.sides (map (λ turn. turn.message) turns) (map (λ turn. turn.reply) turns)
   pub trace : items ≡ map item_of turns
 
--- One message's turn, which asks for this or is refused so: what it brought, where, and what a trace has of it.
-pub record TakesTurn (place : Place) (wanted : Result Asked Why) (old new : Standing) (reply : Answered)
-    (item : TraceItem) : Type 0 where
+-- One message's turn, which asks for this or is refused so: what it brought, and where. `Gap` holds from the history
+-- that the seat had seen to that at which the turn stands, and `Fault` where the disk failed.
+pub record TakesTurnBy (Gap : History → History → Type 0) (Fault : Type 0) (place : Place) (wanted : Result Asked Why)
+    (old new : Standing) (reply : Answered) : Type 0 where
   pub before : History
   pub told : Told
   pub marks : List Mark
-  pub gap : Grows (place.seat ∷ []) old.seen before
+  pub gap : Gap old.seen before
   pub still : Untouched (record { told = told; reply = reply; marks = marks }) → before ≡ old.seen
-  pub right : IsTurn ⊤ (Rose old.random new.random) place.base before wanted
+  pub right : IsTurn Fault (Rose old.random new.random) place.base before wanted
       (record { told = told; reply = reply; marks = marks })
   pub stands : new.seen ≡ before ++ by_seat place.seat marks
   pub readings : new.readings ≡ append_known old.readings told.readings
   pub drawn : new.drawn ≡ append_known old.drawn told.drawn
   pub later : old.random ≤ new.random
-  pub traced : item ≡ item_at (length before) told reply.status
+
+-- Behind a lock: others alone added to the history before it, a disk's fault has no cause but its mark, and a trace has
+-- this of it.
+pub record TakesTurn (place : Place) (wanted : Result Asked Why) (old new : Standing) (reply : Answered)
+    (item : TraceItem) : Type 0 where
+  pub taken : TakesTurnBy (Grows (place.seat ∷ [])) ⊤ place wanted old new reply
+  pub traced : item ≡ item_at (length taken.before) taken.told reply.status
+
+-- By an account's only caller: nothing lies before it, and this holds where the disk failed.
+abbrev pub TakesTurnAlone : Type 0 → Place → Result Asked Why → Standing → Standing → Answered → Type 0
+TakesTurnAlone Fault place wanted old new reply = TakesTurnBy NoGap Fault place wanted old new reply
 
 -- One hold of the lock by a seat, from the history that it had seen to that which it has seen then: the question was
 -- answered at a history that others alone had added to, and its marks stand behind that.

@@ -12,19 +12,19 @@ use crate::asking::{Asker, asker_of};
 use crate::fields::value_of;
 use crate::heard::Heard;
 use sm_http::Message;
-use sm_json::{Operation, ReadRequest, request_of};
+use sm_json::{Operation, ReadRequest, Scratch, request_of_with};
 use sm_model::{Person, Why};
 use sm_principal::People;
 use std::alloc::Global;
 
 /// Who asks for what by a message, or the first refusal: of the operation's name, of who asks, of the signature, of the
-/// body's JSON and of its members.
-pub fn read(alloc: Global, people: &People, message: &Message) -> Heard
+/// body's JSON and of its members. What reading a body needs of memory is kept in the scratch from message to message.
+pub fn read(scratch: &mut Scratch, alloc: Global, people: &People, message: &Message) -> Heard
     ensures hears { Hears result (heard people.now (content message.now)) }
     ensures short { IfAsks result HasShortTexts }
 {
     match operation_of(message) {
-        Some(operation) => ask(alloc, people, operation, message),
+        Some(operation) => ask(scratch, alloc, people, operation, message),
         None => Heard::Refused(Why::UnknownOperation),
     }
 }
@@ -51,24 +51,36 @@ fn is_post_to_root(method: &[u8], path: &[u8]) -> bool
 }
 
 /// Who asks for an operation by a message, and what by its body.
-fn ask(alloc: Global, people: &People, operation: Operation, message: &Message) -> Heard
+fn ask(
+    scratch: &mut Scratch,
+    alloc: Global,
+    people: &People,
+    operation: Operation,
+    message: &Message,
+) -> Heard
     ensures hears { Hears result
         (asked_of (asker_of people.now (content message.now)) operation message.now.body) }
     ensures short { IfAsks result HasShortTexts }
 {
     match asker_of(alloc, people, message) {
-        Asker::Is(person) => ask_as(alloc, person, operation, message.body.as_slice()),
+        Asker::Is(person) => ask_as(scratch, alloc, person, operation, message.body.as_slice()),
         Asker::Refused(why) => Heard::Refused(why),
         Asker::Memory => Heard::Memory,
     }
 }
 
 /// What a person asks for by a message's body.
-fn ask_as(alloc: Global, person: Person, operation: Operation, body: &[u8]) -> Heard
+fn ask_as(
+    scratch: &mut Scratch,
+    alloc: Global,
+    person: Person,
+    operation: Operation,
+    body: &[u8],
+) -> Heard
     ensures hears { Hears result (asked_by person (asks_of operation body.now)) }
     ensures same { IfAsks result (λ asker. asker ≡ person) }
 {
-    match request_of(alloc, operation, body) {
+    match request_of_with(scratch, alloc, operation, body) {
         ReadRequest::Ok(request) => Heard::Ask(person, request),
         ReadRequest::Unknown => Heard::Refused(Why::UnknownOperation),
         ReadRequest::NotJson => Heard::Refused(Why::NotJson),

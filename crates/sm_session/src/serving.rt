@@ -22,6 +22,7 @@ use sm_account::Account;
 use sm_disk::Disk;
 use sm_http::{Message, Piece, Reader, Sent, Stop};
 use sm_io::{Clock, Conn, Words};
+use sm_json::Scratch;
 use sm_lock::{Gate, Pass, Storied};
 use sm_model::List;
 use sm_principal::People;
@@ -103,6 +104,7 @@ fn answer_stream<K: Conn, C: Clock, W: Words, D: Disk, R: Rotator, H: Wait>(
     let mut pass = pass;
     let mut reader = Reader::new(alloc);
     let mut piece = Piece::new();
+    let mut scratch = Scratch::new(alloc);
     let mut count: u64 = 0;
     for number in 0..MESSAGE_LIMIT {
         let Ok(()) = items.reserve(1) else {
@@ -122,7 +124,17 @@ fn answer_stream<K: Conn, C: Clock, W: Words, D: Disk, R: Rotator, H: Wait>(
             pass: after,
             said,
             item,
-        } = take_turn(rt, alloc, gate, pass, clock, words, people, &message);
+        } = take_turn(
+            rt,
+            &mut scratch,
+            alloc,
+            gate,
+            pass,
+            clock,
+            words,
+            people,
+            &message,
+        );
         pass = after;
         items.push_reserved(item);
         let sent = reply(conn, &mut piece, &said);

@@ -20,6 +20,7 @@ use sm_account::Account;
 use sm_disk::Disk;
 use sm_http::Message;
 use sm_io::{Clock, Drew, Words};
+use sm_json::Scratch;
 use sm_lock::{Gate, Pass, Storied};
 use sm_model::{Bytes, Moment, Person, Request, Why, need};
 use sm_principal::People;
@@ -38,6 +39,7 @@ pub(crate) struct Taken<A: Storied> {
 /// needed, they are drawn.
 pub(crate) fn take_turn<D: Disk, R: Rotator, C: Clock, W: Words, H: Wait>(
     rt: &H,
+    scratch: &mut Scratch,
     alloc: Global,
     gate: &Gate<Account<D, R>>,
     pass: Pass<Account<D, R>>,
@@ -55,7 +57,7 @@ pub(crate) fn take_turn<D: Disk, R: Rotator, C: Clock, W: Words, H: Wait>(
         (standing_by C.Clock W.Words (seen result.pass) clock.new words.new) (reply_of result.said) result.item }
     ensures later { W.faults words.old ≤ W.faults words.new }
 {
-    match read(alloc, people, message) {
+    match read(scratch, alloc, people, message) {
         Heard::Ask(person, request) => {
             ask(rt, alloc, gate, pass, clock, words, &person, &request)
         }

@@ -1,12 +1,16 @@
 -- What a seat does, one thing after the other, seen from the one history of an account: a message, a connection, a hold
 -- of the lock and all that a server does are such things.
-use Rattle.std.specs.Prelude.{ℕ, List, [], ◌∷◌, ◌++◌}
+use Rattle.std.specs.Prelude.{◌≡◌, ℕ, List, [], ◌∷◌, ◌++◌}
 use Rattle.sm_model.specs.declared.entry.Mark.{Mark}
 use Rattle.sm_account.specs.History.{by_seat}
 
 -- the marks of an account in their order, each beside the number of the seat that made it
 abbrev pub History : Type 0
 History = List (ℕ × Mark)
+
+-- nothing comes between
+abbrev pub NoGap : History → History → Type 0
+NoGap from to = to ≡ from
 
 -- of a thing: the history at which it was done, and the marks that it left there
 pub record Shape (T : Type 0) : Type 0 where

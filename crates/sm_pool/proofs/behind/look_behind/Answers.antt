@@ -15,12 +15,10 @@ leave-requires-clause-entry g c =
 
 pub returns-clause-looks : goal.returns-clause-looks
 returns-clause-looks g c =
-    let account = c.value.result.now in
     let pass = c.args.pass in
     let built = built_with c.args.gate.now in
-    look_held (Grows (number pass ∷ [])) c.seat-seat.result (number pass) c.seat-seat.ensures (seen pass)
-    (history account) (history c.look-looked.new.account) (seen c.leave.result)
+    look_held (Grows (number pass ∷ [])) _ _ c.seat-seat.ensures (seen pass) _ _ _
     (subst (λ a. Grows (number pass ∷ []) (seen pass) (history a)) (sym c.value.ensures.value)
-    c.enter-held.ensures.seen) c.leave.ensures.seen (base account) (base built)
+    c.enter-held.ensures.seen) c.leave.ensures.seen _ _
     (ap (λ a. base a) c.value.ensures.value ∙ same_base c.enter-held.result.value built c.enter-held.ensures.origin)
-    c.look-looked.result.now c.look-looked.result.found c.look-looked.ensures.looks
+    _ _ c.look-looked.ensures.looks

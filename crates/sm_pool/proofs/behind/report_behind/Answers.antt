@@ -16,13 +16,10 @@ leave-requires-clause-entry g c =
 
 pub returns-clause-reports : goal.returns-clause-reports
 returns-clause-reports g c =
-    let account = c.value.result.now in
     let pass = c.args.pass in
     let built = built_with c.args.gate.now in
-    report_held (Grows (number pass ∷ [])) c.seat-seat.result (number pass) c.seat-seat.ensures (seen pass)
-    (history account) (history c.report-told.new.account) (seen c.leave.result)
+    report_held (Grows (number pass ∷ [])) _ _ c.seat-seat.ensures (seen pass) _ _ _
     (subst (λ a. Grows (number pass ∷ []) (seen pass) (history a)) (sym c.value.ensures.value)
-    c.enter-held.ensures.seen) c.leave.ensures.seen (base account) (base built)
+    c.enter-held.ensures.seen) c.leave.ensures.seen _ _
     (ap (λ a. base a) c.value.ensures.value ∙ same_base c.enter-held.result.value built c.enter-held.ensures.origin)
-    c.report-told.result.now c.args.verdict.now.work c.args.verdict.now.answer c.report-told.result.reported
-    c.report-told.ensures.reports
+    _ _ _ _ c.report-told.ensures.reports

@@ -15,12 +15,10 @@ leave-requires-clause-entry g c =
 
 pub returns-clause-starts : goal.returns-clause-starts
 returns-clause-starts g c =
-    let account = c.value.result.now in
     let pass = c.args.pass in
     let built = built_with c.args.gate.now in
-    start_held (Grows (number pass ∷ [])) c.seat-seat.result (number pass) c.seat-seat.ensures (seen pass)
-    (history account) (history c.start-begun.new.account) (seen c.leave.result)
+    start_held (Grows (number pass ∷ [])) _ _ c.seat-seat.ensures (seen pass) _ _ _
     (subst (λ a. Grows (number pass ∷ []) (seen pass) (history a)) (sym c.value.ensures.value)
-    c.enter-held.ensures.seen) c.leave.ensures.seen (base account) (base built)
+    c.enter-held.ensures.seen) c.leave.ensures.seen _ _
     (ap (λ a. base a) c.value.ensures.value ∙ same_base c.enter-held.result.value built c.enter-held.ensures.origin)
-    c.start-begun.result.now c.args.drawn.now c.start-begun.result.started c.start-begun.ensures.starts
+    _ _ _ c.start-begun.ensures.starts

@@ -56,6 +56,7 @@ returns-in-Err-clause-runs g c =
 pub returns-then-not-sent-clause-runs : goal.returns-then-not-sent-clause-runs
 returns-then-not-sent-clause-runs g c =
     let i = c.loop-number.invariant in
+    let t = c.answer_message-sent.ensures.turn in
     let before : Outside = outside_by g.Q.Source g.K.Sink g.C.Clock g.W.Words g.R.Rotator c.args.source.now
     c.args.sink.now (g.D.Disk.faults (disk c.args.account.now)) c.args.clock.now c.args.random.now
     c.args.rotator.now in
@@ -74,13 +75,11 @@ returns-then-not-sent-clause-runs g c =
           c.answer_message-sent.new.sink (g.D.Disk.faults (disk c.answer_message-sent.new.account))
           c.answer_message-sent.new.clock c.answer_message-sent.new.random c.answer_message-sent.new.rotator;
       history' = history c.answer_message-sent.new.account;
-      reply = c.answer_message-sent.ensures.turn.2;
+      reply = t.0;
     } in
     let stays : base c.loop-number.account ≡ base c.args.account.now = i.origin.base_stays in
-    let t = c.answer_message-sent.ensures.turn in
     let turned : Turned g.R.Rotator.replies c.args.people.now (base c.args.account.now) step =
-    subst (λ (b : Base). Turned g.R.Rotator.replies c.args.people.now b step) stays
-    (t.0, t.1, t.3, t.4, t.5, t.6) in
+    subst (λ (b : Base). Turned g.R.Rotator.replies c.args.people.now b step) stays t.1 in
     let later : Later (base c.args.account.now) step = record {
       fell = record {
         disk = c.answer_message-sent.ensures.disk_later;
@@ -93,7 +92,7 @@ returns-then-not-sent-clause-runs g c =
     } in
     run_cut g.R.Rotator.replies c.args.people.now (base c.args.account.now) before c.loop-number.number at i.progress
     c.next_message.new.reader step refl refl turned later c.in-Ok.ensures.reads c.next_message.ensures.later
-    c.answer_message-sent.ensures.sink_later c.answer_message-sent.result t.7 c.saturating_add-count.result
+    c.answer_message-sent.ensures.sink_later c.answer_message-sent.result t.2 c.saturating_add-count.result
     c.saturating_add-count.ensures c.loop-number-test.true
     (not-true c.answer_message-sent.result.whole c.if-not-sent.true)
 
@@ -109,6 +108,7 @@ returns-then-not-sent-clause-unsure g c =
 pub loop-number-preserved : goal.loop-number-preserved
 loop-number-preserved g c =
     let i = c.loop-number.invariant in
+    let t = c.answer_message-sent.ensures.turn in
     let before : Outside = outside_by g.Q.Source g.K.Sink g.C.Clock g.W.Words g.R.Rotator c.args.source.now
     c.args.sink.now (g.D.Disk.faults (disk c.args.account.now)) c.args.clock.now c.args.random.now
     c.args.rotator.now in
@@ -127,13 +127,11 @@ loop-number-preserved g c =
           c.answer_message-sent.new.sink (g.D.Disk.faults (disk c.answer_message-sent.new.account))
           c.answer_message-sent.new.clock c.answer_message-sent.new.random c.answer_message-sent.new.rotator;
       history' = history c.answer_message-sent.new.account;
-      reply = c.answer_message-sent.ensures.turn.2;
+      reply = t.0;
     } in
     let stays : base c.loop-number.account ≡ base c.args.account.now = i.origin.base_stays in
-    let t = c.answer_message-sent.ensures.turn in
     let turned : Turned g.R.Rotator.replies c.args.people.now (base c.args.account.now) step =
-    subst (λ (b : Base). Turned g.R.Rotator.replies c.args.people.now b step) stays
-    (t.0, t.1, t.3, t.4, t.5, t.6) in
+    subst (λ (b : Base). Turned g.R.Rotator.replies c.args.people.now b step) stays t.1 in
     let later : Later (base c.args.account.now) step = record {
       fell = record {
         disk = c.answer_message-sent.ensures.disk_later;
@@ -156,7 +154,7 @@ loop-number-preserved g c =
       progress = progress_more g.R.Rotator.replies c.args.people.now (base c.args.account.now) before
           c.loop-number.number at i.progress
           c.next_message.new.reader step refl refl turned later c.in-Ok.ensures.reads c.next_message.ensures.later
-          c.answer_message-sent.ensures.sink_later c.answer_message-sent.result t.7 c.saturating_add-count.result
+          c.answer_message-sent.ensures.sink_later c.answer_message-sent.result t.2 c.saturating_add-count.result
           c.saturating_add-count.ensures
           (not-false c.answer_message-sent.result.whole c.if-not-sent.false);
     }

@@ -36,7 +36,6 @@ pub loop-index-preserved : goal.loop-index-preserved
 loop-index-preserved g c =
     let i = c.loop-index.invariant in
     let said = c.answer_one-said in
-    let t = said.ensures.turn in
     let stays : base c.loop-index.account ≡ base c.args.account.now = i.origin.base_stays in
     record {
       origin = same_origin _ _ _ i.origin said.ensures.origin;
@@ -62,8 +61,7 @@ loop-index-preserved g c =
             reply = reply_of said.result;
           } in
           let turned : Turned g.R.Rotator.replies c.args.people.now (base c.args.account.now) step =
-          subst (λ (b : Base). Turned g.R.Rotator.replies c.args.people.now b step) stays
-          (t.0, t.1, t.2, t.3, t.4, t.5) in
+          subst (λ (b : Base). Turned g.R.Rotator.replies c.args.people.now b step) stays said.ensures.turn in
           let later : Later (base c.args.account.now) step = record {
             fell = record {
               disk = said.ensures.disk_later;
