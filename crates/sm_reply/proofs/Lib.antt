@@ -1,4 +1,4 @@
 pub mod MemberLemmas
-pub mod ItemLemmas
-pub mod FloatLemmas
+pub mod TokenLemmas
+pub mod VersionLemmas
 pub mod OrderLemmas

@@ -1,6 +1,6 @@
 -- Lists and objects of a reply: a member that is not there is left out.
 use Rattle.std.specs.Prelude.{ℕ, List, [], ◌∷◌, Option, Some, None}
-use Rattle.serde_json.specs.Data.{Data, Items, no_items, item, Members, no_members, member, put}
+use Rattle.serde_json.specs.Data.{Data, Items, no_items, item, Members, no_members, member}
 
 -- parts as the items of a list
 abbrev pub items_of : {A : Type 0} → (A → Data) → List A → Items
@@ -20,13 +20,3 @@ member_if name (Some value) members = member name value members
 abbrev pub members_of : List Given → Members
 members_of [] = no_members
 members_of (given ∷ more) = member_if given.0 given.1 (members_of more)
-
--- the members, with one more at its place where it is there
-abbrev pub put_if : List ℕ → Option Data → Members → Members
-put_if name None members = members
-put_if name (Some value) members = put name value members
-
--- the members with more at their places, one after the other
-abbrev pub put_all : List Given → Members → Members
-put_all [] members = members
-put_all (given ∷ more) members = put_all more (put_if given.0 given.1 members)

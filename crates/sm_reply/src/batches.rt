@@ -1,38 +1,55 @@
 //! The replies with the faults of many secrets, or of a policy.
-ghost use Rattle.std.specs.Prelude.{◌≡◌, IfOk};
-ghost use Rattle.serde_json.specs.View.{members_view};
-ghost use Rattle.sm_reply.specs.Members.{members_of};
-ghost use Rattle.sm_reply.specs.Shown.{batch_members, validation_members};
+ghost use Rattle.std.specs.Prelude.{◌≡◌, OnOk};
+ghost use Rattle.sm_reply.specs.Tokens.{members_behind};
+ghost use Rattle.sm_reply.specs.Shown.{batch_error_members, fault_members, batch_members, validation_members};
 
 use crate::members::{put, put_if};
+use crate::out::Out;
 use crate::render::Render;
-use serde_json::{Map, Value};
 use sm_model::{BatchError, NoMemory, PolicyValidation, SecretBatch, ValidationError};
 use std::alloc::Global;
+
+/// The members of the error of one secret.
+fn batch_error_members(alloc: Global, out: &mut Out, error: &BatchError) -> Result<(), NoMemory>
+    ensures { OnOk result (out.new ≡ members_behind (batch_error_members error.now) out.old) }
+{
+    put(alloc, out, "ErrorCode", &error.error_code)?;
+    put(alloc, out, "Message", &error.message)?;
+    put(alloc, out, "SecretId", &error.secret_id)?;
+    Ok(())
+}
 
 impl Render for BatchError {
     ghost use Rattle.sm_reply.specs.Shown.{batch_error_object};
 
     ghost shows = { batch_error_object };
 
-    fn render(&self, alloc: Global) -> Result<Value, NoMemory> {
-        let mut members = Map::new(alloc);
-        put(alloc, &mut members, "ErrorCode", &self.error_code)?;
-        put(alloc, &mut members, "Message", &self.message)?;
-        put(alloc, &mut members, "SecretId", &self.secret_id)?;
-        Ok(Value::Object(members))
+    #[tactic(auto, using(crate::proofs::TokenLemmas::object_written))]
+    fn render(&self, alloc: Global, out: &mut Out) -> Result<(), NoMemory> {
+        out.begin_object()?;
+        batch_error_members(alloc, out, self)?;
+        out.end_object()?;
+        Ok(())
     }
 }
 
 /// The members of the reply to BatchGetSecretValue.
-pub fn batch_members(alloc: Global, reply: &SecretBatch) -> Result<Map<String, Value>, NoMemory>
-    ensures { IfOk result (λ members. members_view members.entries ≡ members_of (batch_members reply.now)) }
+pub fn batch_members(alloc: Global, out: &mut Out, reply: &SecretBatch) -> Result<(), NoMemory>
+    ensures { OnOk result (out.new ≡ members_behind (batch_members reply.now) out.old) }
 {
-    let mut members = Map::new(alloc);
-    put(alloc, &mut members, "Errors", &reply.errors)?;
-    put_if(alloc, &mut members, "NextToken", &reply.next_token)?;
-    put(alloc, &mut members, "SecretValues", &reply.secret_values)?;
-    Ok(members)
+    put(alloc, out, "Errors", &reply.errors)?;
+    put_if(alloc, out, "NextToken", &reply.next_token)?;
+    put(alloc, out, "SecretValues", &reply.secret_values)?;
+    Ok(())
+}
+
+/// The members of a fault of a policy.
+fn fault_members(alloc: Global, out: &mut Out, error: &ValidationError) -> Result<(), NoMemory>
+    ensures { OnOk result (out.new ≡ members_behind (fault_members error.now) out.old) }
+{
+    put(alloc, out, "CheckName", &error.check_name)?;
+    put(alloc, out, "ErrorMessage", &error.error_message)?;
+    Ok(())
 }
 
 impl Render for ValidationError {
@@ -40,33 +57,29 @@ impl Render for ValidationError {
 
     ghost shows = { fault_object };
 
-    fn render(&self, alloc: Global) -> Result<Value, NoMemory> {
-        let mut members = Map::new(alloc);
-        put(alloc, &mut members, "CheckName", &self.check_name)?;
-        put(alloc, &mut members, "ErrorMessage", &self.error_message)?;
-        Ok(Value::Object(members))
+    #[tactic(auto, using(crate::proofs::TokenLemmas::object_written))]
+    fn render(&self, alloc: Global, out: &mut Out) -> Result<(), NoMemory> {
+        out.begin_object()?;
+        fault_members(alloc, out, self)?;
+        out.end_object()?;
+        Ok(())
     }
 }
 
 /// The members of the reply to ValidateResourcePolicy.
 pub fn validation_members(
     alloc: Global,
+    out: &mut Out,
     reply: &PolicyValidation,
-) -> Result<Map<String, Value>, NoMemory>
-    ensures { IfOk result (λ members. members_view members.entries ≡ members_of (validation_members reply.now)) }
+) -> Result<(), NoMemory>
+    ensures { OnOk result (out.new ≡ members_behind (validation_members reply.now) out.old) }
 {
-    let mut members = Map::new(alloc);
     put(
         alloc,
-        &mut members,
+        out,
         "PolicyValidationPassed",
         &reply.policy_validation_passed,
     )?;
-    put(
-        alloc,
-        &mut members,
-        "ValidationErrors",
-        &reply.validation_errors,
-    )?;
-    Ok(members)
+    put(alloc, out, "ValidationErrors", &reply.validation_errors)?;
+    Ok(())
 }

@@ -7,9 +7,11 @@ mod batches;
 mod bodies;
 pub mod laws;
 mod members;
+mod out;
 mod pages;
 mod parts;
 mod render;
 mod secrets;
+mod versions;
 
 pub use bodies::{Refused, body, refusal};

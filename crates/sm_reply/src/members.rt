@@ -1,39 +1,32 @@
-//! The members of objects, each put behind those before it.
+//! The members of objects, each written behind those before it.
 ghost use Rattle.std.specs.Prelude.{◌≡◌, OnOk, Some, option_map};
-ghost use Rattle.serde_json.specs.View.{members_view};
-ghost use Rattle.sm_reply.specs.Members.{put_if};
+ghost use Rattle.sm_reply.specs.Tokens.{member_behind};
 
+use crate::out::Out;
 use crate::render::Render;
-use serde_json::{Map, Value, put as put_value};
 use sm_model::NoMemory;
 use std::alloc::Global;
 
-/// Puts a member.
-pub fn put<T: Render>(
-    alloc: Global,
-    members: &mut Map<String, Value>,
-    name: &str,
-    part: &T,
-) -> Result<(), NoMemory>
-    ensures { OnOk result (members_view members.new.entries
-        ≡ put_if name.now (Some (T.shows part.now)) (members_view members.old.entries)) }
+/// Writes a member.
+pub fn put<T: Render>(alloc: Global, out: &mut Out, name: &str, part: &T) -> Result<(), NoMemory>
+    ensures { OnOk result (out.new ≡ member_behind name.now (Some (T.shows part.now)) out.old) }
 {
-    put_value(members, alloc, name, part.render(alloc)?)?;
+    out.name(name)?;
+    part.render(alloc, out)?;
     Ok(())
 }
 
-/// Puts a member, where there is something.
+/// Writes a member, where there is something.
 pub fn put_if<T: Render>(
     alloc: Global,
-    members: &mut Map<String, Value>,
+    out: &mut Out,
     name: &str,
     part: &Option<T>,
 ) -> Result<(), NoMemory>
-    ensures { OnOk result (members_view members.new.entries
-        ≡ put_if name.now (option_map T.shows part.now) (members_view members.old.entries)) }
+    ensures { OnOk result (out.new ≡ member_behind name.now (option_map T.shows part.now) out.old) }
 {
     match part {
-        Some(part) => put(alloc, members, name, part),
+        Some(part) => put(alloc, out, name, part),
         None => Ok(()),
     }
 }

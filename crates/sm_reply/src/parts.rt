@@ -1,11 +1,10 @@
 //! The parts of replies that are no objects: texts, numbers, truth values, bytes and lists.
-ghost use Rattle.std.specs.Prelude.{◌≡◌, IfOk};
-ghost use Rattle.serde_json.specs.View.{view, items_view};
-ghost use Rattle.sm_reply.specs.Members.{items_of};
+ghost use Rattle.std.specs.Prelude.{◌≡◌, OnOk};
+ghost use Rattle.sm_reply.specs.Tokens.{items_behind};
 
+use crate::out::Out;
 use crate::render::Render;
 use base64::engine::general_purpose::STANDARD;
-use serde_json::{Number, Value};
 use sm_model::{Bytes, Label, List, Moment, NoMemory, Text, Token};
 use std::alloc::Global;
 
@@ -14,8 +13,9 @@ impl Render for Text {
 
     ghost shows = { string };
 
-    fn render(&self, alloc: Global) -> Result<Value, NoMemory> {
-        Ok(Value::String(String::from_str(alloc, self.as_str())?))
+    fn render(&self, _alloc: Global, out: &mut Out) -> Result<(), NoMemory> {
+        out.text(self.as_str())?;
+        Ok(())
     }
 }
 
@@ -24,8 +24,9 @@ impl Render for Token {
 
     ghost shows = { string };
 
-    fn render(&self, alloc: Global) -> Result<Value, NoMemory> {
-        self.as_text().render(alloc)
+    fn render(&self, alloc: Global, out: &mut Out) -> Result<(), NoMemory> {
+        self.as_text().render(alloc, out)?;
+        Ok(())
     }
 }
 
@@ -34,8 +35,9 @@ impl Render for Label {
 
     ghost shows = { string };
 
-    fn render(&self, alloc: Global) -> Result<Value, NoMemory> {
-        self.as_text().render(alloc)
+    fn render(&self, alloc: Global, out: &mut Out) -> Result<(), NoMemory> {
+        self.as_text().render(alloc, out)?;
+        Ok(())
     }
 }
 
@@ -45,8 +47,10 @@ impl Render for Bytes {
 
     ghost shows = { binary };
 
-    fn render(&self, alloc: Global) -> Result<Value, NoMemory> {
-        Ok(Value::String(STANDARD.encode(alloc, self.as_slice())?))
+    fn render(&self, alloc: Global, out: &mut Out) -> Result<(), NoMemory> {
+        let text = STANDARD.encode(alloc, self.as_slice())?;
+        out.text(text.as_str())?;
+        Ok(())
     }
 }
 
@@ -55,8 +59,9 @@ impl Render for Moment {
 
     ghost shows = { date };
 
-    fn render(&self, _alloc: Global) -> Result<Value, NoMemory> {
-        Ok(Value::Number(Number::from(self.0)))
+    fn render(&self, _alloc: Global, out: &mut Out) -> Result<(), NoMemory> {
+        out.number(self.0)?;
+        Ok(())
     }
 }
 
@@ -65,8 +70,9 @@ impl Render for u32 {
 
     ghost shows = { count };
 
-    fn render(&self, _alloc: Global) -> Result<Value, NoMemory> {
-        Ok(Value::Number(Number::from(*self)))
+    fn render(&self, _alloc: Global, out: &mut Out) -> Result<(), NoMemory> {
+        out.number(u64::from(*self))?;
+        Ok(())
     }
 }
 
@@ -75,20 +81,21 @@ impl Render for bool {
 
     ghost shows = { boolean };
 
-    fn render(&self, _alloc: Global) -> Result<Value, NoMemory> {
-        Ok(Value::Bool(*self))
+    fn render(&self, _alloc: Global, out: &mut Out) -> Result<(), NoMemory> {
+        out.truth(*self)?;
+        Ok(())
     }
 }
 
-/// The items of a list, in order.
-fn render_items<T: Render>(alloc: Global, parts: &[T]) -> Result<Vec<Value>, NoMemory>
-    ensures { IfOk result (λ items. items_view items.items ≡ items_of T.shows parts.now) }
+/// Writes the items of a list, in order.
+#[tactic(auto, using(crate::proofs::TokenLemmas::items_more, crate::proofs::TokenLemmas::items_all))]
+fn render_items<T: Render>(alloc: Global, out: &mut Out, parts: &[T]) -> Result<(), NoMemory>
+    ensures { OnOk result (out.new ≡ items_behind T.shows parts.now out.old) }
 {
-    let mut items = Vec::new(alloc);
     for part in parts {
-        items.push(part.render(alloc)?)?;
+        part.render(alloc, out)?;
     }
-    Ok(items)
+    Ok(())
 }
 
 impl<T: Render> Render for List<T> {
@@ -97,7 +104,11 @@ impl<T: Render> Render for List<T> {
 
     ghost shows = { λ parts. array (items_of T.shows parts) };
 
-    fn render(&self, alloc: Global) -> Result<Value, NoMemory> {
-        Ok(Value::Array(render_items(alloc, self.as_slice())?))
+    #[tactic(auto, using(crate::proofs::TokenLemmas::array_written))]
+    fn render(&self, alloc: Global, out: &mut Out) -> Result<(), NoMemory> {
+        out.begin_array()?;
+        render_items(alloc, out, self.as_slice())?;
+        out.end_array()?;
+        Ok(())
     }
 }

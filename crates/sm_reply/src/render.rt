@@ -1,9 +1,9 @@
 //! What is shown as one JSON value.
-ghost use Rattle.std.specs.Prelude.{◌≡◌, IfOk};
+ghost use Rattle.std.specs.Prelude.{◌≡◌, ◌++◌, OnOk};
 ghost use Rattle.serde_json.specs.Data.{Data};
-ghost use Rattle.serde_json.specs.View.{view};
+ghost use Rattle.sm_reply.specs.Tokens.{value_tokens};
 
-use serde_json::Value;
+use crate::out::Out;
 use sm_model::NoMemory;
 use std::alloc::Global;
 
@@ -12,7 +12,7 @@ pub trait Render {
     /// The value.
     ghost shows: { Self → Data };
 
-    /// Makes the value.
-    fn render(&self, alloc: Global) -> Result<Value, NoMemory>
-        ensures { IfOk result (λ json. view json ≡ shows self.now) };
+    /// Writes the value.
+    fn render(&self, alloc: Global, out: &mut Out) -> Result<(), NoMemory>
+        ensures { OnOk result (out.new ≡ out.old ++ value_tokens (shows self.now)) };
 }

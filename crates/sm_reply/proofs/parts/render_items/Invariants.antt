@@ -1,7 +1,8 @@
-use Rattle.std.proofs.Common.{◌≡◌, take}
-use Rattle.serde_json.specs.View.{items_view}
-use Rattle.sm_reply.specs.Members.{items_of}
+use Rattle.std.proofs.Common.{◌≡◌, drop}
+use Rattle.sm_reply.specs.Tokens.{items_behind}
 use Rattle.sm_reply.proofs.parts.render_items.Given as goal
 
+-- the items to come go behind those so far
 abbrev pub invariant-loop-part : goal.invariant-loop-part
-invariant-loop-part g l = items_view l.items.items ≡ items_of g.T.Render.shows (take l.part-index l.parts)
+invariant-loop-part g l = items_behind g.T.Render.shows (drop l.part-index l.parts) l.out
+    ≡ items_behind g.T.Render.shows l.parts l.initial.out
