@@ -5,6 +5,7 @@ ghost use Rattle.sm_disk.specs.Faults.{HasCause, faults_after};
 use crate::opening::{Opening, name_of};
 use crate::reports::{Kind, Reports};
 use sm_disk::{Disk, DiskFailed, FolderRefused};
+use sm_gather::OneReading;
 use std::alloc::Global;
 use std::fs::{File, OpenOptions, TryLockError};
 use std::io;
@@ -29,8 +30,8 @@ pub struct Kept {
 /// error is counted and said, and nothing else is counted.
 ///
 /// Once a sync of a file failed each later call on it fails, until the folder is opened anew: a system may drop what it
-/// could not write, and answer the next sync as if nothing had been. A write or a sync of a file that has no name any
-/// more fails too, since nobody can find it again.
+/// could not write, and answer the next sync as if nothing had been. A sync of a file that has no name any more fails
+/// too, since nobody can find it again.
 pub struct FolderDisk<'a> {
     journal_0: Kept,
     journal_1: Kept,
@@ -223,7 +224,7 @@ impl<'a> FolderDisk<'a> {
     {
         self.opening.note_write(file, at, piece);
         let written = match self.file(file) {
-            Ok(file) => write_named(file, piece, at),
+            Ok(file) => file.write_all_at(piece, at),
             Err(error) => Err(error),
         };
         self.count_error(file, "write", written)
@@ -296,9 +297,8 @@ impl<'a> Disk for FolderDisk<'a> {
     ghost only_now = { λ _ c left. left };
 }
 
-/// Writes a piece to a file that has a name still.
-fn write_named(file: &File, piece: &[u8], at: u64) -> io::Result<()> {
-    named(file)?.write_all_at(piece, at)
+impl<'a> OneReading for FolderDisk<'a> {
+    ghost one_reading = { λ disk r s told _. absurd told };
 }
 
 /// Syncs a file that has a name still.

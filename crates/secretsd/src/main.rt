@@ -50,6 +50,7 @@ use crate::rotators::{Linked, Local, MakeRotator};
 use crate::serving::serve;
 use crate::starting::say_start;
 use sm_disk::Disk;
+use sm_gather::Gathered;
 use sm_io::{
     Clock, CountWords, FixedClock, StreamSink, StreamSource, SystemClock, SystemWords, Words,
 };
@@ -186,7 +187,7 @@ fn run(rt: &HostRuntime, orders: &Orders) -> Status {
 fn run_over_folder(rt: &HostRuntime, orders: &Orders, folder: &str) -> Status {
     let opening = Opening::new(rt);
     match FolderDisk::open(rt, folder, orders.reports, &opening) {
-        Ok(disk) => run_over(rt, orders, disk),
+        Ok(disk) => run_over(rt, orders, Gathered::new(rt.alloc(), disk)),
         Err(refused) => {
             let _ = eprintln!(rt; "secretsd: the folder {folder} can't be opened: {refused}");
             Status::OpenFault

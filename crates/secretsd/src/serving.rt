@@ -12,6 +12,7 @@ use crate::probing::has_threads;
 use crate::rotators::{Linked, Local, MakeRotator};
 use crate::welcome::Welcome;
 use sm_disk::Disk;
+use sm_gather::Gathered;
 use sm_model::NoMemory;
 use sm_server::{RanBy, Status, run_server};
 use sm_words::Settings;
@@ -91,7 +92,7 @@ fn serve_folder<H: Threads + Wait + Sync>(site: &Site<H>, folder: &str) -> Statu
 {
     let rt = site.rt;
     match FolderDisk::open(rt, folder, site.orders.reports, site.opening) {
-        Ok(disk) => serve_over(site, disk),
+        Ok(disk) => serve_over(site, Gathered::new(rt.alloc(), disk)),
         Err(refused) => {
             let _ = eprintln!(rt; "secretsd: the folder {folder} can't be opened: {refused}");
             Status::OpenFault

@@ -1,0 +1,10 @@
+pub mod Walks
+pub mod Tears
+pub mod Dones
+pub mod Slots
+pub mod Overs
+pub mod Pasts
+pub mod Settled
+pub mod Flushes
+pub mod Changes
+pub mod Kepts

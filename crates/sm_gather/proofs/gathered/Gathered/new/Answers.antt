@@ -1,0 +1,12 @@
+use Rattle.std.proofs.Common.{◌≡◌, ap, arith}
+use Rattle.sm_gather.specs.Gathering.{place, pending_of}
+use Rattle.sm_gather.proofs.gathered.Gathered.new.Goals as goal
+
+pub invariant_of-result : goal.invariant_of-result
+invariant_of-result g c = record {
+  placed = λ s read file.
+      let none : place (pending_of c.nothing.result file) ≡ 0 = ap place (c.nothing.ensures file) in omega (
+        arith,
+        none,
+      );
+}

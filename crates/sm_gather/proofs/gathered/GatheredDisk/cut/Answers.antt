@@ -1,0 +1,43 @@
+use Rattle.std.proofs.Common.{◌∙◌, inr, refl, ap}
+use Rattle.sm_disk.specs.Steps.{IsCut, CutOrNot, OnFile}
+use Rattle.sm_gather.specs.declared.past.Past.{Past}
+use Rattle.sm_gather.specs.declared.waiting.Waiting.{Waiting}
+use Rattle.sm_gather.proofs.Overs.{same_behind}
+use Rattle.sm_gather.proofs.Kepts.{at_err, at_ok, kept_step, follows_kept, tells_kept, cut_or_not}
+use Rattle.sm_gather.proofs.Pasts.{went}
+use Rattle.sm_gather.proofs.gathered.GatheredDisk.cut.Goals as goal
+
+pub returns-in_err-hold_cut-clause-tried : goal.returns-in_err-hold_cut-clause-tried
+returns-in_err-hold_cut-clause-tried g c =
+    at_err c.from_residual.result
+    (kept_step c.args.file (CutOrNot c.args.end) _ _ (λ x. inr refl) c.in_err-hold_cut.ensures.tried)
+
+pub returns-in_err-hold_cut-clause-crash : goal.returns-in_err-hold_cut-clause-crash
+returns-in_err-hold_cut-clause-crash g c =
+    went g.D.Disk.sight (OnFile c.args.file (CutOrNot c.args.end)) _ _ _ _ _ _
+    (ap (λ (p : Past _ Waiting). p.items) c.hold_cut.ensures.past ∙ c.noting-self.ensures) c.hold_cut.ensures.crash
+
+pub returns-in_err-hold_cut-clause-tells : goal.returns-in_err-hold_cut-clause-tells
+returns-in_err-hold_cut-clause-tells g c =
+    c.hold_cut.ensures.tells
+
+pub returns-clause-cut : goal.returns-clause-cut
+returns-clause-cut g c =
+    at_ok c.flush.result (follows_kept (OnFile c.args.file (IsCut c.args.end)) _ _ _
+    c.in_ok-hold_cut.ensures.cut c.flush.ensures.reads)
+
+pub returns-clause-tried : goal.returns-clause-tried
+returns-clause-tried g c =
+    at_err c.flush.result (cut_or_not c.args.file c.args.end _ _ (follows_kept (OnFile c.args.file (IsCut c.args.end))
+    _ _ _
+    c.in_ok-hold_cut.ensures.cut c.flush.ensures.reads))
+
+pub returns-clause-crash : goal.returns-clause-crash
+returns-clause-crash g c =
+    went g.D.Disk.sight (OnFile c.args.file (CutOrNot c.args.end)) _ _ _ _ _ _
+    (ap (λ (p : Past _ Waiting). p.items) (c.flush.ensures.past ∙ c.hold_cut.ensures.past) ∙ c.noting-self.ensures)
+    (same_behind c.args.file (CutOrNot c.args.end) _ _ _ c.hold_cut.ensures.crash c.flush.ensures.crash)
+
+pub returns-clause-tells : goal.returns-clause-tells
+returns-clause-tells g c =
+    tells_kept _ _ _ c.hold_cut.ensures.tells c.flush.ensures.reads

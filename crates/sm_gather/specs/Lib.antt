@@ -1,0 +1,4 @@
+pub mod Pieces
+pub mod Gathering
+pub mod OneReadings
+pub mod Laws
