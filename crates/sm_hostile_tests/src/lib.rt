@@ -1,0 +1,12 @@
+//! Input that is made to do harm: how a session over memory goes, and how the account stands behind it.
+#![tactic(auto)]
+
+pub mod gates;
+#[cfg(test)]
+mod going;
+#[cfg(test)]
+mod rows;
+#[cfg(test)]
+mod sessions;
+#[cfg(test)]
+mod standing;
