@@ -28,6 +28,17 @@ alike_within_other (x ∷ text) (y ∷ other) = by (x == y) (alike_within_other 
     by true within = omega arith
     by false within = omega arith
 
+pub alike_turned : (text other : List ℕ) → alike text other ≡ alike other text
+alike_turned [] other = sym (alike_nothing other)
+alike_turned (x ∷ text) [] = refl
+alike_turned (x ∷ text) (y ∷ other) = by (x == y) refl (alike_turned text other)
+  where
+    by : (same : Bool) → (x == y) ≡ same → alike text other ≡ alike other text →
+        cond same (alike text other + 1) 0 ≡ cond (y == x) (alike other text + 1) 0
+    by true first rest =
+        let turned : (y == x) ≡ true = grind (arith, nat_tests) in rw turned (ap (λ n. n + 1) rest)
+    by false first rest = let turned : (y == x) ≡ false = grind (arith, nat_tests) in rw turned refl
+
 -- ---- one byte after the other
 
 drop_one : (text : List ℕ) (n : ℕ) → n < length text → drop n text ≡ get_or text n 0 ∷ drop (n + 1) text
@@ -65,7 +76,7 @@ alike_to_end one other n below within end known =
 -- ---- from a place on
 
 -- where both are known to have bytes alike, the rest tells how many
-pub alike_from : (text other : List ℕ) (n : ℕ) → n ≤ alike text other →
+alike_from : (text other : List ℕ) (n : ℕ) → n ≤ alike text other →
     alike text other ≡ n + alike (drop n text) (drop n other)
 alike_from text other zero known = omega arith
 alike_from [] other (suc n) known = omega arith
@@ -85,6 +96,12 @@ pub alike_parts : (one other : List ℕ) (n : ℕ) → n ≤ alike one other →
     (get_or one n 0 == get_or other n 0) ≡ false → n ≡ alike one other
 alike_parts one other n known below within apart =
     alike_apart one other n below within (sym (alike_from one other n known)) apart
+
+-- they have the next byte alike too
+pub alike_one_more : (one other : List ℕ) (n : ℕ) → n ≤ alike one other → n < length one → n < length other →
+    (get_or one n 0 == get_or other n 0) ≡ true → n + 1 ≤ alike one other
+alike_one_more one other n known below within same =
+    let next = alike_next one other n below within (sym (alike_from one other n known)) same in omega (arith, next)
 
 -- both have so many bytes alike with it: then they have with one another
 pub alike_through : (text middle other : List ℕ) (n : ℕ) → n ≤ alike text middle → n ≤ alike middle other →

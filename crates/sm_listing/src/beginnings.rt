@@ -1,10 +1,11 @@
-//! How texts begin. Values of filters that begin alike cost no more than one of them: what a text has alike with one
-//! value tells how much it has alike with another, up to where these two part.
+//! How texts begin. Values of filters that begin alike cost no more than one of them: where a text parts from one value
+//! tells whether it begins as another does, unless the other parts from the first at the same byte and goes on alike.
 ghost use Rattle.std.specs.Prelude.{◌≡◌, ◌+◌, ◌≤◌, ◌<◌, IfOk, IfSome, OnOk, [], length, ◌++◌, map, take, drop, slice_index_or};
 ghost use Rattle.std.specs.List.{list_any};
-ghost use Rattle.sm_listing.specs.Beginnings.{alike, beginning_of, text_of, values_of, alike_with, alike_among, IsSought, IsSoughtOf, beginning_at, IsKnown, AreKnown, better};
+ghost use Rattle.sm_listing.specs.Beginnings.{alike, next_of, parting, beginning_of, text_of, values_of, partings_with, partings_among, IsSought, IsSoughtOf, beginning_at, ends_within, goes_along, marked, AreMarks, holds_by};
 ghost use Rattle.sm_listing.specs.Filters.{some_begins, value_holds};
 
+use sm_base::limits::{FILTER_VALUES_LIMIT, FILTERS_LIMIT};
 use sm_base::{Copied, List, NoMemory, Text};
 use sm_model::{Filter, Tag};
 use std::alloc::Global;
@@ -15,6 +16,12 @@ const BLOCK: usize = 64;
 /// So few values are looked for one by one.
 const FEW: usize = 4;
 
+/// The most values that filters have.
+const MOST_VALUES: usize = FILTERS_LIMIT * FILTER_VALUES_LIMIT;
+
+/// At each place whether some text begins as the value there does.
+pub(crate) type Marks = [bool; MOST_VALUES];
+
 /// The text of a tag that is looked at.
 #[derive(Clone, Copy)]
 pub enum TagPart {
@@ -22,18 +29,19 @@ pub enum TagPart {
     Value,
 }
 
-/// Values that are looked for, and with how many equal bytes the beginnings of any two of them begin.
+/// How another text parts from one: with how many equal bytes both begin, and the byte with which the other goes on,
+/// counted from 1, or 0 where it ends there.
+#[derive(Clone, Copy)]
+pub struct Parted {
+    pub bytes: usize,
+    pub next: usize,
+}
+
+/// Values that are looked for, and how the beginnings of any two of them part.
 #[derive(Drop)]
 pub struct Sought {
     pub values: List<Text>,
-    pub among: List<List<usize>>,
-}
-
-/// With how many bytes, at least, a text begins as the value at a place does.
-#[derive(Clone, Copy)]
-pub struct Known {
-    pub place: usize,
-    pub bytes: usize,
+    pub among: List<List<Parted>>,
 }
 
 /// With how many equal blocks of bytes both begin, in bytes.
@@ -81,24 +89,65 @@ fn beginning_of(value: &Text) -> &[u8]
     }
 }
 
-/// How much a beginning has alike with those that values name.
-fn alike_with(alloc: Global, beginning: &[u8], values: &[Text]) -> Result<List<usize>, NoMemory>
-    ensures { IfOk result (λ numbers. numbers ≡ alike_with beginning.now values.now) }
+/// With how many equal bytes both begin, where so many are known to be equal. Most texts part at the next byte.
+#[tactic(auto, using(crate::proofs::AlikeLemmas::alike_within, crate::proofs::AlikeLemmas::alike_within_other, crate::proofs::AlikeLemmas::alike_rest, crate::proofs::AlikeLemmas::alike_parts))]
+fn alike_past(one: &[u8], other: &[u8], bytes: usize) -> usize
+    requires { bytes ≤ alike one.now other.now }
+    ensures { result ≡ alike one.now other.now }
 {
-    let mut numbers = Vec::with_capacity(alloc, values.len())?;
-    for value in values {
-        numbers.push(alike(beginning, beginning_of(value)))?;
+    if bytes < one.len() && bytes < other.len() && one[bytes] != other[bytes] {
+        return bytes;
     }
-    Ok(List::new(numbers))
+    bytes + alike(&one[bytes..], &other[bytes..])
 }
 
-/// How much any two values have alike.
-fn alike_among(alloc: Global, values: &[Text]) -> Result<List<List<usize>>, NoMemory>
-    ensures { IfOk result (λ among. among ≡ alike_among values.now values.now) }
+/// The byte at a place, counted from 1, or 0 behind the end.
+#[tactic(auto, using(crate::proofs::PartingLemmas::next_here, crate::proofs::PartingLemmas::next_end))]
+fn next_of(text: &[u8], place: usize) -> usize
+    ensures { result ≡ next_of text.now place }
+{
+    if place < text.len() {
+        text[place] as usize + 1
+    } else {
+        0
+    }
+}
+
+/// How another text parts from one, where so many bytes are known to be equal.
+fn parting_past(one: &[u8], other: &[u8], bytes: usize) -> Parted
+    requires { bytes ≤ alike one.now other.now }
+    ensures { result ≡ parting one.now other.now }
+{
+    let bytes = alike_past(one, other, bytes);
+    let next = next_of(other, bytes);
+    Parted { bytes, next }
+}
+
+/// How another text parts from one.
+fn parting(one: &[u8], other: &[u8]) -> Parted
+    ensures { result ≡ parting one.now other.now }
+{
+    parting_past(one, other, 0)
+}
+
+/// How the beginnings that values name part from one.
+fn partings_with(alloc: Global, beginning: &[u8], values: &[Text]) -> Result<List<Parted>, NoMemory>
+    ensures { IfOk result (λ partings. partings ≡ partings_with beginning.now values.now) }
+{
+    let mut partings = Vec::with_capacity(alloc, values.len())?;
+    for value in values {
+        partings.push(parting(beginning, beginning_of(value)))?;
+    }
+    Ok(List::new(partings))
+}
+
+/// How the beginnings of any two values part.
+fn partings_among(alloc: Global, values: &[Text]) -> Result<List<List<Parted>>, NoMemory>
+    ensures { IfOk result (λ among. among ≡ partings_among values.now values.now) }
 {
     let mut among = Vec::with_capacity(alloc, values.len())?;
     for value in values {
-        among.push(alike_with(alloc, beginning_of(value), values)?)?;
+        among.push(partings_with(alloc, beginning_of(value), values)?)?;
     }
     Ok(List::new(among))
 }
@@ -113,103 +162,105 @@ fn text_of(tag: &Tag, part: TagPart) -> &[u8]
     }
 }
 
-/// What is known in the end, where a text has so many bytes alike with the value at a place.
-fn better(known: Known, place: usize, bytes: usize) -> Known
-    ensures { result ≡ better known place bytes }
+/// The beginning that the value at a place names.
+fn beginning_at(sought: &Sought, place: usize) -> &[u8]
+    requires { place < length sought.now.values }
+    ensures { result.now ≡ beginning_at sought.now.values place }
 {
-    if known.bytes < bytes {
-        Known { place, bytes }
-    } else {
-        known
-    }
+    beginning_of(&sought.values.as_slice()[place])
 }
 
-/// With how many equal bytes the beginnings of the values at two places begin.
-#[tactic(auto, using(crate::proofs::KnownLemmas::shared_at, crate::proofs::KnownLemmas::among_count, crate::proofs::KnownLemmas::row_count))]
-fn shared_at(sought: &Sought, one: usize, other: usize) -> usize
-    requires one { one < length sought.now.values }
-    requires other { other < length sought.now.values }
-    requires sought { IsSought sought.now }
-    ensures { result ≡ alike (beginning_at sought.now.values one) (beginning_at sought.now.values other) }
-{
-    let numbers = &sought.among.as_slice()[one];
-    numbers.as_slice()[other]
-}
-
-/// With how many equal bytes both begin, where so many are known to be equal. Most texts part at the next byte.
-#[tactic(auto, using(crate::proofs::AlikeLemmas::alike_within, crate::proofs::AlikeLemmas::alike_within_other, crate::proofs::AlikeLemmas::alike_rest, crate::proofs::AlikeLemmas::alike_parts))]
-fn alike_past(one: &[u8], other: &[u8], bytes: usize) -> usize
-    requires { bytes ≤ alike one.now other.now }
-    ensures { result ≡ alike one.now other.now }
-{
-    if bytes < one.len() && bytes < other.len() && one[bytes] != other[bytes] {
-        return bytes;
-    }
-    bytes + alike(&one[bytes..], &other[bytes..])
-}
-
-/// With how many equal bytes a text begins as the value at a place does.
-fn alike_now(sought: &Sought, place: usize, beginning: &[u8], text: &[u8], known: Known) -> usize
+/// How the beginnings of all values part from the one of the value at a place.
+#[tactic(auto, using(crate::proofs::PartingLemmas::row_at, crate::proofs::PartingLemmas::among_count))]
+fn row_at(sought: &Sought, place: usize) -> &[Parted]
     requires place { place < length sought.now.values }
     requires sought { IsSought sought.now }
-    requires beginning { beginning.now ≡ beginning_at sought.now.values place }
-    requires known { IsKnown sought.now.values text.now known }
-    ensures { result ≡ alike text.now beginning.now }
+    ensures { result.now ≡ partings_with (beginning_at sought.now.values place) sought.now.values }
 {
-    let shared = shared_at(sought, known.place, place);
-    if shared < known.bytes {
-        shared
-    } else {
-        alike_past(text, beginning, known.bytes)
-    }
+    sought.among.as_slice()[place].as_slice()
 }
 
-/// Whether the text of some tag begins as the value at a place does. What is found out of these texts is kept.
-fn some_begins(
-    sought: &Sought,
-    place: usize,
-    beginning: &[u8],
-    tags: &[Tag],
-    part: TagPart,
-    known: &mut [Known],
-) -> bool
-    requires place { place < length sought.now.values }
-    requires sought { IsSought sought.now }
-    requires beginning { beginning.now ≡ beginning_at sought.now.values place }
-    requires known { AreKnown sought.now.values (map (text_of part) tags.now) known.old }
-    ensures begins { result ≡ some_begins (map (text_of part) tags.now) beginning.now }
-    ensures known { AreKnown sought.now.values (map (text_of part) tags.now) known.new }
+/// Whether a value ends within what the text has alike with the one from which both part.
+fn ends_within(value: Parted, text: Parted) -> bool
+    ensures { result ≡ ends_within value text }
 {
-    for at in 0..tags.len() {
-        let text = text_of(&tags[at], part);
-        let bytes = alike_now(sought, place, beginning, text, known[at]);
-        known[at] = better(known[at], place, bytes);
-        if bytes == beginning.len() {
-            return true;
+    value.next == 0 && value.bytes <= text.bytes
+}
+
+/// Whether a value parts from the one where the text does, and goes on as it does.
+fn goes_along(value: Parted, text: Parted) -> bool
+    ensures { result ≡ goes_along value text }
+{
+    value.bytes == text.bytes && value.next == text.next && value.next != 0
+}
+
+/// Marks the places of the values as which a text begins, beside those that are marked.
+fn mark(sought: &Sought, text: &[u8], marks: &mut [bool])
+    requires sought { IsSought sought.now }
+    requires room { length sought.now.values ≤ length marks.old }
+    ensures { marks.new ≡ marked text.now sought.now.values marks.old }
+{
+    let mut row = row_at(sought, 0);
+    let mut here = parting(beginning_at(sought, 0), text);
+    for place in 0..sought.values.len() {
+        let there = row[place];
+        if ends_within(there, here) {
+            marks[place] = true;
+        } else if goes_along(there, here) {
+            let beginning = beginning_at(sought, place);
+            here = parting_past(beginning, text, here.bytes);
+            row = row_at(sought, place);
+            if here.bytes == beginning.len() {
+                marks[place] = true;
+            }
         }
     }
-    false
 }
 
-/// Whether the value at a place holds of texts of tags.
+/// At each place whether the text of some tag begins as the value there does.
+fn marks_of(sought: &Sought, tags: &[Tag], part: TagPart) -> Marks
+    requires { IsSought sought.now }
+    ensures { AreMarks (map (text_of part) tags.now) sought.now.values result }
+{
+    let mut marks = [false; MOST_VALUES];
+    for at in 0..tags.len() {
+        let text = text_of(&tags[at], part);
+        mark(sought, text, &mut marks);
+    }
+    marks
+}
+
+/// Whether a value holds where some text begins as it says, or none does.
+fn holds_by(value: &Text, begins: bool) -> bool
+    ensures { result ≡ holds_by value.now begins }
+{
+    match value.as_bytes() {
+        [b'!', ..] => !begins,
+        _ => begins,
+    }
+}
+
+/// Whether the value at a place holds of texts of tags. They are looked through once.
+#[tactic(auto, using(crate::proofs::MarkLemmas::mark_within, crate::proofs::MarkLemmas::mark_holds))]
 fn value_holds(
     sought: &Sought,
     place: usize,
     tags: &[Tag],
     part: TagPart,
-    known: &mut [Known],
+    known: &mut Option<Marks>,
 ) -> bool
     requires place { place < length sought.now.values }
     requires sought { IsSought sought.now }
-    requires known { AreKnown sought.now.values (map (text_of part) tags.now) known.old }
+    requires known { IfSome known.old (AreMarks (map (text_of part) tags.now) sought.now.values) }
     ensures holds { result ≡ value_holds (map (text_of part) tags.now) (slice_index_or sought.now.values place []) }
-    ensures known { AreKnown sought.now.values (map (text_of part) tags.now) known.new }
+    ensures known { IfSome known.new (AreMarks (map (text_of part) tags.now) sought.now.values) }
 {
-    let value = &sought.values.as_slice()[place];
-    match value.as_bytes() {
-        [b'!', beginning @ ..] => !some_begins(sought, place, beginning, tags, part, known),
-        beginning => some_begins(sought, place, beginning, tags, part, known),
-    }
+    let marks = match known {
+        Some(marks) => *marks,
+        None => marks_of(sought, tags, part),
+    };
+    *known = Some(marks);
+    holds_by(&sought.values.as_slice()[place], marks[place])
 }
 
 /// The place so many behind another one.
@@ -228,14 +279,14 @@ pub(crate) fn some_value_holds(
     count: usize,
     tags: &[Tag],
     part: TagPart,
-    known: &mut [Known],
+    known: &mut Option<Marks>,
 ) -> bool
     requires places { first + count ≤ length sought.now.values }
     requires sought { IsSought sought.now }
-    requires known { AreKnown sought.now.values (map (text_of part) tags.now) known.old }
+    requires known { IfSome known.old (AreMarks (map (text_of part) tags.now) sought.now.values) }
     ensures holds { result ≡ list_any (value_holds (map (text_of part) tags.now))
         (take count (drop first sought.now.values)) }
-    ensures known { AreKnown sought.now.values (map (text_of part) tags.now) known.new }
+    ensures known { IfSome known.new (AreMarks (map (text_of part) tags.now) sought.now.values) }
 {
     for step in 0..count {
         let place = place_at(sought, first, step);
@@ -257,7 +308,7 @@ fn add_values(alloc: Global, values: &mut Vec<Text>, more: &[Text]) -> Result<()
 }
 
 /// The values of filters, one filter after the other.
-#[tactic(auto, using(crate::proofs::KnownLemmas::values_more))]
+#[tactic(auto, using(crate::proofs::ValueLemmas::values_more))]
 fn values_of(alloc: Global, filters: &[Filter]) -> Result<List<Text>, NoMemory>
     ensures { IfOk result (λ values. values ≡ values_of filters.now) }
 {
@@ -268,14 +319,14 @@ fn values_of(alloc: Global, filters: &[Filter]) -> Result<List<Text>, NoMemory>
     Ok(List::new(values))
 }
 
-/// The values that filters look for, unless they are few.
+/// The values that filters look for, unless they are few or more than filters of a message have.
 pub(crate) fn sought_of(alloc: Global, filters: &[Filter]) -> Result<Option<Sought>, NoMemory>
     ensures { IfOk result (λ sought. IfSome sought (IsSoughtOf filters.now)) }
 {
     let values = values_of(alloc, filters)?;
-    if values.len() <= FEW {
+    if values.len() <= FEW || MOST_VALUES < values.len() {
         return Ok(None);
     }
-    let among = alike_among(alloc, values.as_slice())?;
+    let among = partings_among(alloc, values.as_slice())?;
     Ok(Some(Sought { values, among }))
 }

@@ -4,16 +4,13 @@ ghost use Rattle.std.specs.List.{list_all, list_any, starts_with};
 ghost use Rattle.sm_base.specs.Texts.{has_at_most};
 ghost use Rattle.sm_listing.specs.Filters.{key_of, is_filter, first_fault, texts_of, some_begins, value_holds, filter_holds};
 ghost use Rattle.sm_listing.specs.declared.beginnings.TagPart.TheVariants.{Key, Value};
-ghost use Rattle.sm_listing.specs.Beginnings.{text_of, values_of, IsSought, IsSoughtOf, AreKnown};
+ghost use Rattle.sm_listing.specs.Beginnings.{text_of, values_of, IsSought, IsSoughtOf, AreMarks};
 
-use crate::beginnings::{self, Known, Sought, TagPart, place_at};
+use crate::beginnings::{self, Marks, Sought, TagPart, place_at};
 use sm_base::Text;
-use sm_base::limits::{FILTER_VALUE_LIMIT, FILTER_VALUES_LIMIT, TAGS_LIMIT};
+use sm_base::limits::{FILTER_VALUE_LIMIT, FILTER_VALUES_LIMIT};
 use sm_base::text::has_at_most;
 use sm_model::{Filter, SecretRow, Tag};
-
-/// Of so many tags what is known is kept.
-const MOST_TAGS: usize = TAGS_LIMIT as usize;
 
 /// What a filter's key names.
 #[derive(Clone, Copy)]
@@ -149,17 +146,17 @@ fn sought_holds(
     filter: &Filter,
     sought: &Sought,
     first: usize,
-    keys: &mut [Known],
-    values: &mut [Known],
+    keys: &mut Option<Marks>,
+    values: &mut Option<Marks>,
 ) -> bool
     requires places { first + length filter.now.values ≤ length sought.now.values }
     requires values { take (length filter.now.values) (drop first sought.now.values) ≡ filter.now.values }
     requires sought { IsSought sought.now }
-    requires known_keys { AreKnown sought.now.values (map (text_of Key) row.now.tags) keys.old }
-    requires known_values { AreKnown sought.now.values (map (text_of Value) row.now.tags) values.old }
+    requires known_keys { IfSome keys.old (AreMarks (map (text_of Key) row.now.tags) sought.now.values) }
+    requires known_values { IfSome values.old (AreMarks (map (text_of Value) row.now.tags) sought.now.values) }
     ensures holds { result ≡ filter_holds row.now filter.now }
-    ensures known_keys { AreKnown sought.now.values (map (text_of Key) row.now.tags) keys.new }
-    ensures known_values { AreKnown sought.now.values (map (text_of Value) row.now.tags) values.new }
+    ensures known_keys { IfSome keys.new (AreMarks (map (text_of Key) row.now.tags) sought.now.values) }
+    ensures known_values { IfSome values.new (AreMarks (map (text_of Value) row.now.tags) sought.now.values) }
 {
     let count = filter.values.len();
     let tags = row.tags.as_slice();
@@ -181,17 +178,17 @@ fn sought_holds(
 }
 
 /// Whether every filter holds, with what is known of the texts of the tags.
-#[tactic(auto, using(crate::proofs::KnownLemmas::values_end, crate::proofs::KnownLemmas::values_at))]
+#[tactic(auto, using(crate::proofs::ValueLemmas::values_end, crate::proofs::ValueLemmas::values_at))]
 fn all_sought_hold(
     row: &SecretRow,
     filters: &[Filter],
     sought: &Sought,
-    keys: &mut [Known],
-    values: &mut [Known],
+    keys: &mut Option<Marks>,
+    values: &mut Option<Marks>,
 ) -> bool
     requires sought { IsSoughtOf filters.now sought.now }
-    requires known_keys { AreKnown sought.now.values (map (text_of Key) row.now.tags) keys.old }
-    requires known_values { AreKnown sought.now.values (map (text_of Value) row.now.tags) values.old }
+    requires known_keys { IfSome keys.old (AreMarks (map (text_of Key) row.now.tags) sought.now.values) }
+    requires known_values { IfSome values.old (AreMarks (map (text_of Value) row.now.tags) sought.now.values) }
     ensures { result ≡ list_all (filter_holds row.now) filters.now }
 {
     let mut first = 0;
@@ -212,16 +209,12 @@ fn all_hold(row: &SecretRow, filters: &[Filter]) -> bool
 }
 
 /// Whether every filter holds, with what the values that are sought have alike.
-#[tactic(auto, using(crate::proofs::KnownLemmas::known_nothing))]
 fn all_hold_by(row: &SecretRow, filters: &[Filter], sought: &Sought) -> bool
     requires { IsSoughtOf filters.now sought.now }
     ensures { result ≡ list_all (filter_holds row.now) filters.now }
 {
-    if MOST_TAGS < row.tags.len() {
-        return all_hold(row, filters);
-    }
-    let mut keys = [Known { place: 0, bytes: 0 }; MOST_TAGS];
-    let mut values = [Known { place: 0, bytes: 0 }; MOST_TAGS];
+    let mut keys = None;
+    let mut values = None;
     all_sought_hold(row, filters, sought, &mut keys, &mut values)
 }
 

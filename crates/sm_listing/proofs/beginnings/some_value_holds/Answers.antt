@@ -1,7 +1,7 @@
 use Rattle.std.proofs.Common.{map, get_or, [], ◌∙◌, sym, ap}
 use Rattle.sm_listing.specs.Beginnings.{text_of}
 use Rattle.sm_listing.specs.Filters.{value_holds}
-use Rattle.sm_listing.proofs.KnownLemmas.{holds_here, holds_not}
+use Rattle.sm_listing.proofs.ValueLemmas.{holds_here, holds_not}
 use Rattle.sm_listing.proofs.beginnings.some_value_holds.Goals as goal
 
 pub returns-then-value_holds-clause-holds : goal.returns-then-value_holds-clause-holds

@@ -1,6 +1,6 @@
 use Rattle.std.proofs.Common.{◌+◌, ◌∙◌, ap, sym}
 use Rattle.sm_listing.specs.Filters.{filter_holds}
-use Rattle.sm_listing.proofs.KnownLemmas.{values_count, all_more}
+use Rattle.sm_listing.proofs.ValueLemmas.{values_count, all_more}
 use Rattle.sm_listing.proofs.filters.all_sought_hold.Goals as goal
 
 pub loop-filter-preserved : goal.loop-filter-preserved

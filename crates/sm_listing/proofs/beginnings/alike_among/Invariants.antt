@@ -1,6 +1,0 @@
-use Rattle.std.proofs.Common.{◌≡◌, take}
-use Rattle.sm_listing.specs.Beginnings.{alike_among}
-use Rattle.sm_listing.proofs.beginnings.alike_among.Given as goal
-
-abbrev pub invariant-loop-value : goal.invariant-loop-value
-invariant-loop-value l = l.among.items ≡ alike_among (take l.value-index l.values) l.values
