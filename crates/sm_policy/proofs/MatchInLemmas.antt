@@ -18,6 +18,14 @@ all_taken zero all e = sym e
 all_taken (suc n) [] e = refl
 all_taken (suc n) (c ∷ all) e = ap (λ t. c ∷ t) (all_taken n all e)
 
+-- nothing is read yet
+pub begun : (all : List ℕ) (spread : Spread) → Spreads [] spread
+    → Spreads (take spread.length all) spread × (drop spread.length all ≡ all)
+begun all spread are = (
+  subst (λ n. Spreads (take n all) spread) (sym are.as_long) are,
+  ap (λ n. drop n all) are.as_long,
+)
+
 pub whole_spread : (all : List ℕ) (spread : Spread) → Spreads (take spread.length all) spread
     → drop spread.length all ≡ [] → Spreads all spread
 whole_spread all spread are e = subst (λ t. Spreads t spread) (all_taken spread.length all e) are

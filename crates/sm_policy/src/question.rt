@@ -2,10 +2,11 @@
 ghost use Rattle.std.specs.Prelude.{◌≡◌, ◌++◌, option_map};
 ghost use Rattle.std.specs.List.{list_any};
 ghost use Rattle.sm_base.specs.Texts.{same_text};
+ghost use Rattle.sm_policy.specs.Patterns.{letters, wild};
 ghost use Rattle.sm_policy.specs.Decisions.{plain_question, account_in, root_of, is_for, is_like, is_action, tag_value, value_of, equals_one, like_one, test_holds, block_holds, condition_holds, matches, denies, allows, first_number, decision, is_everybody, is_open, public_number};
 
-use crate::pattern::Case;
-use crate::spread::{Sought, has_gap};
+use crate::pattern::{Case, is_match};
+use crate::spread::{Sought, has_gap, nothing, spread_text};
 use sm_base::Text;
 use sm_base::text::same_text;
 use sm_model::{Person, SecretRow, Tag};
@@ -116,8 +117,22 @@ fn equals_one(texts: &[Text], value: &[u8]) -> bool
 fn like_one(texts: &[Text], value: &[u8]) -> bool
     ensures { result ≡ like_one texts.now value.now }
 {
-    let has_gaps = texts.iter().any(|text| has_gap(text.as_bytes()));
-    let sought = Sought::new(Case::Exact, value, has_gaps);
+    if texts.iter().any(|text| has_gap(text.as_bytes())) {
+        return like_one_at_once(texts, value);
+    }
+    texts
+        .iter()
+        .any(|text| is_match(Case::Exact, text.as_bytes(), value))
+}
+
+/// The same by a spread of the value. Only this function has room for one, since room costs a function as much as to
+/// fill it.
+fn like_one_at_once(texts: &[Text], value: &[u8]) -> bool
+    ensures { result ≡ like_one texts.now value.now }
+{
+    let mut spread = nothing();
+    let is_whole = spread_text(&mut spread, Case::Exact, value);
+    let sought = Sought::new(Case::Exact, value, &spread, is_whole);
     texts.iter().any(|text| sought.is_matched(text.as_bytes()))
 }
 
@@ -167,27 +182,40 @@ fn is_for_one(arn: &[u8], principals: &Principals) -> bool
         .any(|principal| is_for(arn, principal))
 }
 
-/// Whether one of the patterns has a gap.
-fn have_gaps(patterns: &[Pattern]) -> bool {
-    patterns.iter().any(|pattern| has_gap(pattern.0.as_bytes()))
+/// Whether one of the patterns matches the text.
+fn is_like_pattern(case: Case, text: &[u8], patterns: &[Pattern]) -> bool
+    ensures { result ≡ list_any (λ p. wild (letters case p.0) (letters case text.now)) patterns.now }
+{
+    if patterns.iter().any(|pattern| has_gap(pattern.0.as_bytes())) {
+        return is_like_pattern_at_once(case, text, patterns);
+    }
+    patterns
+        .iter()
+        .any(|pattern| is_match(case, pattern.0.as_bytes(), text))
+}
+
+/// The same by a spread of the text, for which only this function has room.
+fn is_like_pattern_at_once(case: Case, text: &[u8], patterns: &[Pattern]) -> bool
+    ensures { result ≡ list_any (λ p. wild (letters case p.0) (letters case text.now)) patterns.now }
+{
+    let mut spread = nothing();
+    let is_whole = spread_text(&mut spread, case, text);
+    let sought = Sought::new(case, text, &spread, is_whole);
+    patterns
+        .iter()
+        .any(|pattern| sought.is_matched(pattern.0.as_bytes()))
 }
 
 fn is_action_of_one(action: &[u8], patterns: &[Pattern]) -> bool
     ensures { result ≡ list_any (is_action action.now) patterns.now }
 {
-    let sought = Sought::new(Case::Folded, action, have_gaps(patterns));
-    patterns
-        .iter()
-        .any(|pattern| sought.is_matched(pattern.0.as_bytes()))
+    is_like_pattern(Case::Folded, action, patterns)
 }
 
 fn is_like_one(text: &[u8], patterns: &[Pattern]) -> bool
     ensures { result ≡ list_any (is_like text.now) patterns.now }
 {
-    let sought = Sought::new(Case::Exact, text, have_gaps(patterns));
-    patterns
-        .iter()
-        .any(|pattern| sought.is_matched(pattern.0.as_bytes()))
+    is_like_pattern(Case::Exact, text, patterns)
 }
 
 /// Whether a statement matches by its principal, its action, its resource and its condition.

@@ -3,7 +3,7 @@
 //! A walk along a pattern goes back behind a `*` for each place at which what follows doesn't match, so it may take as
 //! many steps as the text's length times the pattern's. A set of places, a bit for each, takes a few words for each
 //! character of the pattern.
-ghost use Rattle.std.specs.Prelude.{◌≡◌, ◌<◌, ◌^◌, ◌++◌, ◌∷◌, ℕ, List, [], IfSome, length};
+ghost use Rattle.std.specs.Prelude.{◌≡◌, ◌<◌, ◌^◌, ◌++◌, ◌∷◌, ℕ, List, [], true, IfSome, length};
 ghost use Rattle.sm_policy.specs.Patterns.{letters, wild};
 ghost use Rattle.sm_policy.specs.Spreads.{IsNoted, Spreads, Stand, GoOn, IsSought};
 
@@ -35,15 +35,13 @@ pub struct Spread {
 }
 
 /// The empty text.
-
-fn nothing() -> Spread
+pub(crate) fn nothing() -> Spread
     ensures { Spreads [] result }
 {
-    let rows = [[0; WORDS]; VALUES];
     Spread {
-        low: rows,
-        middle: rows,
-        high: rows,
+        low: [[0; WORDS]; VALUES],
+        middle: [[0; WORDS]; VALUES],
+        high: [[0; WORDS]; VALUES],
         all: [0; WORDS],
         length: 0,
     }
@@ -74,21 +72,33 @@ fn add(spread: &mut Spread, letter: u32)
     spread.length += 1;
 }
 
+/// Notes in an empty spread where each character of the text stands as it is compared, and says whether there was room
+/// for all of them. The spread stays where it is, since to move it would take longer than to fill it.
+pub(crate) fn spread_text(spread: &mut Spread, case: Case, text: &[u8]) -> bool
+    ensures { Spreads [] spread.old → result ≡ true → Spreads (letters case text.now) spread.new }
+{
+    let mut rest = text;
+    loop {
+        let Some((letter, next)) = first_letter(case, rest) else {
+            return true;
+        };
+        if letter >= LIMIT || spread.length >= PLACES - 1 {
+            return false;
+        }
+        add(spread, letter);
+        rest = next;
+    }
+}
+
 /// Where each character of the text stands as it is compared, or none where there are too many characters.
 pub fn spread_of(case: Case, text: &[u8]) -> Option<Spread>
     ensures { IfSome result (λ spread. Spreads (letters case text.now) spread) }
 {
     let mut spread = nothing();
-    let mut rest = text;
-    loop {
-        let Some((letter, next)) = first_letter(case, rest) else {
-            return Some(spread);
-        };
-        if letter >= LIMIT || spread.length + 1 >= PLACES {
-            return None;
-        }
-        add(&mut spread, letter);
-        rest = next;
+    if spread_text(&mut spread, case, text) {
+        Some(spread)
+    } else {
+        None
     }
 }
 
@@ -144,27 +154,25 @@ pub fn is_match_in(case: Case, pattern: &[u8], spread: &Spread) -> bool
 }
 
 /// A text that patterns are matched with.
-#[derive(Drop)]
+#[derive(Clone, Copy)]
 pub(crate) struct Sought<'a> {
     case: Case,
     text: &'a [u8],
-    /// Where its characters stand, where that is wanted and it is short enough.
-    spread: Option<Spread>,
+    /// Where its characters stand, if it is whole.
+    spread: &'a Spread,
+    is_whole: bool,
 }
 
 impl<'a> Sought<'a> {
-    /// The text, which is spread where a pattern with a gap is to be matched with it.
-    pub(crate) fn new(case: Case, text: &'a [u8], has_gaps: bool) -> Sought<'a>
-        ensures { IsSought case text.now result }
+    /// The text, and where its characters stand, if that is whole.
+    pub(crate) fn new(case: Case, text: &'a [u8], spread: &'a Spread, is_whole: bool) -> Sought<'a>
+        ensures { (is_whole ≡ true → Spreads (letters case text.now) spread.now) → IsSought case text.now result }
     {
         Sought {
             case,
             text,
-            spread: if has_gaps {
-                spread_of(case, text)
-            } else {
-                None
-            },
+            spread,
+            is_whole,
         }
     }
 
@@ -173,9 +181,10 @@ impl<'a> Sought<'a> {
         ensures { (case : Case) (text : List ℕ) → IsSought case text self.now
             → result ≡ wild (letters case pattern.now) (letters case text) }
     {
-        match &self.spread {
-            Some(spread) if has_gap(pattern) => is_match_in(self.case, pattern, spread),
-            _ => is_match(self.case, pattern, self.text),
+        if self.is_whole && has_gap(pattern) {
+            is_match_in(self.case, pattern, self.spread)
+        } else {
+            is_match(self.case, pattern, self.text)
         }
     }
 }
