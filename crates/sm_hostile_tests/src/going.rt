@@ -1,5 +1,5 @@
 //! How each row goes, with all the memory that it wants and with one growth refused.
-use crate::rows::{BODIES, ENDS, FIELDS, FIRST, LENGTHS, REQUESTS, Row};
+use crate::rows::{BODIES, ENDS, FIELDS, FIRST, LENGTHS, NOT_DENIED, REQUESTS, Row};
 use crate::sessions::{
     Heard, Kept, Reply, account_over, asked, disk, input_of, reply_bytes, session,
 };
@@ -60,10 +60,16 @@ fn go<R: Wait>(rt: &R, alloc: Global, row: &Row) -> Result<Gone, NoMemory> {
     })
 }
 
-/// The bytes of the replies of a row that are taken, with another one in a place.
-fn output_with(alloc: Global, row: &Row, place: usize, other: &Reply) -> Result<Vec<u8>, NoMemory> {
+/// The bytes of replies to a row that are taken, with another one in a place.
+fn output_with(
+    alloc: Global,
+    row: &Row,
+    replies: &[Reply],
+    place: usize,
+    other: &Reply,
+) -> Result<Vec<u8>, NoMemory> {
     let mut output = Vec::new(alloc);
-    for (number, reply) in row.replies.iter().enumerate() {
+    for (number, reply) in replies.iter().enumerate() {
         let said = if number == place { other } else { reply };
         output.extend_from_slice(reply_bytes(alloc, said)?.as_slice())?;
     }
@@ -76,7 +82,7 @@ fn output_with(alloc: Global, row: &Row, place: usize, other: &Reply) -> Result<
 
 /// The bytes of the replies of a row that are taken.
 fn output_of(alloc: Global, row: &Row) -> Result<Vec<u8>, NoMemory> {
-    output_with(alloc, row, row.replies.len(), &OUT_OF_MEMORY)
+    output_with(alloc, row, row.replies, row.replies.len(), &OUT_OF_MEMORY)
 }
 
 /// Whether a session ended as the row does, and so much was written.
@@ -107,11 +113,17 @@ fn is_cut_short(alloc: Global, row: &Row, gone: &Gone) -> Result<bool, NoMemory>
     Ok(stopped && output.as_slice().starts_with(written) && is_whole(gone))
 }
 
-/// Whether the reply in a place is one for want of memory, the server's own or that of the disk in memory. What a fault
-/// of the disk leaves there is all or nothing at each crash.
-fn is_refused_at(alloc: Global, row: &Row, gone: &Gone, place: usize) -> Result<bool, NoMemory> {
-    let unavailable = output_with(alloc, row, place, &OUT_OF_MEMORY)?;
-    let faulty = output_with(alloc, row, place, &DISK_FAULT)?;
+/// Whether the replies are these, and the one in a place is one for want of memory, the server's own or that of the
+/// disk in memory. What a fault of the disk leaves there is all or nothing at each crash.
+fn is_refused_at(
+    alloc: Global,
+    row: &Row,
+    gone: &Gone,
+    replies: &[Reply],
+    place: usize,
+) -> Result<bool, NoMemory> {
+    let unavailable = output_with(alloc, row, replies, place, &OUT_OF_MEMORY)?;
+    let faulty = output_with(alloc, row, replies, place, &DISK_FAULT)?;
     Ok(
         is_heard(row, &gone.heard, unavailable.as_slice()) && is_whole(gone)
             || is_heard(row, &gone.heard, faulty.as_slice())
@@ -120,17 +132,17 @@ fn is_refused_at(alloc: Global, row: &Row, gone: &Gone, place: usize) -> Result<
 }
 
 /// Whether a row goes as it may where one growth is refused: as the table has it, or with one reply for want of memory
-/// in the place of another, or cut short.
+/// in the place of another, or cut short. Where the policy of a row was refused so, it denies nothing.
 fn is_as_allowed(alloc: Global, row: &Row, gone: &Gone) -> Result<bool, NoMemory> {
     if is_as_tabled(alloc, row, gone)? || is_cut_short(alloc, row, gone)? {
         return Ok(true);
     }
     for place in 0..row.replies.len() {
-        if is_refused_at(alloc, row, gone, place)? {
+        if is_refused_at(alloc, row, gone, row.replies, place)? {
             return Ok(true);
         }
     }
-    Ok(false)
+    Ok(row.denies() && is_refused_at(alloc, row, gone, &NOT_DENIED, 0)?)
 }
 
 /// Whether a row goes as it must, with all the memory that it wants or with one growth refused.

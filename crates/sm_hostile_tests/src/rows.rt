@@ -80,6 +80,16 @@ const VALUE: Reply = (
         \"VersionStages\":[\"AWSCURRENT\"]}",
 );
 
+/// What the rows with a denial answer where their policy was not put.
+pub const NOT_DENIED: [Reply; 2] = [POLICY_PUT, VALUE];
+
+impl Row {
+    /// Whether a reply of it is a denial, which is none where what the row makes was refused.
+    pub fn denies(&self) -> bool {
+        self.replies.iter().any(|reply| reply.1 == DENIED.1)
+    }
+}
+
 /// What makes the secret that every row finds.
 pub static FIRST: [Sent; 1] = [Sent::Message(
     "CreateSecret",

@@ -20,6 +20,7 @@ pub behind_more : (given : Given) (more : List Given) (old middle new : List Tok
     → new ≡ members_behind (given ∷ more) old
 behind_more given more old middle new goes others = others ∙ ap (members_behind more) goes
 
+-- members behind others, with the bracket that ends them
 closed : (members : Members) (tokens : List Token)
     → behind members tokens ++ Token.end_object ∷ [] ≡ tokens ++ members_tokens (members_outline members)
 closed no_members tokens = refl
@@ -28,6 +29,7 @@ closed (member name value members) tokens =
     ∙ append_assoc (tokens ++ Token.key name ∷ []) (value_tokens value) (members_tokens (members_outline members))
     ∙ append_assoc tokens (Token.key name ∷ []) (value_tokens value ++ members_tokens (members_outline members))
 
+-- those that are there
 given_behind : (given : List Given) (tokens : List Token)
     → members_behind given tokens ≡ behind (members_of given) tokens
 given_behind [] tokens = refl
@@ -35,6 +37,7 @@ given_behind ((name, None) ∷ more) tokens = given_behind more tokens
 given_behind ((name, Some value) ∷ more) tokens =
     given_behind more ((tokens ++ Token.key name ∷ []) ++ value_tokens value)
 
+-- an object, by its members
 pub members_written : (members : Members) (old begun middle new : List Token) → begun ≡ old ++ Token.begin_object ∷ []
     → middle ≡ behind members begun → new ≡ middle ++ Token.end_object ∷ []
     → new ≡ old ++ value_tokens (object members)
@@ -45,6 +48,7 @@ members_written members old begun middle new begins goes ends =
     ∙ ap (λ tokens. tokens ++ members_tokens (members_outline members)) begins
     ∙ append_assoc old (Token.begin_object ∷ []) (members_tokens (members_outline members))
 
+-- an object, by its members where they are there
 pub object_written : (given : List Given) (old begun middle new : List Token) → begun ≡ old ++ Token.begin_object ∷ []
     → middle ≡ members_behind given begun → new ≡ middle ++ Token.end_object ∷ []
     → new ≡ old ++ value_tokens (object (members_of given))
@@ -64,6 +68,7 @@ text_written given old begun middle new text none begins goes ends is =
 -- ---- lists
 
 module _ {A : Type 0} (shows : A → Data) where
+  -- items behind others, with the bracket that ends them
   items_closed : (parts : List A) (tokens : List Token) → items_behind shows parts tokens ++ Token.end_array ∷ []
       ≡ tokens ++ items_tokens (items_outline (items_of shows parts))
   items_closed [] tokens = refl
@@ -71,6 +76,7 @@ module _ {A : Type 0} (shows : A → Data) where
       items_closed parts (tokens ++ value_tokens (shows part))
       ∙ append_assoc tokens (value_tokens (shows part)) (items_tokens (items_outline (items_of shows parts)))
 
+  -- a list, by its items
   pub array_written : (parts : List A) (old begun middle new : List Token) → begun ≡ old ++ Token.begin_array ∷ []
       → middle ≡ items_behind shows parts begun → new ≡ middle ++ Token.end_array ∷ []
       → new ≡ old ++ value_tokens (array (items_of shows parts))
