@@ -36,6 +36,8 @@ SIZES = [1, 5, 10, 20, 40]
 WEIGHTS = {"CreateSecret": 2, "PutSecretValue": 4, "UpdateSecret": 2, "DeleteSecret": 1, "RestoreSecret": 1}
 WEIGHTS |= {"UpdateSecretVersionStage": 5, "TagResource": 1, "UntagResource": 1, "RotateSecret": 6}
 WEIGHTS |= {"PutResourcePolicy": 2, "DeleteResourcePolicy": 1, "CancelRotateSecret": 0.5}
+# Those of the second format.
+WEIGHTS_OF_THE_SECOND = {"ReplicateSecretToRegions": 1, "RemoveRegionsFromReplication": 0.5}
 PERSONS = [model.ROOT, model.ROOT._replace(key="ADA"), model.ROOT._replace(key="é" * 9)]
 STEPS = [0, 1, 2, 3, 100]
 MOVES = [1, 60, DAY, 30 * DAY, 1001 * DAY]
@@ -87,7 +89,8 @@ class Forger:
 
     def go_on(self, account, first=()):
         """Asks an account for changes."""
-        operations = self.random.choices(list(WEIGHTS), list(WEIGHTS.values()), k=self.random.choice(SIZES))
+        weights = WEIGHTS | (WEIGHTS_OF_THE_SECOND if self.edition == 2 else {})
+        operations = self.random.choices(list(weights), list(weights.values()), k=self.random.choice(SIZES))
         for operation in [*first, *operations]:
             account.clock = min(account.clock + self.random.choice(WAITS), formats.LAST_MOMENT)
             person = self.random.choice(PERSONS)
@@ -107,6 +110,8 @@ class Forger:
     def members(self, account, operation):
         """The members of a request, which mostly names a secret that is there."""
         members = self.streams.members(operation, account)
+        if self.edition == 1:
+            members.pop("AddReplicaRegions", None)
         if operation == "RotateSecret" and self.random.random() < 0.5:
             members["RotationRules"] = {"AutomaticallyAfterDays": self.random.choice([1, 30])}
         if "SecretId" in members and account.secrets and self.random.random() < 0.8:
@@ -185,7 +190,7 @@ class Forger:
             "integer": lambda: choice([7, 30, 8, 6, 31, 0, -1]),
             "rules": self.rules,
             "tags": lambda: [(tag["Key"], tag.get("Value", "")) for tag in streams.tags()],
-            "texts": lambda: streams.keys() if name == "TagKeys" else self.labels(),
+            "texts": {"TagKeys": streams.keys, "VersionStages": self.labels}.get(name, streams.region_names),
             "token": lambda: choice([streams.token() for _ in range(5)] + ["t" * 31]),
         }
         return values[kind]() if kind in values else self.value_of_a_row(kind, before)
@@ -544,7 +549,7 @@ def reached_by(files):
 def lacking(reached, bases=None):
     """What no journal reached: an act that was legal, one that was not, or another damage."""
     bases = stores.BASES if bases is None else bases
-    acts, places = formats.acts_of(1), ["the header", "a record", "an entry"] + (["a snapshot"] if bases else [])
+    acts, places = formats.acts_of(2 if bases else 1), ["the header", "a record", "an entry"] + (["a snapshot"] if bases else [])
     wanted = [("opened", act) for act in acts] + [("damaged", why) for why in acts + places]
     wanted += [DELETION_OF_NOBODY, OLD_VERSIONS]
     return [" ".join(it) for it in wanted if not reached[it]]

@@ -31,6 +31,8 @@ TURN_LIMIT = 100
 HEAD_LIMIT = 16384
 SECRETS_LIMIT = 10000
 VERSIONS_LIMIT = 1000
+# How many replica regions a secret has at most, and a request names.
+REGIONS_LIMIT = 20
 # A serial, or a count of entries, that is never given.
 NO_NUMBER = 2**64 - 1
 FIELD_LIMIT = 64
@@ -57,8 +59,11 @@ MEMBERS = {
     "ListSecrets": "Filters filters, IncludePlannedDeletion truth, MaxResults integer, NextToken text, SortOrder text",
     "PutResourcePolicy": "BlockPublicPolicy truth, ResourcePolicy* text, SecretId* text",
     "PutSecretValue": "ClientRequestToken text, SecretBinary bytes, SecretId* text, SecretString text, VersionStages texts",
+    "RemoveRegionsFromReplication": "RemoveReplicaRegions* texts, SecretId* text",
+    "ReplicateSecretToRegions": "AddReplicaRegions* regions, SecretId* text",
     "RestoreSecret": "SecretId* text",
     "RotateSecret": "ClientRequestToken text, RotateImmediately truth, RotationLambdaARN text, RotationRules rules, SecretId* text",
+    "StopReplicationToReplica": "SecretId* text",
     "TagResource": "SecretId* text, Tags* tags",
     "UntagResource": "SecretId* text, TagKeys* texts",
     "UpdateSecret": "ClientRequestToken text, Description text, KmsKeyId text, SecretBinary bytes, SecretId* text, SecretString text",
@@ -68,10 +73,13 @@ MEMBERS = {
 
 # Truth values that are true where they are absent.
 TRUE_IF_ABSENT = {"RequireEachIncludedType", "RotateImmediately"}
+# What is refused of each secret, since all are the account's own.
+ALWAYS_REFUSED = {"StopReplicationToReplica"}
 # What works on a secret that is scheduled for deletion, beside a forced deletion.
 ON_SCHEDULED = {"DescribeSecret", "GetResourcePolicy", "ListSecretVersionIds", "RestoreSecret", "ValidateResourcePolicy"}
 
 PAGE_TOKEN = re.compile(r"[sv](0|[1-9][0-9]*)")
+REGION = re.compile(r"[a-z0-9-]{1,32}")
 
 
 class Refusal(Exception):
@@ -91,6 +99,7 @@ ERRORS = {
     "no credential": "AccessDeniedException",
     "no statement allows": "AccessDeniedException",
     "secret has no current value": "InvalidRequestException",
+    "secret is not a replica": "InvalidRequestException",
     "secret not found": "ResourceNotFoundException",
     "signature: Authorization": "AccessDeniedException",
     "signature: Date": "AccessDeniedException",
@@ -124,6 +133,7 @@ KINDS = set(ERRORS) | {
     "label is held by no version",
     "secret is scheduled for deletion at _",
     "limit of 20 labels",
+    "limit of 20 regions",
     "limit of 50 tags",
     "limit of 1000 versions",
     "limit of 10000 secrets",
@@ -176,6 +186,10 @@ def are_tags(tags):
     return fits and len({key for key, _ in tags}) == len(tags)
 
 
+def are_regions(names):
+    return len(names) <= REGIONS_LIMIT and all(map(REGION.fullmatch, names))
+
+
 def is_secret_id(text):
     return bool((ARN if text.startswith("arn:") else NAME).fullmatch(text))
 
@@ -200,6 +214,7 @@ def are_rules(rules):
 
 
 FORMS = {
+    "AddReplicaRegions": are_regions,
     "ClientRequestToken": is_token,
     "Description": is_description,
     "ExcludeCharacters": lambda text: len(text) <= 4096,
@@ -219,6 +234,7 @@ FORMS = {
     "RecoveryWindowInDays": lambda days: 7 <= days <= 30,
     "BlockPublicPolicy": is_truth,
     "RemoveFromVersionId": is_token,
+    "RemoveReplicaRegions": are_regions,
     "RequireEachIncludedType": is_truth,
     "ResourcePolicy": lambda text: 1 <= len(text) <= 20480,
     "RotateImmediately": is_truth,
@@ -342,17 +358,15 @@ def read_rules(value):
     return Rules(*days or [None], *schedule or [None])
 
 
-def read_regions(value):
-    if of_type(list)(value):
-        raise LeftOut
-    return value
+def read_region(value):
+    return inner(value, "Region", of_type(str))
 
 
 READERS = {
     "bytes": read_bytes,
     "filters": read_list(read_filter),
     "integer": read_integer,
-    "regions": read_regions,
+    "regions": read_list(read_region),
     "rules": read_rules,
     "tags": read_list(read_tag),
     "text": of_type(str),
@@ -380,7 +394,7 @@ def read_member(given, name, kind):
 def members_of(operation, body):
     given = object_of(body)
     members = [pair for member in MEMBERS[operation].split(", ") for pair in read_member(given, *member.split(" "))]
-    return {name: value for name, value in members if name != "AddReplicaRegions"}
+    return dict(members)
 
 
 def value_in(members):
@@ -831,6 +845,8 @@ class Secret:
         self.labels = []
         self.deletion = None
         self.policy = None
+        # The replica regions, in order of adding.
+        self.regions = []
         self.is_rotated = False
         self.rules = Rules()
         self.next_rotation = None
@@ -949,6 +965,13 @@ class Secret:
     def named(self):
         return {"ARN": self.arn, "Name": self.name}
 
+    def replicas(self):
+        """The replica regions as they are shown."""
+        return [{"Region": region, "Status": "InProgress"} for region in self.regions]
+
+    def replicas_if_some(self):
+        return {"ReplicationStatus": self.replicas()} if self.regions else {}
+
 
 class Illegal(Exception):
     """An entry of a journal would not have been made where it stands."""
@@ -958,7 +981,7 @@ class Account:
     """One account, which answers one message after the other. It counts what it reached: (operation, how it was answered).
     Its entries are spelled in a format."""
 
-    def __init__(self, people=b"", edition=1):
+    def __init__(self, people=b"", edition=2):
         self.people = People(people)
         self.edition = edition
         self.claimed = set()
@@ -994,7 +1017,8 @@ class Account:
 
     def enter(self, person, drawn, act, fields, secret=None):
         """Keeps an entry, which changed a secret if one is named."""
-        entry = Entry(self.moment, person.key, bytes(drawn), self.prunes, act, as_counted(act, fields), person.arn)
+        fields = renamed(as_counted(act, fields), OF_REGIONS.get(act), "Regions")
+        entry = Entry(self.moment, person.key, bytes(drawn), self.prunes, act, fields, person.arn)
         self.entries.append(formats.spelled_entry(entry, self.edition))
         self.last = self.moment
         if secret is not None:
@@ -1064,7 +1088,7 @@ class Account:
 
     def again(self, entry):
         """Does once more what an entry of a journal did, if it is legal there: it would be accepted, and is no repeat."""
-        if entry.moment < self.last or self.count() == NO_NUMBER or speaks_of_regions(entry):
+        if entry.moment < self.last or self.count() == NO_NUMBER:
             raise Illegal
         self.begin(entry.moment)
         self.prunes = entry.prunes
@@ -1097,7 +1121,7 @@ class Account:
         if len(entry.drawn) != needed(entry.act, entry.fields):
             raise Illegal
         count, person = len(self.entries), Person(entry.caller, True, entry.by)
-        members = {name: value for name, value in entry.fields.items() if name != "AddReplicaRegions"}
+        members = renamed(entry.fields, "Regions", OF_REGIONS.get(entry.act))
         try:
             test_forms(entry.act, members)
             self.act(person, entry.act, members, entry.drawn)
@@ -1229,6 +1253,7 @@ class Account:
             secret = Secret(self, self.made, members["Name"], f"{ARN_BEGINNING}{members['Name']}-{suffix}", tags)
             self.made += 1
             secret.say(members)
+            secret.regions = once(members.get("AddReplicaRegions", []))
             self.secrets.append(secret)
             self.enter(person, drawn, "CreateSecret", members, secret)
             if value is not None:
@@ -1238,7 +1263,7 @@ class Account:
             raise scheduled(secret.deletion)
         elif value is None or secret.versions.get(token) != value:
             raise Refusal("ResourceExistsException", f"secret {secret.name} exists", "secret _ exists")
-        return secret.named() | ({} if value is None else {"VersionId": token})
+        return secret.named() | secret.replicas_if_some() | ({} if value is None else {"VersionId": token})
 
 
 # ---- entries
@@ -1250,9 +1275,18 @@ def as_counted(act, fields):
     return {name: name in TRUE_IF_ABSENT for name in truths} | fields
 
 
-def speaks_of_regions(entry):
-    """Whether an entry speaks of regions, which nothing makes yet."""
-    return entry.act in formats.OF_THE_SECOND or bool(entry.fields.get("AddReplicaRegions"))
+# The member that is the field Regions of an act.
+OF_REGIONS = {"RemoveRegionsFromReplication": "RemoveReplicaRegions", "ReplicateSecretToRegions": "AddReplicaRegions"}
+
+
+def renamed(fields, old, new):
+    """The same fields, of which one has another name, if it is there."""
+    return {new if name == old and new is not None else name: value for name, value in fields.items()}
+
+
+def once(names):
+    """Each name once, where it came first."""
+    return list(dict.fromkeys(names))
 
 
 def get(secret, members):
@@ -1283,6 +1317,7 @@ def describe(secret, members):
     rules = {"AutomaticallyAfterDays": secret.rules.days, "ScheduleExpression": secret.rules.schedule}
     if secret.rules != Rules():
         shown["RotationRules"] = {name: rule for name, rule in rules.items() if rule is not None}
+    shown |= secret.replicas_if_some()
     return secret.named() | secret.said | shown | {"Tags": [{"Key": key, "Value": value} for key, value in secret.tags]}
 
 
@@ -1360,6 +1395,24 @@ def untag(secret, members, drawn):
     return None, True
 
 
+def replicate(secret, members, drawn):
+    regions = once(secret.regions + members["AddReplicaRegions"])
+    if len(regions) > REGIONS_LIMIT:
+        raise limit_of(REGIONS_LIMIT, "regions")
+    secret.regions = regions
+    return {"ARN": secret.arn, "ReplicationStatus": secret.replicas()}, True
+
+
+def take_regions(secret, members, drawn):
+    secret.regions = [region for region in secret.regions if region not in members["RemoveReplicaRegions"]]
+    return {"ARN": secret.arn, "ReplicationStatus": secret.replicas()}, True
+
+
+def stop(secret, members):
+    """A secret of its own account is no replica."""
+    raise refusal("secret is not a replica")
+
+
 def move(secret, members, drawn):
     label, target, source = members["VersionStage"], members.get("MoveToVersionId"), members.get("RemoveFromVersionId")
     for version in (source, target):
@@ -1434,8 +1487,14 @@ def cancel(secret, members, drawn):
     return secret.named() | dropped, True
 
 
-# What the operations answer that only read a secret.
-READS = {"DescribeSecret": describe, "GetResourcePolicy": get_policy, "GetSecretValue": get, "ListSecretVersionIds": list_versions}
+# What the operations answer that change no secret.
+READS = {
+    "DescribeSecret": describe,
+    "GetResourcePolicy": get_policy,
+    "GetSecretValue": get,
+    "ListSecretVersionIds": list_versions,
+    "StopReplicationToReplica": stop,
+}
 # What the operations do that change a secret: the reply, and whether anything changed.
 CHANGES = {
     "CancelRotateSecret": cancel,
@@ -1444,6 +1503,8 @@ CHANGES = {
     "PutResourcePolicy": put_policy,
     "RotateSecret": rotate,
     "PutSecretValue": put,
+    "RemoveRegionsFromReplication": take_regions,
+    "ReplicateSecretToRegions": replicate,
     "RestoreSecret": restore,
     "TagResource": tag,
     "UntagResource": untag,

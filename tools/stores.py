@@ -37,8 +37,8 @@ def row_of(secret):
     row = formats.Row(
         secret.number, secret.arn, secret.name, secret.created, secret.changed, said("Description"), said("KmsKeyId"),
         secret.tags, len(secret.versions), secret.given, secret.labels, secret.deletion, secret.is_rotated,
-        said("RotationLambdaARN"), *secret.rules, secret.next_rotation, said("LastRotatedDate"), secret.policy, [],
-        secret.job,
+        said("RotationLambdaARN"), *secret.rules, secret.next_rotation, said("LastRotatedDate"), secret.policy,
+        secret.regions, secret.job,
     )
     return formats.Kept(row, [version_of(secret, version) for version in secret.versions])
 
@@ -62,6 +62,7 @@ def secret_of(account, kept):
     secret.created, secret.changed, secret.deletion, secret.policy = row.created, row.changed, row.deletion, row.policy
     secret.is_rotated, secret.rules, secret.next_rotation = row.enabled, model.Rules(row.days, row.schedule), row.next_date
     secret.labels, secret.given, secret.job = list(row.labels), row.next_version, row.job
+    secret.regions = list(row.regions)
     said = {"Description": row.description, "KmsKeyId": row.kms, "RotationLambdaARN": row.rotator}
     said["LastRotatedDate"] = row.last_date
     secret.said = {name: value for name, value in said.items() if value is not None}

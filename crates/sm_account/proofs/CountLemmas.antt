@@ -1,31 +1,23 @@
 -- How many entries an account has, and what they are counted from.
-use Rattle.std.proofs.Common.{◌≡◌, ◌+◌, ◌≤◌, List, [], ◌∷◌, length, length-append, sym, ap, subst, arith}
+use Rattle.std.proofs.Common.{◌≡◌, ◌+◌, ◌≤◌, length, length-append, sym, ap, subst, arith}
 use Rattle.std.proofs.Math.Logic.{∥∥₁_elim}
 use Rattle.std.proofs.Props.{props}
 use native.Mathlib.Bridge.{le_prop}
 use Rattle.sm_disk.specs.declared.disk.Disk.{Ghosts}
-use Rattle.sm_model.specs.declared.rows.SecretRow.{SecretRow}
 use Rattle.sm_opening.specs.Lawful.{base_under}
 use Rattle.sm_record.specs.declared.base.Base.{Base}
 use Rattle.sm_replay.specs.Following.{entries_limit}
 use Rattle.sm_replay.proofs.FollowLemmas.{after_count}
-use Rattle.sm_sound.specs.Bases.{EachPlain, IsPlain, IsSound}
+use Rattle.sm_sound.specs.Bases.{IsSound}
 use Rattle.sm_table.proofs.PropLemmas.{Sound-prop}
 use Rattle.sm_account.specs.declared.books.Books.{Books}
 use Rattle.sm_account.specs.Books.{Kept, history_in, state_in}
 use Rattle.sm_account.specs.History.{entries_in}
 use Rattle.sm_account.specs.States.{State}
 
-plain_row_prop : (row : SecretRow) → IsProp (IsPlain row)
-plain_row_prop row = Prim.hlevel props
-
-plain_prop : (rows : List SecretRow) → IsProp (EachPlain rows)
-plain_prop [] = Prim.hlevel props
-plain_prop (r ∷ rs) = Prim.hlevel (plain_row_prop r, plain_prop rs, props)
-
 -- that a base is sound has one proof at most
 sound_prop : (base : Base) → IsProp (IsSound base)
-sound_prop base = Prim.hlevel (Sound-prop, plain_prop base.rows.secrets, props)
+sound_prop base = Prim.hlevel (Sound-prop, props)
 
 module _ {D : Type 0} {G : Ghosts D} (books : Books D G) (kept : Kept G books) where
   -- the entries behind the base, and those before it

@@ -28,8 +28,7 @@ use Rattle.sm_record.specs.Requests.{regions}
 use Rattle.sm_record.specs.Rows.{name, label, date, octet, days, pair, job, rotation, named, described, counted, ruled, row_head, version, named_of, described_of, counted_of, ruled_of, head_of_row}
 use Rattle.sm_record.specs.declared.edition.Edition.TheVariants.{Second}
 use Rattle.sm_sizes.specs.Texts.{ValueText}
-use Rattle.sm_sizes.proofs.FieldSizes.{octets_size, octets_fits, truth_size, truth_fits, optional_size, optional_fits, name_size, description_size, label_size, policy_size, tag_list_size, tag_list_fits, arn_field_size, arn_field_fits, token_field_size, token_field_fits, stage_size, stage_fits, value_size, value_fits}
-use Rattle.sm_sound.specs.Bases.{IsPlain}
+use Rattle.sm_sizes.proofs.FieldSizes.{octets_size, octets_fits, truth_size, truth_fits, optional_size, optional_fits, name_size, description_size, label_size, policy_size, tag_list_size, tag_list_fits, arn_field_size, arn_field_fits, token_field_size, token_field_fits, stage_size, stage_fits, value_size, value_fits, regions_size, regions_fit}
 use Rattle.sm_bodies.specs.Typed.{VersionTyped, PairTyped, PairsTyped, RowTyped}
 
 -- ---- numbers and dates
@@ -394,8 +393,7 @@ name_field_fits : (t : List ℕ) → is_name t ≡ true → name.fits t ≡ true
 unfolding name
 name_field_fits t is = and_from _ _ is (octets_fits t (omega (arith, name_size t is)))
 
-module _ (row : SecretRow) (typed : RowTyped row) (sound : RowSound row) (plain : IsPlain row)
-    (small : row.serial < 2 ^ 64) where
+module _ (row : SecretRow) (typed : RowTyped row) (sound : RowSound row) (small : row.serial < 2 ^ 64) where
   named_fits : named.fits (named_of row) ≡ true
   unfolding named
   named_fits =
@@ -474,13 +472,8 @@ module _ (row : SecretRow) (typed : RowTyped row) (sound : RowSound row) (plain 
         date_may_size row.deletion,
       )
 
-  regions_fit : (regions Second).fits row.regions ≡ true
-  unfolding listed count
-  regions_fit = rw plain.regions refl
-
-  regions_size : length ((regions Second).spell row.regions) ≡ 4
-  unfolding listed count
-  regions_size = rw plain.regions refl
+  regions_few : length ((regions Second).spell row.regions) ≤ 724
+  regions_few = regions_size row.regions sound.fits.regions
 
   ruled_fits : (ruled Second).fits (ruled_of row) ≡ true
   unfolding ruled
@@ -488,9 +481,10 @@ module _ (row : SecretRow) (typed : RowTyped row) (sound : RowSound row) (plain 
       and_from _ _
       (optional_fits row.policy 81920 (omega arith) typed.texts.policy
       (policy_few row.policy typed.texts.policy sound.fits.policy))
-      (and_from _ _ regions_fit (job_may_fit row row.job typed.job sound.kept.job sound.fits.job))
+      (and_from _ _ (regions_fit row.regions sound.fits.regions)
+      (job_may_fit row row.job typed.job sound.kept.job sound.fits.job))
 
-  ruled_size : length ((ruled Second).spell (ruled_of row)) ≤ 82010
+  ruled_size : length ((ruled Second).spell (ruled_of row)) ≤ 82730
   unfolding ruled
   ruled_size =
       let tried : List ℕ = (optional job).spell row.job in
@@ -499,7 +493,7 @@ module _ (row : SecretRow) (typed : RowTyped row) (sound : RowSound row) (plain 
         length-append ((optional text).spell row.policy) ((regions Second).spell row.regions ++ tried),
         length-append ((regions Second).spell row.regions) tried,
         optional_size row.policy 81920 (policy_few row.policy typed.texts.policy sound.fits.policy),
-        regions_size,
+        regions_few,
         job_may_size row.job typed.job,
       )
 
@@ -510,7 +504,7 @@ module _ (row : SecretRow) (typed : RowTyped row) (sound : RowSound row) (plain 
       (and_from _ _ (rotation_fits row.rotation typed.texts.lambda typed.texts.schedule sound.fits.rotation)
       ruled_fits))))
 
-  pub head_size : length ((row_head Second).spell (head_of_row row)) ≤ 211000
+  pub head_size : length ((row_head Second).spell (head_of_row row)) ≤ 212000
   unfolding row_head
   head_size =
       let rules : List ℕ = (ruled Second).spell (ruled_of row) in

@@ -16,7 +16,7 @@ use Rattle.sm_record.specs.Series.{one}
 use Rattle.sm_record.specs.Snapshots.{snapshot, has_snapshot, HasSnapshot}
 use Rattle.sm_record.specs.declared.base.Base.{Base}
 use Rattle.sm_record.specs.declared.edition.Edition.TheVariants.{Second}
-use Rattle.sm_sound.specs.Bases.{IsPlain, EachPlain, IsSound}
+use Rattle.sm_sound.specs.Bases.{IsSound}
 use Rattle.sm_bodies.specs.Typed.{VersionsTyped, RowTyped, RowsTyped, BaseTyped}
 use Rattle.sm_bodies.proofs.BodySizes.{long_size, long_fits, version_fits, version_size, head_fits, head_size}
 
@@ -67,12 +67,11 @@ versions_within (v ∷ vs) typed each =
 
 -- ---- one secret
 
-module _ (row : SecretRow) (typed : RowTyped row) (sound : RowSound row) (plain : IsPlain row)
-    (small : row.serial < 2 ^ 64) where
+module _ (row : SecretRow) (typed : RowTyped row) (sound : RowSound row) (small : row.serial < 2 ^ 64) where
   secret_fits : (secret Second).fits row ≡ true
   unfolding secret
   secret_fits =
-      and_from _ _ (head_fits row typed sound plain small)
+      and_from _ _ (head_fits row typed sound small)
       (and_from _ _ (eq-eqb (length row.versions) (length row.versions) refl)
       (versions_fit row.versions 0 row.next_version typed.versions sound.fits.versions sound.kept.versions.serials
       typed.next))
@@ -80,16 +79,16 @@ module _ (row : SecretRow) (typed : RowTyped row) (sound : RowSound row) (plain 
   secret_within : AreWithin ((secret Second).spell row)
   unfolding secret
   secret_within = (
-    omega (arith, head_size row typed sound plain small),
+    omega (arith, head_size row typed sound small),
     versions_within row.versions typed.versions sound.fits.versions,
   )
 
-  secret_size : size ((secret Second).spell row) ≤ 65916005
+  secret_size : size ((secret Second).spell row) ≤ 65917005
   unfolding secret
   secret_size =
       omega (
         arith,
-        head_size row typed sound plain small,
+        head_size row typed sound small,
         versions_size row.versions typed.versions sound.fits.versions,
         sound.version_count,
       )
@@ -97,36 +96,36 @@ module _ (row : SecretRow) (typed : RowTyped row) (sound : RowSound row) (plain 
 -- ---- all secrets
 
 module _ (next : ℕ) (few : next < 2 ^ 64) where
-  rows_fit : (secrets : List SecretRow) (low : ℕ) → RowsTyped secrets → EachSound secrets → EachPlain secrets
+  rows_fit : (secrets : List SecretRow) (low : ℕ) → RowsTyped secrets → EachSound secrets
       → rises low (row_serials secrets) next ≡ true → list_all (secret Second).fits secrets ≡ true
-  rows_fit [] low typed sound plain rising = refl
-  rows_fit (r ∷ rs) low typed sound plain rising =
+  rows_fit [] low typed sound rising = refl
+  rows_fit (r ∷ rs) low typed sound rising =
       let serials = and_parts (leb low r.serial) (rises (r.serial + 1) (row_serials rs) next) rising in
       let small : r.serial < 2 ^ 64 = omega (arith, above (r.serial + 1) (row_serials rs) next serials.1, few) in
-      and_from _ _ (secret_fits r typed.0 sound.0 plain.0 small)
-      (rows_fit rs (r.serial + 1) typed.1 sound.1 plain.1 serials.1)
+      and_from _ _ (secret_fits r typed.0 sound.0 small)
+      (rows_fit rs (r.serial + 1) typed.1 sound.1 serials.1)
 
-  rows_within : (secrets : List SecretRow) (low : ℕ) → RowsTyped secrets → EachSound secrets → EachPlain secrets
+  rows_within : (secrets : List SecretRow) (low : ℕ) → RowsTyped secrets → EachSound secrets
       → rises low (row_serials secrets) next ≡ true → AreWithin (flat_map (secret Second).spell secrets)
-  rows_within [] low typed sound plain rising = tt
-  rows_within (r ∷ rs) low typed sound plain rising =
+  rows_within [] low typed sound rising = tt
+  rows_within (r ∷ rs) low typed sound rising =
       let serials = and_parts (leb low r.serial) (rises (r.serial + 1) (row_serials rs) next) rising in
       let small : r.serial < 2 ^ 64 = omega (arith, above (r.serial + 1) (row_serials rs) next serials.1, few) in
       within_append ((secret Second).spell r) (flat_map (secret Second).spell rs)
-      (secret_within r typed.0 sound.0 plain.0 small) (rows_within rs (r.serial + 1) typed.1 sound.1 plain.1 serials.1)
+      (secret_within r typed.0 sound.0 small) (rows_within rs (r.serial + 1) typed.1 sound.1 serials.1)
 
-  rows_size : (secrets : List SecretRow) (low : ℕ) → RowsTyped secrets → EachSound secrets → EachPlain secrets
+  rows_size : (secrets : List SecretRow) (low : ℕ) → RowsTyped secrets → EachSound secrets
       → rises low (row_serials secrets) next ≡ true
-      → size (flat_map (secret Second).spell secrets) ≤ 65916005 * length secrets
-  rows_size [] low typed sound plain rising = omega arith
-  rows_size (r ∷ rs) low typed sound plain rising =
+      → size (flat_map (secret Second).spell secrets) ≤ 65917005 * length secrets
+  rows_size [] low typed sound rising = omega arith
+  rows_size (r ∷ rs) low typed sound rising =
       let serials = and_parts (leb low r.serial) (rises (r.serial + 1) (row_serials rs) next) rising in
       let small : r.serial < 2 ^ 64 = omega (arith, above (r.serial + 1) (row_serials rs) next serials.1, few) in
       omega (
         arith,
         size_append ((secret Second).spell r) (flat_map (secret Second).spell rs),
-        secret_size r typed.0 sound.0 plain.0 small,
-        rows_size rs (r.serial + 1) typed.1 sound.1 plain.1 serials.1,
+        secret_size r typed.0 sound.0 small,
+        rows_size rs (r.serial + 1) typed.1 sound.1 serials.1,
       )
 
 -- ---- the start
@@ -164,14 +163,14 @@ module _ (base : Base) (typed : BaseTyped base) (sound : IsSound base) where
   sound_spelled =
       and_from _ _ start_fits
       (and_from _ _ (eq-eqb (length base.rows.secrets) (length base.rows.secrets) refl)
-      (rows_fit base.rows.next typed.next base.rows.secrets 0 typed.rows sound.rows.each sound.plain
+      (rows_fit base.rows.next typed.next base.rows.secrets 0 typed.rows sound.rows.each
       sound.rows.serials))
 
   pub sound_within : AreWithin (snapshot Second base)
   unfolding snapshot rows
   sound_within = (
     omega (arith, start_size),
-    rows_within base.rows.next typed.next base.rows.secrets 0 typed.rows sound.rows.each sound.plain
+    rows_within base.rows.next typed.next base.rows.secrets 0 typed.rows sound.rows.each
         sound.rows.serials,
   )
 
@@ -181,7 +180,7 @@ module _ (base : Base) (typed : BaseTyped base) (sound : IsSound base) where
       omega (
         arith,
         start_size,
-        rows_size base.rows.next typed.next base.rows.secrets 0 typed.rows sound.rows.each sound.plain
+        rows_size base.rows.next typed.next base.rows.secrets 0 typed.rows sound.rows.each
             sound.rows.serials,
         sound.rows.count,
       )

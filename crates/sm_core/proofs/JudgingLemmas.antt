@@ -40,6 +40,9 @@ use Rattle.sm_policies.proofs.DeleteResourcePolicyLemmas.{delete_policy_refuses,
 use Rattle.sm_policies.proofs.GetResourcePolicyLemmas.{get_policy_refuses, get_policy_reads, get_policy_change}
 use Rattle.sm_policies.proofs.PutResourcePolicyLemmas.{put_policy_refuses, put_policy_changes, put_policy_change}
 use Rattle.sm_policies.proofs.ValidateResourcePolicyLemmas.{validate_refuses, validate_reads, validate_change}
+use Rattle.sm_regions.proofs.RemoveRegionsFromReplicationLemmas.{remove_refuses, remove_changes, remove_change}
+use Rattle.sm_regions.proofs.ReplicateSecretToRegionsLemmas.{replicate_refuses, replicate_changes, replicate_change}
+use Rattle.sm_regions.proofs.StopReplicationToReplicaLemmas.{stop_refuses, stop_reads, stop_change}
 use Rattle.sm_rotations.proofs.CancelRotateSecretLemmas.{cancel_refuses, cancel_changes, cancel_change}
 use Rattle.sm_rotations.proofs.RotateSecretLemmas.{rotate_refuses, rotate_repeats, rotate_change}
 use Rattle.sm_upkeep.specs.DeleteSecret.{delete_judgement, deletes_nobody}
@@ -63,9 +66,10 @@ is_refused question rows when drawn (requests.GetSecretValue get) = get_refuses 
 is_refused question rows when drawn (requests.ListSecretVersionIds list) = versions_refuses rows when.moment list
 is_refused question rows when drawn (requests.ListSecrets list) = list_refuses rows when.moment list
 is_refused question rows when drawn (requests.PutSecretValue put) = put_refuses rows when drawn put
-is_refused question rows when drawn (requests.RemoveRegionsFromReplication remove) = refl
-is_refused question rows when drawn (requests.ReplicateSecretToRegions replicate) = refl
-is_refused question rows when drawn (requests.StopReplicationToReplica stop) = refl
+is_refused question rows when drawn (requests.RemoveRegionsFromReplication remove) = remove_refuses rows when remove
+is_refused question rows when drawn (requests.ReplicateSecretToRegions replicate) =
+    replicate_refuses rows when replicate
+is_refused question rows when drawn (requests.StopReplicationToReplica stop) = stop_refuses rows when.moment stop
 is_refused question rows when drawn (requests.RestoreSecret restore) = restore_refuses rows when restore
 is_refused question rows when drawn (requests.TagResource tag) = tag_refuses rows when tag
 is_refused question rows when drawn (requests.UntagResource untag) = untag_refuses rows when untag
@@ -99,9 +103,10 @@ is_unchanged question rows when drawn (requests.GetSecretValue get) = get_reads 
 is_unchanged question rows when drawn (requests.ListSecretVersionIds list) = versions_reads rows when.moment list
 is_unchanged question rows when drawn (requests.ListSecrets list) = list_reads rows when.moment list
 is_unchanged question rows when drawn (requests.PutSecretValue put) = put_repeats rows when drawn put
-is_unchanged question rows when drawn (requests.RemoveRegionsFromReplication remove) = tt
-is_unchanged question rows when drawn (requests.ReplicateSecretToRegions replicate) = tt
-is_unchanged question rows when drawn (requests.StopReplicationToReplica stop) = tt
+is_unchanged question rows when drawn (requests.RemoveRegionsFromReplication remove) = remove_changes rows when remove
+is_unchanged question rows when drawn (requests.ReplicateSecretToRegions replicate) =
+    replicate_changes rows when replicate
+is_unchanged question rows when drawn (requests.StopReplicationToReplica stop) = stop_reads rows when.moment stop
 is_unchanged question rows when drawn (requests.RestoreSecret restore) = restore_changes rows when restore
 is_unchanged question rows when drawn (requests.TagResource tag) = tag_changes rows when tag
 is_unchanged question rows when drawn (requests.UntagResource untag) = untag_changes rows when untag
@@ -148,10 +153,11 @@ change_is_entry question rows when key drawn (requests.ListSecrets list) sound e
 change_is_entry question rows when key drawn (requests.PutSecretValue put) sound early forms room =
     put_change rows when drawn put sound (is_kept_date when.moment early) forms
 change_is_entry question rows when key drawn (requests.RemoveRegionsFromReplication remove) sound early forms room =
-    tt
+    remove_change rows when remove sound (is_kept_date when.moment early)
 change_is_entry question rows when key drawn (requests.ReplicateSecretToRegions replicate) sound early forms room =
-    tt
-change_is_entry question rows when key drawn (requests.StopReplicationToReplica stop) sound early forms room = tt
+    replicate_change rows when replicate sound (is_kept_date when.moment early) forms
+change_is_entry question rows when key drawn (requests.StopReplicationToReplica stop) sound early forms room =
+    stop_change rows when.moment stop _
 change_is_entry question rows when key drawn (requests.RestoreSecret restore) sound early forms room =
     restore_change rows when restore sound (is_kept_date when.moment early)
 change_is_entry question rows when key drawn (requests.TagResource tag) sound early forms room =

@@ -36,6 +36,8 @@ use Rattle.sm_values.specs.PutSecretValue.{put_call, put_into, put_effect_of}
 use Rattle.sm_values.specs.UpdateSecret.{update_call, update_into}
 use Rattle.sm_labels.specs.UpdateSecretVersionStage.{move_call, move_in}
 use Rattle.sm_policies.specs.Kept.{with_policy}
+use Rattle.sm_regions.specs.RemoveRegionsFromReplication.{unreplicated}
+use Rattle.sm_regions.specs.ReplicateSecretToRegions.{replicated}
 use Rattle.sm_rotations.specs.CancelRotateSecret.{cancelled}
 use Rattle.sm_rotations.specs.Reported.{answered}
 use Rattle.sm_rotations.specs.RotateSecret.{plan_of, token_to_start, rotates}
@@ -271,8 +273,10 @@ request_left rows when drawn (requests.GetResourcePolicy r) serial = same_rows w
 request_left rows when drawn (requests.GetSecretValue r) serial = same_rows when rows serial
 request_left rows when drawn (requests.ListSecretVersionIds r) serial = same_rows when rows serial
 request_left rows when drawn (requests.ListSecrets r) serial = same_rows when rows serial
-request_left rows when drawn (requests.RemoveRegionsFromReplication r) serial = same_rows when rows serial
-request_left rows when drawn (requests.ReplicateSecretToRegions r) serial = same_rows when rows serial
+request_left rows when drawn (requests.RemoveRegionsFromReplication remove) serial =
+    named_left rows (secret_id remove.secret_id) when (unreplicated remove.regions) serial
+request_left rows when drawn (requests.ReplicateSecretToRegions replicate) serial =
+    named_left rows (secret_id replicate.secret_id) when (replicated replicate.regions) serial
 request_left rows when drawn (requests.StopReplicationToReplica r) serial = same_rows when rows serial
 request_left rows when drawn (requests.ValidateResourcePolicy r) serial = same_rows when rows serial
 

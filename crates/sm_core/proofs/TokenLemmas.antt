@@ -44,6 +44,8 @@ use Rattle.sm_values.specs.PutSecretValue.{put_call, labels_placed, put_into, pu
 use Rattle.sm_values.specs.UpdateSecret.{update_call, redescribed, with_value, update_into, update_placed, update_accepted, update_repeated, update_on, update_judgement, update_effect}
 use Rattle.sm_labels.specs.UpdateSecretVersionStage.{move_call, move_in}
 use Rattle.sm_policies.specs.Kept.{with_policy}
+use Rattle.sm_regions.specs.RemoveRegionsFromReplication.{unreplicated}
+use Rattle.sm_regions.specs.ReplicateSecretToRegions.{replicated}
 use Rattle.sm_rotations.specs.CancelRotateSecret.{cancelled}
 use Rattle.sm_rotations.specs.declared.rotate_secret.Plan.{Plan}
 use Rattle.sm_rotations.specs.Reported.{answered}
@@ -188,8 +190,12 @@ request_stays rows when drawn (requests.GetResourcePolicy r) sound due = none_ch
 request_stays rows when drawn (requests.GetSecretValue r) sound due = none_changed rows when.moment sound
 request_stays rows when drawn (requests.ListSecretVersionIds r) sound due = none_changed rows when.moment sound
 request_stays rows when drawn (requests.ListSecrets r) sound due = none_changed rows when.moment sound
-request_stays rows when drawn (requests.RemoveRegionsFromReplication r) sound due = none_changed rows when.moment sound
-request_stays rows when drawn (requests.ReplicateSecretToRegions r) sound due = none_changed rows when.moment sound
+request_stays rows when drawn (requests.RemoveRegionsFromReplication remove) sound due =
+    others_stay rows when.moment (secret_id remove.secret_id) (unreplicated remove.regions) sound
+    (λ row. record { serial = refl; versions = stay_same row.versions })
+request_stays rows when drawn (requests.ReplicateSecretToRegions replicate) sound due =
+    others_stay rows when.moment (secret_id replicate.secret_id) (replicated replicate.regions) sound
+    (λ row. record { serial = refl; versions = stay_same row.versions })
 request_stays rows when drawn (requests.StopReplicationToReplica r) sound due = none_changed rows when.moment sound
 request_stays rows when drawn (requests.ValidateResourcePolicy r) sound due = none_changed rows when.moment sound
 

@@ -47,6 +47,8 @@ use Rattle.sm_values.specs.PutSecretValue.{put_call, labels_placed, put_into, pu
 use Rattle.sm_values.specs.UpdateSecret.{update_call, redescribed, with_value, update_into, update_placed, update_accepted, update_repeated, update_on, update_judgement, update_effect}
 use Rattle.sm_labels.specs.UpdateSecretVersionStage.{move_call, move_in}
 use Rattle.sm_policies.specs.Kept.{with_policy}
+use Rattle.sm_regions.specs.RemoveRegionsFromReplication.{unreplicated}
+use Rattle.sm_regions.specs.ReplicateSecretToRegions.{replicated}
 use Rattle.sm_rotations.specs.CancelRotateSecret.{cancelled}
 use Rattle.sm_rotations.specs.declared.rotate_secret.Plan.{Plan}
 use Rattle.sm_rotations.specs.Reported.{answered, reported_effect}
@@ -231,10 +233,12 @@ request_vouched replies rows when drawn (requests.UntagResource untag) sound due
 request_vouched replies rows when drawn (requests.UpdateSecretVersionStage update) sound due vouched =
     others_vouched replies rows when (secret_id update.secret_id) (move_in (move_call update))
     (λ row. record { arn = refl; versions = refl; job = refl }) vouched
-request_vouched replies rows when drawn (requests.RemoveRegionsFromReplication r) sound due vouched =
-    stay_vouched replies rows when.moment vouched
-request_vouched replies rows when drawn (requests.ReplicateSecretToRegions r) sound due vouched =
-    stay_vouched replies rows when.moment vouched
+request_vouched replies rows when drawn (requests.RemoveRegionsFromReplication remove) sound due vouched =
+    others_vouched replies rows when (secret_id remove.secret_id) (unreplicated remove.regions)
+    (λ row. record { arn = refl; versions = refl; job = refl }) vouched
+request_vouched replies rows when drawn (requests.ReplicateSecretToRegions replicate) sound due vouched =
+    others_vouched replies rows when (secret_id replicate.secret_id) (replicated replicate.regions)
+    (λ row. record { arn = refl; versions = refl; job = refl }) vouched
 request_vouched replies rows when drawn (requests.StopReplicationToReplica r) sound due vouched =
     stay_vouched replies rows when.moment vouched
 request_vouched replies rows when drawn (requests.BatchGetSecretValue r) sound due vouched =

@@ -17,6 +17,8 @@ use Rattle.sm_values.specs.UpdateSecret.{update_effect}
 use Rattle.sm_labels.specs.UpdateSecretVersionStage.{move_effect}
 use Rattle.sm_policies.specs.DeleteResourcePolicy.{delete_policy_effect}
 use Rattle.sm_policies.specs.PutResourcePolicy.{put_policy_effect}
+use Rattle.sm_regions.specs.RemoveRegionsFromReplication.{remove_effect}
+use Rattle.sm_regions.specs.ReplicateSecretToRegions.{replicate_effect}
 use Rattle.sm_rotations.specs.Begun.{begun_effect}
 use Rattle.sm_rotations.specs.CancelRotateSecret.{cancel_effect}
 use Rattle.sm_rotations.specs.Reported.{reported_effect}
@@ -46,8 +48,8 @@ request_effect rows when drawn (requests.GetResourcePolicy r) = rows
 request_effect rows when drawn (requests.GetSecretValue r) = rows
 request_effect rows when drawn (requests.ListSecretVersionIds r) = rows
 request_effect rows when drawn (requests.ListSecrets r) = rows
-request_effect rows when drawn (requests.RemoveRegionsFromReplication r) = rows
-request_effect rows when drawn (requests.ReplicateSecretToRegions r) = rows
+request_effect rows when drawn (requests.RemoveRegionsFromReplication remove) = remove_effect rows when remove
+request_effect rows when drawn (requests.ReplicateSecretToRegions replicate) = replicate_effect rows when replicate
 request_effect rows when drawn (requests.StopReplicationToReplica r) = rows
 request_effect rows when drawn (requests.RotateSecret rotate) = rotate_effect rows when drawn rotate
 request_effect rows when drawn (requests.ValidateResourcePolicy r) = rows

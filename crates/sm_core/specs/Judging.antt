@@ -1,5 +1,5 @@
 -- How a request is judged, by its operation.
-use Rattle.std.specs.Prelude.{◌≡◌, ℕ, Bool, true, false, ◌||◌, List, Option, Some, is_none}
+use Rattle.std.specs.Prelude.{◌≡◌, ℕ, Bool, true, false, ◌||◌, List, Option, is_none}
 use Rattle.sm_base.specs.declared.moment.Moment.{Moment}
 use Rattle.sm_model.specs.declared.entry.Change.{Change}
 use Rattle.sm_model.specs.declared.person.Person.{Person}
@@ -7,10 +7,8 @@ use Rattle.sm_model.specs.declared.request.Request.{Request}
 use Rattle.sm_model.specs.declared.request.Request.TheVariants as requests
 use Rattle.sm_model.specs.declared.rows.Rows.{Rows}
 use Rattle.sm_model.specs.declared.why.Why.{Why}
-use Rattle.sm_model.specs.declared.why.Why.TheVariants.{UnknownOperation}
 use Rattle.sm_model.specs.Versions.{When}
 use Rattle.sm_judging.specs.declared.judged.Judged.{Judged}
-use Rattle.sm_judging.specs.declared.judged.Judged.TheVariants.{Refuse}
 use Rattle.sm_values.specs.CreateSecret.{create_judgement, create_refusal, create_repeat}
 use Rattle.sm_reads.specs.DescribeSecret.{describe_judgement, describe_refusal}
 use Rattle.sm_reads.specs.GetSecretValue.{get_judgement, get_refusal}
@@ -25,6 +23,9 @@ use Rattle.sm_policies.specs.DeleteResourcePolicy.{delete_policy_judgement, dele
 use Rattle.sm_policies.specs.GetResourcePolicy.{get_policy_judgement, get_policy_refusal}
 use Rattle.sm_policies.specs.PutResourcePolicy.{put_policy_judgement, put_policy_refusal}
 use Rattle.sm_policies.specs.ValidateResourcePolicy.{validate_judgement, validate_refusal}
+use Rattle.sm_regions.specs.RemoveRegionsFromReplication.{remove_judgement, remove_refusal}
+use Rattle.sm_regions.specs.ReplicateSecretToRegions.{replicate_judgement, replicate_refusal}
+use Rattle.sm_regions.specs.StopReplicationToReplica.{stop_judgement, stop_refusal}
 use Rattle.sm_rotations.specs.CancelRotateSecret.{cancel_judgement, cancel_refusal}
 use Rattle.sm_rotations.specs.RotateSecret.{rotate_judgement, rotate_refusal, rotate_repeat}
 use Rattle.sm_upkeep.specs.DeleteSecret.{delete_judgement, delete_refusal, deletes_nobody}
@@ -53,11 +54,14 @@ judgement_asking question rows when drawn (requests.ListSecretVersionIds list) =
 judgement_asking question rows when drawn (requests.ListSecrets list) = list_judgement rows when.moment list
 judgement_asking question rows when drawn (requests.PutResourcePolicy put) = put_policy_judgement rows when put
 judgement_asking question rows when drawn (requests.PutSecretValue put) = put_judgement rows when drawn put
-judgement_asking question rows when drawn (requests.RemoveRegionsFromReplication remove) = Refuse UnknownOperation
-judgement_asking question rows when drawn (requests.ReplicateSecretToRegions replicate) = Refuse UnknownOperation
+judgement_asking question rows when drawn (requests.RemoveRegionsFromReplication remove) =
+    remove_judgement rows when remove
+judgement_asking question rows when drawn (requests.ReplicateSecretToRegions replicate) =
+    replicate_judgement rows when replicate
 judgement_asking question rows when drawn (requests.RestoreSecret restore) = restore_judgement rows when restore
 judgement_asking question rows when drawn (requests.RotateSecret rotate) = rotate_judgement rows when drawn rotate
-judgement_asking question rows when drawn (requests.StopReplicationToReplica stop) = Refuse UnknownOperation
+judgement_asking question rows when drawn (requests.StopReplicationToReplica stop) =
+    stop_judgement rows when.moment stop
 judgement_asking question rows when drawn (requests.TagResource tag) = tag_judgement rows when tag
 judgement_asking question rows when drawn (requests.UntagResource untag) = untag_judgement rows when untag
 judgement_asking question rows when drawn (requests.UpdateSecret update) = update_judgement rows when drawn update
@@ -95,11 +99,11 @@ refusal rows when drawn (requests.ListSecretVersionIds list) = versions_refusal 
 refusal rows when drawn (requests.ListSecrets list) = list_refusal rows when.moment list
 refusal rows when drawn (requests.PutResourcePolicy put) = put_policy_refusal rows when.moment put
 refusal rows when drawn (requests.PutSecretValue put) = put_refusal rows when drawn put
-refusal rows when drawn (requests.RemoveRegionsFromReplication remove) = Some UnknownOperation
-refusal rows when drawn (requests.ReplicateSecretToRegions replicate) = Some UnknownOperation
+refusal rows when drawn (requests.RemoveRegionsFromReplication remove) = remove_refusal rows when.moment remove
+refusal rows when drawn (requests.ReplicateSecretToRegions replicate) = replicate_refusal rows when.moment replicate
 refusal rows when drawn (requests.RestoreSecret restore) = restore_refusal rows when.moment restore
 refusal rows when drawn (requests.RotateSecret rotate) = rotate_refusal rows when drawn rotate
-refusal rows when drawn (requests.StopReplicationToReplica stop) = Some UnknownOperation
+refusal rows when drawn (requests.StopReplicationToReplica stop) = stop_refusal rows when.moment stop
 refusal rows when drawn (requests.TagResource tag) = tag_refusal rows when.moment tag
 refusal rows when drawn (requests.UntagResource untag) = untag_refusal rows when.moment untag
 refusal rows when drawn (requests.UpdateSecret update) = update_refusal rows when drawn update
@@ -132,7 +136,7 @@ repeat rows moment drawn (requests.UntagResource r) = false
 repeat rows moment drawn (requests.UpdateSecretVersionStage r) = false
 repeat rows moment drawn (requests.ValidateResourcePolicy r) = false
 
--- an operation that changes nothing
+-- an operation that changes nothing, as it reads, or as no secret of its own account is a replica
 abbrev pub is_reading : Request → Bool
 is_reading (requests.BatchGetSecretValue r) = true
 is_reading (requests.CancelRotateSecret r) = false
@@ -151,7 +155,7 @@ is_reading (requests.RemoveRegionsFromReplication r) = false
 is_reading (requests.ReplicateSecretToRegions r) = false
 is_reading (requests.RestoreSecret r) = false
 is_reading (requests.RotateSecret r) = false
-is_reading (requests.StopReplicationToReplica r) = false
+is_reading (requests.StopReplicationToReplica r) = true
 is_reading (requests.TagResource r) = false
 is_reading (requests.UntagResource r) = false
 is_reading (requests.UpdateSecret r) = false

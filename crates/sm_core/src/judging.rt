@@ -26,6 +26,9 @@ use sm_policies::put_resource_policy::judge_put_policy;
 use sm_policies::validate_resource_policy::judge_validate;
 use sm_reads::describe_secret::judge_describe;
 use sm_reads::get_secret_value::judge_get;
+use sm_regions::remove_regions_from_replication::judge_remove;
+use sm_regions::replicate_secret_to_regions::judge_replicate;
+use sm_regions::stop_replication_to_replica::judge_stop;
 use sm_rotations::cancel_rotate_secret::judge_cancel;
 use sm_rotations::rotate_secret::judge_rotate;
 use sm_table::Table;
@@ -143,11 +146,13 @@ pub(crate) fn judge_alone(
         Request::ListSecrets(list) => judge_list(alloc, table, when.moment, list),
         Request::PutResourcePolicy(put) => judge_put_policy(alloc, table, when, put),
         Request::PutSecretValue(put) => judge_put(alloc, table, when, drawn, put),
-        Request::RemoveRegionsFromReplication(_)
-        | Request::ReplicateSecretToRegions(_)
-        | Request::StopReplicationToReplica(_) => unreachable!(),
+        Request::RemoveRegionsFromReplication(remove) => judge_remove(alloc, table, when, remove),
+        Request::ReplicateSecretToRegions(replicate) => judge_replicate(
+            alloc, table, when, replicate,
+        ),
         Request::RestoreSecret(restore) => judge_restore(alloc, table, when, restore),
         Request::RotateSecret(rotate) => judge_rotate(alloc, table, when, drawn, rotate),
+        Request::StopReplicationToReplica(stop) => judge_stop(alloc, table, when.moment, stop),
         Request::TagResource(tag) => judge_tag(alloc, table, when, tag),
         Request::UntagResource(untag) => judge_untag(alloc, table, when, untag),
         Request::UpdateSecret(update) => judge_update(alloc, table, when, drawn, update),

@@ -1,8 +1,9 @@
 //! A request as a row says it: the operation's word, and its members, of which `.` stands for one that is absent.
 use sm_model::{
     BatchGetSecretValue, Bytes, CreateSecret, DeleteSecret, Filter, GetRandomPassword,
-    GetSecretValue, List, ListSecretVersionIds, ListSecrets, OfSecret, PutSecretValue, Request,
-    Tag, TagResource, Text, UntagResource, UpdateSecret, UpdateSecretVersionStage,
+    GetSecretValue, List, ListSecretVersionIds, ListSecrets, OfSecret, PutSecretValue,
+    RegionsOfSecret, Request, Tag, TagResource, Text, UntagResource, UpdateSecret,
+    UpdateSecretVersionStage,
 };
 use std::alloc::Global;
 use std::test::Fail;
@@ -132,14 +133,14 @@ fn tags(alloc: Global, text: &str) -> Result<Option<List<Tag>>, Fail> {
     Ok(Some(List::new(tags)))
 }
 
-/// `create NAME VALUE TOKEN DESCRIPTION KEY TAGS`
+/// `create NAME VALUE TOKEN DESCRIPTION KEY TAGS REGIONS`
 fn create(alloc: Global, text: &str) -> Result<Request, Fail> {
     let secret_string = value(alloc, word(text, 2))?;
     let secret_binary = binary(alloc, word(text, 2))?;
     let description = value(alloc, word(text, 4))?;
     let tags = tags(alloc, word(text, 6))?;
     Ok(Request::CreateSecret(CreateSecret {
-        regions: List::empty(alloc),
+        regions: keys(alloc, word(text, 7))?,
         client_request_token: token(alloc, word(text, 3))?,
         description,
         kms_key_id: value(alloc, word(text, 5))?,
@@ -235,7 +236,7 @@ fn tag_secret(alloc: Global, text: &str) -> Result<Request, Fail> {
     }))
 }
 
-/// Keys with commas between them, or so many. A point alone is a list of none.
+/// Keys, or regions, with commas between them, or so many. A point alone is a list of none.
 fn keys(alloc: Global, text: &str) -> Result<List<Text>, Fail> {
     let mut keys = Vec::new(alloc);
     if let Some(count) = text.strip_prefix("k*") {
@@ -258,6 +259,22 @@ fn untag(alloc: Global, text: &str) -> Result<Request, Fail> {
     Ok(Request::UntagResource(UntagResource {
         secret_id,
         tag_keys: keys(alloc, word(text, 2))?,
+    }))
+}
+
+/// The secret and the regions of `replicate SECRET REGIONS` and `unreplicate SECRET REGIONS`
+fn regions_of(alloc: Global, text: &str) -> Result<RegionsOfSecret, Fail> {
+    let regions = keys(alloc, word(text, 2))?;
+    Ok(RegionsOfSecret {
+        regions,
+        secret_id: secret_id(alloc, word(text, 1))?,
+    })
+}
+
+/// `stop SECRET`
+fn stop(alloc: Global, text: &str) -> Result<Request, Fail> {
+    Ok(Request::StopReplicationToReplica(OfSecret {
+        secret_id: secret_id(alloc, word(text, 1))?,
     }))
 }
 
@@ -365,8 +382,11 @@ pub fn request(alloc: Global, text: &str) -> Result<Request, Fail> {
         "describe" => describe(alloc, text),
         "list" => list(alloc, text),
         "password" => password(alloc, text),
+        "replicate" => Ok(Request::ReplicateSecretToRegions(regions_of(alloc, text)?)),
         "restore" => restore(alloc, text),
+        "stop" => stop(alloc, text),
         "tag" => tag_secret(alloc, text),
+        "unreplicate" => Ok(Request::RemoveRegionsFromReplication(regions_of(alloc, text)?)),
         "untag" => untag(alloc, text),
         "update" => update(alloc, text),
         "versions" => versions(alloc, text),

@@ -2,8 +2,9 @@
 use sm_core::Judged;
 use sm_model::{
     BatchError, Change, CreatedSecret, DeletedSecret, Described, GotSecret, Label, List, Moment,
-    NamedSecret, PolicyOfSecret, PolicyValidation, PutValue, Reply, RulesShown, SecretBatch,
-    SecretPage, Text, Token, VersionItem, VersionPage, VersionedSecret, Why,
+    NamedSecret, PolicyOfSecret, PolicyValidation, PutValue, ReplicatedSecret, ReplicationStatus,
+    Reply, RulesShown, SecretBatch, SecretPage, Text, Token, VersionItem, VersionPage,
+    VersionedSecret, Why,
 };
 use std::alloc::Global;
 use std::test::Fail;
@@ -59,14 +60,49 @@ fn why_text(alloc: Global, why: &Why) -> Result<String, Fail> {
     }
 }
 
-/// The end of the ARN, and the name.
-fn secret_text(alloc: Global, arn: &Text, name: &Text) -> Result<String, Fail> {
-    let end = match arn.as_str().strip_prefix(BEGINNING) {
+/// The end of the ARN.
+fn arn_end(arn: &Text) -> &str {
+    match arn.as_str().strip_prefix(BEGINNING) {
         Some(end) => end,
         None => "another ARN",
-    };
-    let name = name.as_str();
+    }
+}
+
+/// The end of the ARN, and the name.
+fn secret_text(alloc: Global, arn: &Text, name: &Text) -> Result<String, Fail> {
+    let (end, name) = (arn_end(arn), name.as_str());
     Ok(format!(in alloc; "{end} {name}")?)
+}
+
+/// Each region, with its status where it isn't the one that all have.
+fn push_regions(shown: &mut String, regions: &List<ReplicationStatus>) -> Result<(), Fail> {
+    shown.push_str(" in")?;
+    for region in regions.as_slice() {
+        shown.push_str(" ")?;
+        shown.push_str(region.region.as_str())?;
+        if region.status.as_str() != "InProgress" {
+            shown.push_str("=")?;
+            shown.push_str(region.status.as_str())?;
+        }
+    }
+    Ok(())
+}
+
+fn push_regions_if(
+    shown: &mut String,
+    regions: &Option<List<ReplicationStatus>>,
+) -> Result<(), Fail> {
+    match regions {
+        Some(regions) => push_regions(shown, regions),
+        None => Ok(()),
+    }
+}
+
+/// The secret's ARN, and its regions, also where there are none.
+fn replicated_text(alloc: Global, reply: &ReplicatedSecret) -> Result<String, Fail> {
+    let mut shown = plain(alloc, arn_end(&reply.arn))?;
+    push_regions(&mut shown, &reply.replication_status)?;
+    Ok(shown)
 }
 
 fn push_labels(shown: &mut String, labels: &List<Label>) -> Result<(), Fail> {
@@ -98,7 +134,9 @@ fn versioned_text(
 }
 
 fn created_text(alloc: Global, reply: &CreatedSecret) -> Result<String, Fail> {
-    versioned_text(alloc, &reply.arn, &reply.name, &reply.version_id)
+    let mut shown = versioned_text(alloc, &reply.arn, &reply.name, &reply.version_id)?;
+    push_regions_if(&mut shown, &reply.replication_status)?;
+    Ok(shown)
 }
 
 fn changed_text(alloc: Global, reply: &VersionedSecret) -> Result<String, Fail> {
@@ -206,6 +244,7 @@ fn described_text(alloc: Global, reply: &Described) -> Result<String, Fail> {
         let date = date.0;
         shown.push_str(format!(in alloc; " deleted {date}")?.as_str())?;
     }
+    push_regions_if(&mut shown, &reply.replication_status)?;
     push_lists(&mut shown, reply)?;
     push_rotation(alloc, &mut shown, reply)?;
     Ok(shown)
@@ -331,11 +370,11 @@ fn reply_text(alloc: Global, reply: &Reply) -> Result<String, Fail> {
         Reply::ListSecrets(reply) => page_text(alloc, reply),
         Reply::PutResourcePolicy(reply) => named_text(alloc, reply),
         Reply::PutSecretValue(reply) => put_text(alloc, reply),
-        Reply::RemoveRegionsFromReplication(_)
-        | Reply::ReplicateSecretToRegions(_)
-        | Reply::StopReplicationToReplica(_) => plain(alloc, "replicated"),
+        Reply::RemoveRegionsFromReplication(reply) => replicated_text(alloc, reply),
+        Reply::ReplicateSecretToRegions(reply) => replicated_text(alloc, reply),
         Reply::RestoreSecret(reply) => named_text(alloc, reply),
         Reply::RotateSecret(reply) => changed_text(alloc, reply),
+        Reply::StopReplicationToReplica(reply) => plain(alloc, arn_end(&reply.arn)),
         Reply::TagResource => plain(alloc, "tagged"),
         Reply::UntagResource => plain(alloc, "untagged"),
         Reply::UpdateSecret(reply) => changed_text(alloc, reply),

@@ -203,6 +203,56 @@ another value where there is no room | tag app m=z | + tagged | ;
 a tag off where there is no room | untag app k*47 | + untagged | ;
 the tags that are there then | describe app | app-ABCDEF app 1700000000 1700000000 . . k=y m=z k47= | ";
 
+/// A secret that is replicated to regions.
+const REGIONS: &str = "a secret in two regions, one of which is given twice
+  | create app v 1 . . . eu-west-1,us-west-2,eu-west-1
+  | + app-ABCDEF app 1 in eu-west-1 us-west-2
+  | AWSCURRENT=1;
+the same again shows the regions that it has | create app v 1 . . . a
+  | app-ABCDEF app 1 in eu-west-1 us-west-2
+  | AWSCURRENT=1;
+its regions are shown | describe app
+  | app-ABCDEF app 1700000000 1700000000 . . in eu-west-1 us-west-2 1 AWSCURRENT
+  | AWSCURRENT=1;
+regions more, of which one is there | replicate app a,us-west-2,b
+  | + app-ABCDEF in eu-west-1 us-west-2 a b
+  | AWSCURRENT=1;
+a region that is there | replicate app-ABCDEF a | + app-ABCDEF in eu-west-1 us-west-2 a b | AWSCURRENT=1;
+no region | replicate app . | + app-ABCDEF in eu-west-1 us-west-2 a b | AWSCURRENT=1;
+regions off, of which one is not there and one is given twice | unreplicate app us-west-2,z,a,a
+  | + app-ABCDEF in eu-west-1 b
+  | AWSCURRENT=1;
+no regions off | unreplicate app . | + app-ABCDEF in eu-west-1 b | AWSCURRENT=1;
+all regions off | unreplicate app b,eu-west-1 | + app-ABCDEF in | AWSCURRENT=1;
+no region is shown | describe app | app-ABCDEF app 1700000000 1700000000 . . 1 AWSCURRENT | AWSCURRENT=1;
+a region of 32 letters | replicate app a*32 | + app-ABCDEF in aaaaaaaaaaaaaaaaaaaaaaaaaaaaaaaa | AWSCURRENT=1;
+more regions than may be beside those that are there | replicate app k*20 | limit of 20 Regions | AWSCURRENT=1;
+that region off | unreplicate app a*32 | + app-ABCDEF in | AWSCURRENT=1;
+as many regions as may be | replicate app k*20
+  | + app-ABCDEF in k0 k1 k2 k3 k4 k5 k6 k7 k8 k9 k10 k11 k12 k13 k14 k15 k16 k17 k18 k19
+  | AWSCURRENT=1;
+a region more than may be | replicate app z | limit of 20 Regions | AWSCURRENT=1;
+all that are there again | replicate app k*20
+  | + app-ABCDEF in k0 k1 k2 k3 k4 k5 k6 k7 k8 k9 k10 k11 k12 k13 k14 k15 k16 k17 k18 k19
+  | AWSCURRENT=1;
+more regions than may be given | replicate app k*21 | form of AddReplicaRegions | AWSCURRENT=1;
+more regions off than may be given | unreplicate app k*21 | form of RemoveReplicaRegions | AWSCURRENT=1;
+a new secret in more regions than may be given | create b w 1 . . . k*21 | form of AddReplicaRegions | AWSCURRENT=1;
+a region of 33 letters | replicate app a*33 | form of AddReplicaRegions | AWSCURRENT=1;
+a region of none | replicate app a*0 | form of AddReplicaRegions | AWSCURRENT=1;
+a capital in a region | replicate app EU-west-1 | form of AddReplicaRegions | AWSCURRENT=1;
+another character in a region | unreplicate app a_b | form of RemoveReplicaRegions | AWSCURRENT=1;
+the regions of a new secret before its name | create a:b . . . . . A | form of AddReplicaRegions | AWSCURRENT=1;
+the regions before the secret | replicate a:b A | form of AddReplicaRegions | AWSCURRENT=1;
+no name to replicate | replicate a:b a | form of SecretId | AWSCURRENT=1;
+no name to take regions off | unreplicate a:b a | form of SecretId | AWSCURRENT=1;
+regions of an absent secret | replicate gone a | no secret | AWSCURRENT=1;
+regions off an absent secret | unreplicate gone a | no secret | AWSCURRENT=1;
+a stop at no name | stop a:b | form of SecretId | AWSCURRENT=1;
+a stop at an absent secret | stop gone | no secret | AWSCURRENT=1;
+a stop at one that is no replica | stop app | secret is not a replica | AWSCURRENT=1;
+another secret has its own regions | create b w 1 . . . a | + b-ABCDEF b 1 in a | AWSCURRENT=1";
+
 /// Pages of secrets and of versions, and batches.
 const LISTS: &str = "a first secret | create a v 1 | + a-ABCDEF a 1 | AWSCURRENT=1;
 a second secret | create b w 1 . . team=x | + b-ABCDEF b 1 | AWSCURRENT=1;
@@ -310,6 +360,9 @@ a scheduled secret dropped at once | delete app force | - app-ABCDEF app 8 | 8;
 a scheduled secret restored | restore app | + app-ABCDEF app | 8;
 tags of a scheduled secret | tag app k=v | scheduled at 9 | 8;
 tags off a scheduled secret | untag app k | scheduled at 9 | 8;
+regions of a scheduled secret | replicate app a | scheduled at 9 | 8;
+regions off a scheduled secret | unreplicate app a | scheduled at 9 | 8;
+a stop at a scheduled secret | stop app | scheduled at 9 | 8;
 a scheduled secret is shown | describe app | app-ABCDEF app 7 7 . . deleted 9 1 AWSCURRENT 2 AWSPENDING | 8;
 a new secret of a name that is free | create app v 1 | + app-ABCDEF app 1 | 9;
 a secret that is gone | get app . . | no secret | 9;
@@ -318,7 +371,10 @@ a secret that is gone is not deleted | delete app 7 | no secret | 9;
 the forced deletion of one that is gone | delete app force | app 9 | 9;
 a secret that is gone is not restored | restore app | no secret | 9;
 a secret that is gone is not tagged | tag app k=v | no secret | 9;
-a secret that is gone has no tags to take off | untag app k | no secret | 9";
+a secret that is gone has no tags to take off | untag app k | no secret | 9;
+a secret that is gone is not replicated | replicate app a | no secret | 9;
+a secret that is gone has no regions to take off | unreplicate app a | no secret | 9;
+a stop at a secret that is gone | stop app | no secret | 9";
 
 /// Secrets that are as they are between any two requests.
 #[derive(Drop)]
@@ -588,7 +644,7 @@ fn differences_there(alloc: Global, table: &Table, rows: &str) -> Result<String,
 #[test]
 fn answers_requests(rt: HostRuntime) -> Result<(), Fail> {
     for table in [
-        REQUESTS, DETAILS, FORMS, DELETIONS, TAGS, LISTS, PASSWORDS, LABELS,
+        REQUESTS, DETAILS, FORMS, DELETIONS, TAGS, REGIONS, LISTS, PASSWORDS, LABELS,
     ] {
         assert_eq!(rt; differences(rt.alloc(), table)?.as_str(), "");
     }

@@ -10,8 +10,8 @@ use Rattle.sm_json.specs.declared.operation.Operation.{Operation}
 use Rattle.sm_json.specs.declared.operation.Operation.TheVariants as named
 use Rattle.sm_json.specs.declared.requests.ReadRequest.TheVariants as answers
 use Rattle.sm_json.specs.Asks.{asked, asked_if, asks, json_of, object_of, object_only}
-use Rattle.sm_json.specs.Fields.{fault_of, given, left, may, member_of, must, no_items}
-use Rattle.sm_json.specs.Kinds.{binary, list_of, tag, text}
+use Rattle.sm_json.specs.Fields.{fault_of, given, left, may, member_of, must}
+use Rattle.sm_json.specs.Kinds.{binary, list_of, region, tag, text}
 use Rattle.sm_json.specs.Names.{spelled}
 use Rattle.sm_json.specs.Operations.{operation_named}
 use Rattle.sm_json.specs.Tables.{create_secret_in, create_secret_members, get_secret_value_in, get_secret_value_members, put_secret_value_in, put_secret_value_members}
@@ -31,8 +31,8 @@ operation (Get secret) = named.GetSecretValue
 members_ask : (step : Step) (i word : ℕ)
     → asked (operation step) (object (members_of step i word)) ≡ answers.Ok (request_by step i word)
 unfolding operation valued_members shown_members create_secret_members create_secret_in put_secret_value_members
-    put_secret_value_in get_secret_value_members get_secret_value_in may must left no_items fault_of given member_of
-    text binary list_of tag spelled
+    put_secret_value_in get_secret_value_members get_secret_value_in may must left fault_of given member_of
+    text binary list_of region tag spelled
 members_ask (Create secret) i word = refl
 members_ask (Put secret) i word = refl
 members_ask (Get secret) i word = refl

@@ -1,19 +1,20 @@
 -- What it says of a CreateSecret that its forms pass.
-use Rattle.std.proofs.Common.{◌≡◌, false, [], None, IfSome}
+use Rattle.std.proofs.Common.{◌≡◌, false, None, IfSome}
 use Rattle.std.specs.Prelude.{IsTrue}
 use Rattle.sm_model.specs.declared.request.CreateSecret.{CreateSecret}
 use Rattle.sm_model.specs.Bounds.{is_description}
 use Rattle.sm_base.specs.Spelling.{is_name, is_token}
+use Rattle.sm_versions.specs.Regions.{are_regions}
 use Rattle.sm_versions.specs.Texts.{once}
 use Rattle.sm_versions.specs.Sound.{tag_keys, each_tag}
 use Rattle.sm_forms.specs.Members.{is_value, has_both}
 use Rattle.sm_forms.specs.CreateSecret.{create_value, create_forms}
-use Rattle.sm_forms.proofs.MemberLemmas.{none_first, no_items, passes, all_pass, not_both}
+use Rattle.sm_forms.proofs.MemberLemmas.{none_first, passes, all_pass, not_both}
 use Rattle.sm_forms.proofs.TagLemmas.{tags_pass}
 
 -- each of the members
 record Parts (create : CreateSecret) : Type 0 where
-  regions : create.regions ≡ []
+  regions : IsTrue (are_regions create.regions)
   token : IfSome create.client_request_token (λ t. IsTrue (is_token t))
   description : IfSome create.description (λ t. IsTrue (is_description t))
   kms : IfSome create.kms_key_id (λ t. IsTrue (is_description t))
@@ -28,7 +29,7 @@ parts create h =
     let name = none_first _ _ kms.1 in
     let value = none_first _ _ name.1 in
     record {
-      regions = no_items create.regions _ token.0;
+      regions = passes (are_regions create.regions) _ token.0;
       token = all_pass is_token _ create.client_request_token description.0;
       description = all_pass is_description _ create.description kms.0;
       kms = all_pass is_description _ create.kms_key_id name.0;
@@ -54,7 +55,8 @@ value_parts create h =
       one = not_both create.secret_string create.secret_binary _ one.1;
     }
 
-pub create_regions : (create : CreateSecret) → create_forms create ≡ None → create.regions ≡ []
+pub create_regions : (create : CreateSecret) → create_forms create ≡ None
+    → IsTrue (are_regions create.regions)
 create_regions create h = (parts create h).regions
 
 pub create_token : (create : CreateSecret) → create_forms create ≡ None

@@ -6,6 +6,7 @@ pub mod DeleteSecretLemmas
 pub mod GetSecretValueLemmas
 pub mod OfSecretLemmas
 pub mod PutSecretValueLemmas
+pub mod RegionsOfSecretLemmas
 pub mod TagResourceLemmas
 pub mod UntagResourceLemmas
 pub mod UpdateSecretLemmas

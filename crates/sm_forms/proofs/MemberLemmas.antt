@@ -1,13 +1,12 @@
 -- What it says of members that their forms pass.
-use Rattle.std.proofs.Common.{◌≡◌, ℕ, List, [], ◌∷◌, Bool, true, false, not, ◌&&◌, ◌||◌, length, nat_le, nat_eq, Option, Some, None, is_some, IfSome, refl, arith}
+use Rattle.std.proofs.Common.{◌≡◌, ℕ, List, Bool, true, false, not, ◌&&◌, ◌||◌, length, nat_le, Option, Some, None, is_some, IfSome, refl}
 use Rattle.std.specs.Prelude.{IsTrue}
 use Rattle.std.specs.List.{list_all}
 use Rattle.std.proofs.lemmas.Bool.{and_parts}
-use Rattle.std.proofs.lemmas.Bool.Decides.{nat_tests}
 use Rattle.sm_base.specs.declared.limits.TheConstants.{LABELS_LIMIT}
 use Rattle.sm_model.specs.declared.why.Why.{Why}
 use Rattle.sm_base.specs.Spelling.{is_label}
-use Rattle.sm_forms.specs.Members.{first_why, form_unless, left_unless, form_of, has_both, has_one, are_labels, labels_form}
+use Rattle.sm_forms.specs.Members.{first_why, form_unless, form_of, has_both, has_one, are_labels, labels_form}
 
 -- neither refusal is there
 pub none_first : (one next : Option Why) → first_why one next ≡ None → (one ≡ None) × (next ≡ None)
@@ -17,17 +16,6 @@ none_first (Some why) next h = absurd (let f : Some why ≡ None = h in cc)
 pub passes : (fits : Bool) (name : List ℕ) → form_unless fits name ≡ None → fits ≡ true
 passes true name h = refl
 passes false name h = cc
-
--- a member that is left out is absent
-left_absent : (absent : Bool) (name : List ℕ) → left_unless absent name ≡ None → absent ≡ true
-left_absent true name h = refl
-left_absent false name h = cc
-
-pub no_items : {X : Type 0} (items : List X) (name : List ℕ) → left_unless (nat_eq (length items) 0) name ≡ None
-    → items ≡ []
-no_items [] name h = refl
-no_items (x ∷ xs) name h =
-    let none : nat_eq (length (x ∷ xs)) 0 ≡ true = left_absent _ name h in absurd (grind (arith, nat_tests, none))
 
 pub all_pass : (test : List ℕ → Bool) (name : List ℕ) (text : Option (List ℕ)) → form_of test name text ≡ None
     → IfSome text (λ t. IsTrue (test t))

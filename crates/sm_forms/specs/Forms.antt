@@ -1,9 +1,8 @@
 -- The forms of a request, by its operation.
-use Rattle.std.specs.Prelude.{◌≡◌, Option, Some}
+use Rattle.std.specs.Prelude.{◌≡◌, Option}
 use Rattle.sm_model.specs.declared.request.Request.{Request}
 use Rattle.sm_model.specs.declared.request.Request.TheVariants as requests
 use Rattle.sm_model.specs.declared.why.Why.{Why}
-use Rattle.sm_model.specs.declared.why.Why.TheVariants.{UnknownOperation}
 use Rattle.sm_forms.specs.BatchGetSecretValue.{batch_forms}
 use Rattle.sm_forms.specs.CreateSecret.{create_forms}
 use Rattle.sm_forms.specs.DeleteSecret.{delete_forms}
@@ -15,6 +14,7 @@ use Rattle.sm_forms.specs.OfSecret.{of_secret_forms}
 use Rattle.sm_forms.specs.Policies.{OrNoMemory}
 use Rattle.sm_forms.specs.PutResourcePolicy.{put_policy_forms}
 use Rattle.sm_forms.specs.PutSecretValue.{put_forms}
+use Rattle.sm_forms.specs.RegionsOfSecret.{remove_regions_forms, replicate_forms}
 use Rattle.sm_forms.specs.RotateSecret.{rotate_forms}
 use Rattle.sm_forms.specs.TagResource.{tag_forms}
 use Rattle.sm_forms.specs.UntagResource.{untag_forms}
@@ -22,8 +22,7 @@ use Rattle.sm_forms.specs.UpdateSecret.{update_forms}
 use Rattle.sm_forms.specs.UpdateSecretVersionStage.{move_forms}
 use Rattle.sm_forms.specs.ValidateResourcePolicy.{validate_forms}
 
--- the first member that is not in its form, or the first joint test that fails; no operation on replica regions is
--- known
+-- the first member that is not in its form, or the first joint test that fails
 abbrev pub forms_of : Request → Option Why
 forms_of (requests.BatchGetSecretValue batch) = batch_forms batch
 forms_of (requests.CancelRotateSecret cancel) = of_secret_forms cancel
@@ -38,11 +37,11 @@ forms_of (requests.ListSecretVersionIds list) = list_versions_forms list
 forms_of (requests.ListSecrets list) = list_forms list
 forms_of (requests.PutResourcePolicy put) = put_policy_forms put
 forms_of (requests.PutSecretValue put) = put_forms put
-forms_of (requests.RemoveRegionsFromReplication remove) = Some UnknownOperation
-forms_of (requests.ReplicateSecretToRegions replicate) = Some UnknownOperation
+forms_of (requests.RemoveRegionsFromReplication remove) = remove_regions_forms remove
+forms_of (requests.ReplicateSecretToRegions replicate) = replicate_forms replicate
 forms_of (requests.RestoreSecret restore) = of_secret_forms restore
 forms_of (requests.RotateSecret rotate) = rotate_forms rotate
-forms_of (requests.StopReplicationToReplica stop) = Some UnknownOperation
+forms_of (requests.StopReplicationToReplica stop) = of_secret_forms stop
 forms_of (requests.TagResource tag) = tag_forms tag
 forms_of (requests.UntagResource untag) = untag_forms untag
 forms_of (requests.UpdateSecret update) = update_forms update

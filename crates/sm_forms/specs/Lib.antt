@@ -5,6 +5,7 @@ pub mod DeleteSecret
 pub mod GetSecretValue
 pub mod OfSecret
 pub mod PutSecretValue
+pub mod RegionsOfSecret
 pub mod TagResource
 pub mod UntagResource
 pub mod UpdateSecret

@@ -4,7 +4,7 @@ use Rattle.std.specs.List.{list_all}
 use Rattle.sm_base.specs.declared.limits.TheConstants.{VALUE_LIMIT, LABELS_LIMIT}
 use Rattle.sm_model.specs.declared.value.Tag.{Tag}
 use Rattle.sm_model.specs.declared.why.Why.{Why}
-use Rattle.sm_model.specs.declared.why.Why.TheVariants.{Form, Left}
+use Rattle.sm_model.specs.declared.why.Why.TheVariants.{Form}
 use Rattle.sm_base.specs.Spelling.{is_label}
 use Rattle.sm_versions.specs.Texts.{once}
 use Rattle.sm_versions.specs.Sound.{tag_keys, each_tag}
@@ -17,10 +17,6 @@ first_why (Some why) next = Some why
 -- a member that is there has to be in its form
 abbrev pub form_unless : Bool → List ℕ → Option Why
 form_unless fits name = if fits then None else Some (Form name)
-
--- a member that is left out by name may not be there
-abbrev pub left_unless : Bool → List ℕ → Option Why
-left_unless absent name = if absent then None else Some (Left name)
 
 abbrev pub form_of : (List ℕ → Bool) → List ℕ → Option (List ℕ) → Option Why
 form_of test name None = None

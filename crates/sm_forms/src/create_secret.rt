@@ -1,30 +1,38 @@
 //! The forms of CreateSecret (AWS Secrets Manager API Reference, CreateSecret).
 ghost use Rattle.std.specs.Prelude.{◌≡◌};
-ghost use Rattle.sm_forms.specs.CreateSecret.{create_value, create_forms};
+ghost use Rattle.sm_forms.specs.CreateSecret.{create_value, create_texts, create_forms};
 
 use crate::members::{
-    bytes_form, description_form, first, form_unless, has_both, left_unless, token_form, value_form,
+    bytes_form, description_form, first, form_unless, has_both, token_form, value_form,
 };
 use crate::tags::tags_form;
 use sm_base::spelled::is_name;
 use sm_model::{CreateSecret, Why};
+use sm_versions::regions::are_regions;
 
-/// The first form or joint test that fails. Replica regions are left out.
+/// The first form or joint test that fails.
 pub fn create_forms(create: &CreateSecret) -> Option<Why>
     ensures { result ≡ create_forms create.now }
 {
     first(
-        left_unless(create.regions.len() == 0, "AddReplicaRegions"),
+        form_unless(are_regions(create.regions.as_slice()), "AddReplicaRegions"),
+        create_texts(create),
+    )
+}
+
+/// The forms of the token, the descriptions and the name, and then those of the value.
+fn create_texts(create: &CreateSecret) -> Option<Why>
+    ensures { result ≡ create_texts create.now }
+{
+    first(
+        token_form(&create.client_request_token, "ClientRequestToken"),
         first(
-            token_form(&create.client_request_token, "ClientRequestToken"),
+            description_form(&create.description, "Description"),
             first(
-                description_form(&create.description, "Description"),
+                description_form(&create.kms_key_id, "KmsKeyId"),
                 first(
-                    description_form(&create.kms_key_id, "KmsKeyId"),
-                    first(
-                        form_unless(is_name(create.name.as_bytes()), "Name"),
-                        create_value(create),
-                    ),
+                    form_unless(is_name(create.name.as_bytes()), "Name"),
+                    create_value(create),
                 ),
             ),
         ),

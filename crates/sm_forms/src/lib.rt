@@ -16,6 +16,7 @@ pub mod paging;
 mod policies;
 pub mod put_resource_policy;
 pub mod put_secret_value;
+pub mod regions_of_secret;
 pub mod request_forms;
 pub mod rotate_secret;
 pub mod tag_resource;

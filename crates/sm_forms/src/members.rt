@@ -2,7 +2,7 @@
 ghost use Rattle.std.specs.Prelude.{◌≡◌, length};
 ghost use Rattle.std.specs.List.{list_all};
 ghost use Rattle.std.specs.Str.{chars};
-ghost use Rattle.sm_forms.specs.Members.{first_why, form_unless, left_unless, form_of, is_value, has_both, has_one, are_labels, labels_form};
+ghost use Rattle.sm_forms.specs.Members.{first_why, form_unless, form_of, is_value, has_both, has_one, are_labels, labels_form};
 ghost use Rattle.sm_base.specs.Spelling.{is_token, is_label};
 ghost use Rattle.sm_model.specs.Bounds.{is_description};
 ghost use Rattle.sm_base.specs.Texts.{has_at_most};
@@ -19,17 +19,6 @@ pub fn first(one: Option<Why>, next: Option<Why>) -> Option<Why>
     match one {
         Some(why) => Some(why),
         None => next,
-    }
-}
-
-/// A refusal of a member that is left out by name, unless it is absent.
-pub fn left_unless(absent: bool, name: &'static str) -> Option<Why>
-    ensures { result ≡ left_unless absent name.now }
-{
-    if absent {
-        None
-    } else {
-        Some(Why::Left(Text::fixed(name)))
     }
 }
 

@@ -12,6 +12,7 @@ use crate::list_secrets::list_forms;
 use crate::of_secret::of_secret_forms;
 use crate::put_resource_policy::put_policy_forms;
 use crate::put_secret_value::put_forms;
+use crate::regions_of_secret::{remove_regions_forms, replicate_forms};
 use crate::rotate_secret::rotate_forms;
 use crate::tag_resource::tag_forms;
 use crate::untag_resource::untag_forms;
@@ -22,7 +23,7 @@ use sm_model::{Request, Why};
 use std::alloc::Global;
 
 /// The first form or joint test that fails, or none. `Why::Memory` is want of memory, which only the text of a policy
-/// takes. No operation on replica regions is known.
+/// takes.
 pub fn forms(alloc: Global, request: &Request) -> Option<Why>
     ensures wanted { OrNoMemory result (forms_of request.now) }
     ensures exact { Refuses request.now result }
@@ -41,11 +42,11 @@ pub fn forms(alloc: Global, request: &Request) -> Option<Why>
         Request::ListSecrets(list) => list_forms(list),
         Request::PutResourcePolicy(put) => put_policy_forms(alloc, put),
         Request::PutSecretValue(put) => put_forms(put),
-        Request::RemoveRegionsFromReplication(_)
-        | Request::ReplicateSecretToRegions(_)
-        | Request::StopReplicationToReplica(_) => Some(Why::UnknownOperation),
+        Request::RemoveRegionsFromReplication(remove) => remove_regions_forms(remove),
+        Request::ReplicateSecretToRegions(replicate) => replicate_forms(replicate),
         Request::RestoreSecret(restore) => of_secret_forms(restore),
         Request::RotateSecret(rotate) => rotate_forms(rotate),
+        Request::StopReplicationToReplica(stop) => of_secret_forms(stop),
         Request::TagResource(tag) => tag_forms(tag),
         Request::UntagResource(untag) => untag_forms(untag),
         Request::UpdateSecret(update) => update_forms(update),

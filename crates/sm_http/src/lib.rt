@@ -12,10 +12,11 @@ pub mod reader;
 pub mod reply;
 mod request;
 
+pub use ahead::{Ahead, More};
 pub use answer::{Field, Message, Next, Stop};
 pub use laws::{messages_go_on, one_reading, whole_messages};
 pub use message::{
     BODY_LIMIT, FIELD_LIMIT, FieldRoom, Front, HEAD_LIMIT, MessageView, field_room, front_of,
 };
-pub use reader::Reader;
+pub use reader::{Reader, await_bytes};
 pub use reply::{Piece, Sent, write, write_through};

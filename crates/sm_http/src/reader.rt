@@ -71,7 +71,7 @@ fn seek_head<S: Source>(ahead: &mut Ahead, source: &mut S) -> Sought
 }
 
 /// Takes more bytes until so many are there.
-fn await_bytes<S: Source>(ahead: &mut Ahead, source: &mut S, count: usize) -> More
+pub fn await_bytes<S: Source>(ahead: &mut Ahead, source: &mut S, count: usize) -> More
     ensures moves { Moves ahead.old ahead.new (S.left source.old) (S.left source.new) }
     ensures there { OnMore result (count ≤ length ahead.new) }
     ensures missing { OnNoMore result (length ahead.new < count) }

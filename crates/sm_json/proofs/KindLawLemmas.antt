@@ -1,4 +1,4 @@
--- What objects are tags, filters and rotation rules.
+-- What objects are tags, regions, filters and rotation rules.
 use Rattle.std.proofs.Common.{◌≡◌, ℕ, ℤ, List, [], Option, Some, None, unwrap_or, Ok, ◌⊎◌, inl, inr, refl, ap, sym, subst, ◌∙◌}
 use Rattle.serde_json.specs.Data as shapes
 use Rattle.serde_json.specs.Data.{Data}
@@ -7,9 +7,9 @@ use Rattle.sm_model.specs.declared.request.Filter.{Filter}
 use Rattle.sm_model.specs.declared.request.Rules.{Rules}
 use Rattle.sm_model.specs.declared.value.Tag.{Tag}
 use Rattle.sm_json.specs.declared.name.MemberName.TheVariants as names
-use Rattle.sm_json.specs.Fields.{Flaw, may, must, left, member_of, fault_at, fault_of, first, given_at, given}
-use Rattle.sm_json.specs.Kinds.{text, integer, list_of, object_or_bad, tag_members, tag_in, tag, filter_members, filter_in, filter, rules_members, rules_in, rules}
-use Rattle.sm_json.specs.KindLaws.{HasDays, HasSchedule, IsTag, TagsAre, IsFilter, FiltersAre, IsRules, RulesAre}
+use Rattle.sm_json.specs.Fields.{Flaw, may, must, left, member_of, fault_at, fault_of, first, given_at, given, wanted}
+use Rattle.sm_json.specs.Kinds.{text, integer, list_of, object_or_bad, region_members, region, tag_members, tag_in, tag, filter_members, filter_in, filter, rules_members, rules_in, rules}
+use Rattle.sm_json.specs.KindLaws.{HasDays, HasSchedule, IsRegion, RegionsAre, IsTag, TagsAre, IsFilter, FiltersAre, IsRules, RulesAre}
 use Rattle.sm_json.proofs.KindLemmas.{object_of, texts, lists, neither_first, object_is, must_is, may_is, must_fits, may_fits, may_be_absent, is_given, left_is, left_fits}
 
 -- an object whose members are not at fault
@@ -92,6 +92,34 @@ is_tag value t ((found, is), key, other) =
 
 pub tags : TagsAre
 tags value t = (tag_is value t, is_tag value t)
+
+region_is : (value : Data) (name : List ℕ) → region value ≡ Ok name → IsRegion value name
+unfolding region region_members fault_of given must
+region_is value name e =
+    let p = object_is (as_object value) (first (fault_of (must names.Region text) value) None)
+    (wanted text names.Region value) name e in
+    let q = neither_first (fault_of (must names.Region text) value) None p.1 in
+    let k = must_is text names.Region (member_of names.Region value) q.0 in
+    let whole : unwrap_or (given_at text (member_of names.Region value)) [] ≡ name = p.2 in (
+      (p.0.0, object_of value p.0.0 p.0.1),
+      text_member (member_of names.Region value) k.0 k.1 name k.2 k.3
+          (sym (ap (λ o. unwrap_or o [])
+          (is_given text names.Region (member_of names.Region value) k.0 k.1 k.2 k.3)) ∙ whole),
+    )
+
+is_region : (value : Data) (name : List ℕ) → IsRegion value name → region value ≡ Ok name
+unfolding region region_members fault_of given must
+is_region value name ((found, is), there) =
+    let k : given_at text (member_of names.Region value) ≡ Some name =
+    is_given text names.Region (member_of names.Region value) (shapes.string name) name there (text_read name) in
+    fits (as_object value) found (first (fault_of (must names.Region text) value) None)
+    (wanted text names.Region value) (ap as_object is)
+    (ap (λ f. first f None)
+    (must_fits text names.Region (member_of names.Region value) (shapes.string name) name there (text_read name)))
+    ∙ ap Ok (ap (λ o. unwrap_or o []) k)
+
+pub regions : RegionsAre
+regions value name = (region_is value name, is_region value name)
 
 filter_is : (value : Data) (f : Filter) → filter value ≡ Ok f → IsFilter value f
 unfolding filter filter_members filter_in fault_of given must

@@ -2,15 +2,15 @@
 use Rattle.std.proofs.Common.{◌≡◌, Option, Some, None, option_and_then, option_map, Err, refl, ap, sym, ◌∙◌}
 use Rattle.serde_json.specs.Data as shapes
 use Rattle.serde_json.specs.Data.{Data}
-use Rattle.serde_json.specs.Find.{as_number, as_i64, as_str, as_array, as_object}
+use Rattle.serde_json.specs.Find.{as_number, as_i64, as_str, as_object}
 use Rattle.sm_json.specs.declared.fields.Mark.{Mark}
 use Rattle.sm_json.specs.declared.fields.Mark.TheVariants.{Bad, LeftOut}
 use Rattle.sm_json.specs.declared.name.MemberName.{MemberName}
 use Rattle.sm_json.specs.declared.name.MemberName.TheVariants as names
-use Rattle.sm_json.specs.Fields.{Flaw, may, left, no_items, items_left, mark_in, member_of, fault_at, fault_of, first, given_at}
+use Rattle.sm_json.specs.Fields.{Flaw, may, left, mark_in, member_of, fault_at, fault_of, first, given_at}
 use Rattle.sm_json.specs.Kinds.{or_bad, text, integer, object_or_bad, rules_members, rules_in, rules}
-use Rattle.sm_json.specs.KindLaws.{IsLeftRules, RulesAreLeft, IsLeftList, ReplicasAreLeft}
-use Rattle.sm_json.proofs.KindLemmas.{object_of, array_of, left_fits, flaw_of}
+use Rattle.sm_json.specs.KindLaws.{IsLeftRules, RulesAreLeft}
+use Rattle.sm_json.proofs.KindLemmas.{object_of, left_fits, flaw_of}
 use Rattle.sm_json.proofs.KindLawLemmas.{days_are, days_fit, days_flaw, duration_flaw, schedule_flaw, rules_flaw}
 
 object_left : {A : Type 0} (o : Option shapes.Members) (flaw : Option Flaw) (x : A)
@@ -113,30 +113,3 @@ is_left_rules value ((found, is), (days, has), some) = at_duration (member_of na
 
 pub rules_left : RulesAreLeft
 rules_left value = (left_is_rules value, is_left_rules value)
-
-list_left : (json : Data) → fault_of (no_items names.AddReplicaRegions) json ≡ Some (names.AddReplicaRegions, LeftOut)
-    → IsLeftList json
-unfolding fault_of no_items
-list_left json e = at_member (member_of names.AddReplicaRegions json) refl e
-  where
-    at_items : (value : Data) (items : Option shapes.Items) → member_of names.AddReplicaRegions json ≡ Some value
-        → as_array value ≡ items
-        → option_map (flaw_of names.AddReplicaRegions) (items_left items)
-        ≡ Some (names.AddReplicaRegions, LeftOut) → IsLeftList json
-    at_items value None is there h = absurd (let f : Bad ≡ LeftOut = ap mark_or h in cc)
-    at_items value (Some shapes.no_items) is there h = absurd (let f = h in cc)
-    at_items value (Some (shapes.item one items)) is there h =
-        (one, items, is ∙ ap Some (array_of value (shapes.item one items) there))
-
-    at_member : (o : Option Data) → member_of names.AddReplicaRegions json ≡ o
-        → fault_at (no_items names.AddReplicaRegions) o ≡ Some (names.AddReplicaRegions, LeftOut) → IsLeftList json
-    at_member None is h = absurd (let f = h in cc)
-    at_member (Some value) is h = at_items value (as_array value) is refl h
-
-is_left_list : (json : Data) → IsLeftList json
-    → fault_of (no_items names.AddReplicaRegions) json ≡ Some (names.AddReplicaRegions, LeftOut)
-unfolding fault_of no_items
-is_left_list json (value, items, is) = ap (fault_at (no_items names.AddReplicaRegions)) is
-
-pub replicas_left : ReplicasAreLeft
-replicas_left json = (list_left json, is_left_list json)

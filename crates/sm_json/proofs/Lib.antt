@@ -1,7 +1,6 @@
 pub mod NameLemmas
 pub mod BodyLemmas
 pub mod OwnedLemmas
-pub mod FieldLemmas
 pub mod ItemLemmas
 pub mod TableLaws
 pub mod AlikeLaws

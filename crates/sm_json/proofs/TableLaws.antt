@@ -12,9 +12,9 @@ use Rattle.sm_json.specs.declared.operation.Operation.{Operation}
 use Rattle.sm_json.specs.declared.operation.Operation.TheVariants as named
 use Rattle.sm_json.specs.declared.requests.ReadRequest.TheVariants as answers
 use Rattle.sm_json.specs.Asks.{members_of, request_in, refused, refused_or}
-use Rattle.sm_json.specs.Fields.{Field, Flaw, may, must, no_items, fault_of, first, first_fault}
+use Rattle.sm_json.specs.Fields.{Field, Flaw, may, must, fault_of, first, first_fault}
 use Rattle.sm_json.specs.Names.{spelled}
-use Rattle.sm_json.specs.Tables.{batch_get_secret_value_members, of_secret_members, create_secret_members, delete_secret_members, get_random_password_members, get_secret_value_members, list_secret_version_ids_members, list_secrets_members, put_resource_policy_members, put_secret_value_members, rotate_secret_members, tag_resource_members, untag_resource_members, update_secret_members, update_secret_version_stage_members, validate_resource_policy_members}
+use Rattle.sm_json.specs.Tables.{batch_get_secret_value_members, of_secret_members, create_secret_members, delete_secret_members, get_random_password_members, get_secret_value_members, list_secret_version_ids_members, list_secrets_members, put_resource_policy_members, put_secret_value_members, remove_regions_members, replicate_secret_members, rotate_secret_members, tag_resource_members, untag_resource_members, update_secret_members, update_secret_version_stage_members, validate_resource_policy_members}
 use Rattle.sm_json.specs.Laws.{Has, Before, Ascends, TablesAscend, IsLeast, LeastIsRefused, Fit, FitIsAnswered}
 
 -- the test that a name stands before those of a table, and that the names of a table ascend
@@ -59,9 +59,10 @@ ascends (field ∷ fields) h = (
 
 -- every table
 tested : (operation : Operation) → ascend_test (members_of operation) ≡ true
-unfolding spelled may must no_items batch_get_secret_value_members of_secret_members create_secret_members
+unfolding spelled may must batch_get_secret_value_members of_secret_members create_secret_members
     delete_secret_members get_random_password_members get_secret_value_members list_secret_version_ids_members
-    list_secrets_members put_resource_policy_members put_secret_value_members rotate_secret_members
+    list_secrets_members put_resource_policy_members put_secret_value_members remove_regions_members
+    replicate_secret_members rotate_secret_members
     tag_resource_members untag_resource_members update_secret_members update_secret_version_stage_members
     validate_resource_policy_members
 tested named.BatchGetSecretValue = refl
@@ -77,8 +78,11 @@ tested named.ListSecretVersionIds = refl
 tested named.ListSecrets = refl
 tested named.PutResourcePolicy = refl
 tested named.PutSecretValue = refl
+tested named.RemoveRegionsFromReplication = refl
+tested named.ReplicateSecretToRegions = refl
 tested named.RestoreSecret = refl
 tested named.RotateSecret = refl
+tested named.StopReplicationToReplica = refl
 tested named.TagResource = refl
 tested named.UntagResource = refl
 tested named.UpdateSecret = refl

@@ -15,7 +15,7 @@ use Rattle.sm_json.specs.declared.requests.ReadRequest.TheVariants as answers
 use Rattle.sm_json.specs.Fields.{Field, Flaw, first_fault}
 use Rattle.sm_json.specs.Names.{spelled}
 use Rattle.sm_json.specs.Operations.{operation_of}
-use Rattle.sm_json.specs.Tables.{batch_get_secret_value_members, batch_get_secret_value_in, of_secret_members, of_secret_in, create_secret_members, create_secret_in, delete_secret_members, delete_secret_in, get_random_password_members, get_random_password_in, get_secret_value_members, get_secret_value_in, list_secret_version_ids_members, list_secret_version_ids_in, list_secrets_members, list_secrets_in, put_resource_policy_members, put_resource_policy_in, put_secret_value_members, put_secret_value_in, rotate_secret_members, rotate_secret_in, tag_resource_members, tag_resource_in, untag_resource_members, untag_resource_in, update_secret_members, update_secret_in, update_secret_version_stage_members, update_secret_version_stage_in, validate_resource_policy_members, validate_resource_policy_in}
+use Rattle.sm_json.specs.Tables.{batch_get_secret_value_members, batch_get_secret_value_in, of_secret_members, of_secret_in, create_secret_members, create_secret_in, delete_secret_members, delete_secret_in, get_random_password_members, get_random_password_in, get_secret_value_members, get_secret_value_in, list_secret_version_ids_members, list_secret_version_ids_in, list_secrets_members, list_secrets_in, put_resource_policy_members, put_resource_policy_in, put_secret_value_members, put_secret_value_in, remove_regions_members, remove_regions_in, replicate_secret_members, replicate_secret_in, rotate_secret_members, rotate_secret_in, tag_resource_members, tag_resource_in, untag_resource_members, untag_resource_in, update_secret_members, update_secret_in, update_secret_version_stage_members, update_secret_version_stage_in, validate_resource_policy_members, validate_resource_policy_in}
 
 -- what a text is as JSON
 abbrev pub json_of : List ℕ → Option Data
@@ -49,8 +49,11 @@ members_of named.ListSecretVersionIds = list_secret_version_ids_members
 members_of named.ListSecrets = list_secrets_members
 members_of named.PutResourcePolicy = put_resource_policy_members
 members_of named.PutSecretValue = put_secret_value_members
+members_of named.RemoveRegionsFromReplication = remove_regions_members
+members_of named.ReplicateSecretToRegions = replicate_secret_members
 members_of named.RestoreSecret = of_secret_members
 members_of named.RotateSecret = rotate_secret_members
+members_of named.StopReplicationToReplica = of_secret_members
 members_of named.TagResource = tag_resource_members
 members_of named.UntagResource = untag_resource_members
 members_of named.UpdateSecret = update_secret_members
@@ -72,8 +75,12 @@ request_in named.ListSecretVersionIds json = requests.ListSecretVersionIds (list
 request_in named.ListSecrets json = requests.ListSecrets (list_secrets_in json)
 request_in named.PutResourcePolicy json = requests.PutResourcePolicy (put_resource_policy_in json)
 request_in named.PutSecretValue json = requests.PutSecretValue (put_secret_value_in json)
+request_in named.RemoveRegionsFromReplication json =
+    requests.RemoveRegionsFromReplication (remove_regions_in json)
+request_in named.ReplicateSecretToRegions json = requests.ReplicateSecretToRegions (replicate_secret_in json)
 request_in named.RestoreSecret json = requests.RestoreSecret (of_secret_in json)
 request_in named.RotateSecret json = requests.RotateSecret (rotate_secret_in json)
+request_in named.StopReplicationToReplica json = requests.StopReplicationToReplica (of_secret_in json)
 request_in named.TagResource json = requests.TagResource (tag_resource_in json)
 request_in named.UntagResource json = requests.UntagResource (untag_resource_in json)
 request_in named.UpdateSecret json = requests.UpdateSecret (update_secret_in json)

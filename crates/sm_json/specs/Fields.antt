@@ -4,7 +4,7 @@ use Rattle.std.specs.Prelude.{Bool, true, false, if◌then◌else◌, List, [], 
 use Rattle.std.specs.Result.{result_ok}
 use Rattle.serde_json.specs.Data as shapes
 use Rattle.serde_json.specs.Data.{Data}
-use Rattle.serde_json.specs.Find.{get, as_array}
+use Rattle.serde_json.specs.Find.{get}
 use Rattle.sm_json.specs.declared.fields.Mark.{Mark}
 use Rattle.sm_json.specs.declared.fields.Mark.TheVariants.{Bad, LeftOut}
 use Rattle.sm_json.specs.declared.name.MemberName.{MemberName}
@@ -44,15 +44,6 @@ must name reads = record { name = name; required = true; marks = λ value. mark_
 -- a member that is left out by name
 unfoldable pub left : MemberName → Field
 left name = record { name = name; required = false; marks = λ value. Some LeftOut }
-
--- a list that is left out by name where it has an item
-abbrev pub items_left : Option shapes.Items → Option Mark
-items_left None = Some Bad
-items_left (Some shapes.no_items) = None
-items_left (Some (shapes.item value items)) = Some LeftOut
-
-unfoldable pub no_items : MemberName → Field
-no_items name = record { name = name; required = false; marks = λ value. items_left (as_array value) }
 
 -- a member with which something is wrong
 abbrev pub Flaw : Type 0

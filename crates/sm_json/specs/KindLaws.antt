@@ -14,8 +14,8 @@ use Rattle.sm_model.specs.declared.value.Tag.{Tag}
 use Rattle.sm_json.specs.declared.fields.Mark.{Mark}
 use Rattle.sm_json.specs.declared.fields.Mark.TheVariants.{LeftOut}
 use Rattle.sm_json.specs.declared.name.MemberName.TheVariants as names
-use Rattle.sm_json.specs.Fields.{member_of, no_items, fault_of}
-use Rattle.sm_json.specs.Kinds.{or_bad, text, truth, integer, binary, list_of, tag, filter, rules}
+use Rattle.sm_json.specs.Fields.{member_of}
+use Rattle.sm_json.specs.Kinds.{or_bad, text, truth, integer, binary, list_of, region, tag, filter, rules}
 
 abbrev pub TextsAreStrings : Type 0
 TextsAreStrings = (value : Data) (bytes : List ℕ) → (text value ≡ Ok bytes) ↔ (value ≡ shapes.string bytes)
@@ -79,6 +79,13 @@ IsTag value t = IsObject value × (member_of names.Key value ≡ Some (shapes.st
 abbrev pub TagsAre : Type 0
 TagsAre = (value : Data) (t : Tag) → (tag value ≡ Ok t) ↔ IsTag value t
 
+-- a region to replicate to has a Region
+abbrev pub IsRegion : Data → List ℕ → Type 0
+IsRegion value name = IsObject value × (member_of names.Region value ≡ Some (shapes.string name))
+
+abbrev pub RegionsAre : Type 0
+RegionsAre = (value : Data) (name : List ℕ) → (region value ≡ Ok name) ↔ IsRegion value name
+
 -- a filter has a Key and Values
 abbrev pub IsFilter : Data → Filter → Type 0
 IsFilter value f = IsObject value × (member_of names.Key value ≡ Some (shapes.string f.key))
@@ -113,12 +120,3 @@ IsLeftRules value = IsObject value × ((days : Option ℤ) × HasDays value days
 
 abbrev pub RulesAreLeft : Type 0
 RulesAreLeft = (value : Data) → (rules value ≡ Err LeftOut) ↔ IsLeftRules value
-
--- the regions of replicas are left out by name where they are a list with an item
-abbrev pub IsLeftList : Data → Type 0
-IsLeftList json = (value : Data) × (items : shapes.Items)
-    × (member_of names.AddReplicaRegions json ≡ Some (shapes.array (shapes.item value items)))
-
-abbrev pub ReplicasAreLeft : Type 0
-ReplicasAreLeft = (json : Data)
-    → (fault_of (no_items names.AddReplicaRegions) json ≡ Some (names.AddReplicaRegions, LeftOut)) ↔ IsLeftList json

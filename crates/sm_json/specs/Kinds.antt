@@ -71,6 +71,14 @@ tag_in json = record { key = wanted text names.Key json; value = unwrap_or (give
 unfoldable pub tag : Data → Result Tag Mark
 tag value = object_or_bad (as_object value) (first_fault tag_members value) (tag_in value)
 
+-- a region to replicate to, by its name; whatever else is said of it is passed over (API Reference, ReplicaRegionType)
+unfoldable pub region_members : List Field
+region_members = must names.Region text ∷ []
+
+unfoldable pub region : Data → Result (List ℕ) Mark
+region value =
+    object_or_bad (as_object value) (first_fault region_members value) (wanted text names.Region value)
+
 -- a filter (API Reference, Filter)
 unfoldable pub filter_members : List Field
 filter_members = must names.Key text ∷ must names.Values (list_of text) ∷ []

@@ -1,7 +1,7 @@
 -- The names of members: the request syntax of each operation in the API Reference.
 use Rattle.std.specs.Prelude.{ℕ, List, codes}
 use Rattle.sm_json.specs.declared.name.MemberName.{MemberName}
-use Rattle.sm_json.specs.declared.name.MemberName.TheVariants.{AddReplicaRegions, AutomaticallyAfterDays, BlockPublicPolicy, ClientRequestToken, Description, Duration, ExcludeCharacters, ExcludeLowercase, ExcludeNumbers, ExcludePunctuation, ExcludeUppercase, Filters, ForceDeleteWithoutRecovery, IncludeDeprecated, IncludePlannedDeletion, IncludeSpace, Key, KmsKeyId, MaxResults, MoveToVersionId, Name, NextToken, PasswordLength, RecoveryWindowInDays, RemoveFromVersionId, RequireEachIncludedType, ResourcePolicy, RotateImmediately, RotationLambdaARN, RotationRules, ScheduleExpression, SecretBinary, SecretId, SecretIdList, SecretString, SortOrder, TagKeys, Tags, Value, Values, VersionId, VersionStage, VersionStages}
+use Rattle.sm_json.specs.declared.name.MemberName.TheVariants.{AddReplicaRegions, AutomaticallyAfterDays, BlockPublicPolicy, ClientRequestToken, Description, Duration, ExcludeCharacters, ExcludeLowercase, ExcludeNumbers, ExcludePunctuation, ExcludeUppercase, Filters, ForceDeleteWithoutRecovery, IncludeDeprecated, IncludePlannedDeletion, IncludeSpace, Key, KmsKeyId, MaxResults, MoveToVersionId, Name, NextToken, PasswordLength, RecoveryWindowInDays, Region, RemoveFromVersionId, RemoveReplicaRegions, RequireEachIncludedType, ResourcePolicy, RotateImmediately, RotationLambdaARN, RotationRules, ScheduleExpression, SecretBinary, SecretId, SecretIdList, SecretString, SortOrder, TagKeys, Tags, Value, Values, VersionId, VersionStage, VersionStages}
 
 -- a member's name as it stands in JSON
 unfoldable pub spelled : MemberName → List ℕ
@@ -29,7 +29,9 @@ spelled Name = codes "Name"
 spelled NextToken = codes "NextToken"
 spelled PasswordLength = codes "PasswordLength"
 spelled RecoveryWindowInDays = codes "RecoveryWindowInDays"
+spelled Region = codes "Region"
 spelled RemoveFromVersionId = codes "RemoveFromVersionId"
+spelled RemoveReplicaRegions = codes "RemoveReplicaRegions"
 spelled RequireEachIncludedType = codes "RequireEachIncludedType"
 spelled ResourcePolicy = codes "ResourcePolicy"
 spelled RotateImmediately = codes "RotateImmediately"

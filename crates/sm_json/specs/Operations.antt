@@ -4,7 +4,7 @@ use Rattle.std.specs.Prelude.{ℕ, if◌then◌else◌, nat_eq, List, [], ◌∷
 use Rattle.std.specs.List.{starts_with}
 use Rattle.std.specs.Str.{bytes_eq}
 use Rattle.sm_json.specs.declared.operation.Operation.{Operation}
-use Rattle.sm_json.specs.declared.operation.Operation.TheVariants.{BatchGetSecretValue, CancelRotateSecret, CreateSecret, DeleteResourcePolicy, DeleteSecret, DescribeSecret, GetRandomPassword, GetResourcePolicy, GetSecretValue, ListSecretVersionIds, ListSecrets, PutResourcePolicy, PutSecretValue, RestoreSecret, RotateSecret, TagResource, UntagResource, UpdateSecret, UpdateSecretVersionStage, ValidateResourcePolicy}
+use Rattle.sm_json.specs.declared.operation.Operation.TheVariants.{BatchGetSecretValue, CancelRotateSecret, CreateSecret, DeleteResourcePolicy, DeleteSecret, DescribeSecret, GetRandomPassword, GetResourcePolicy, GetSecretValue, ListSecretVersionIds, ListSecrets, PutResourcePolicy, PutSecretValue, RemoveRegionsFromReplication, ReplicateSecretToRegions, RestoreSecret, RotateSecret, StopReplicationToReplica, TagResource, UntagResource, UpdateSecret, UpdateSecretVersionStage, ValidateResourcePolicy}
 
 -- an operation's name
 abbrev pub name_of : Operation → List ℕ
@@ -21,8 +21,11 @@ name_of ListSecretVersionIds = codes "ListSecretVersionIds"
 name_of ListSecrets = codes "ListSecrets"
 name_of PutResourcePolicy = codes "PutResourcePolicy"
 name_of PutSecretValue = codes "PutSecretValue"
+name_of RemoveRegionsFromReplication = codes "RemoveRegionsFromReplication"
+name_of ReplicateSecretToRegions = codes "ReplicateSecretToRegions"
 name_of RestoreSecret = codes "RestoreSecret"
 name_of RotateSecret = codes "RotateSecret"
+name_of StopReplicationToReplica = codes "StopReplicationToReplica"
 name_of TagResource = codes "TagResource"
 name_of UntagResource = codes "UntagResource"
 name_of UpdateSecret = codes "UpdateSecret"
@@ -35,8 +38,9 @@ operations =
     BatchGetSecretValue ∷ CancelRotateSecret ∷ CreateSecret ∷ DeleteResourcePolicy
     ∷ DeleteSecret ∷ DescribeSecret ∷ GetRandomPassword ∷ GetResourcePolicy
     ∷ GetSecretValue ∷ ListSecretVersionIds ∷ ListSecrets ∷ PutResourcePolicy
-    ∷ PutSecretValue ∷ RestoreSecret ∷ RotateSecret ∷ TagResource
-    ∷ UntagResource ∷ UpdateSecret ∷ UpdateSecretVersionStage ∷ ValidateResourcePolicy ∷ []
+    ∷ PutSecretValue ∷ RemoveRegionsFromReplication ∷ ReplicateSecretToRegions ∷ RestoreSecret
+    ∷ RotateSecret ∷ StopReplicationToReplica ∷ TagResource ∷ UntagResource
+    ∷ UpdateSecret ∷ UpdateSecretVersionStage ∷ ValidateResourcePolicy ∷ []
 
 -- the first of some operations that has the name
 abbrev pub find_named : List ℕ → List Operation → Option Operation

@@ -12,6 +12,7 @@ use Rattle.sm_model.specs.declared.request.ListSecrets.{ListSecrets}
 use Rattle.sm_model.specs.declared.request.OfSecret.{OfSecret}
 use Rattle.sm_model.specs.declared.request.PutResourcePolicy.{PutResourcePolicy}
 use Rattle.sm_model.specs.declared.request.PutSecretValue.{PutSecretValue}
+use Rattle.sm_model.specs.declared.request.RegionsOfSecret.{RegionsOfSecret}
 use Rattle.sm_model.specs.declared.request.RotateSecret.{RotateSecret}
 use Rattle.sm_model.specs.declared.request.TagResource.{TagResource}
 use Rattle.sm_model.specs.declared.request.UntagResource.{UntagResource}
@@ -19,8 +20,8 @@ use Rattle.sm_model.specs.declared.request.UpdateSecret.{UpdateSecret}
 use Rattle.sm_model.specs.declared.request.UpdateSecretVersionStage.{UpdateSecretVersionStage}
 use Rattle.sm_model.specs.declared.request.ValidateResourcePolicy.{ValidateResourcePolicy}
 use Rattle.sm_json.specs.declared.name.MemberName.TheVariants as names
-use Rattle.sm_json.specs.Fields.{Field, may, must, no_items, given, wanted}
-use Rattle.sm_json.specs.Kinds.{text, truth, integer, binary, list_of, tag, filter, rules}
+use Rattle.sm_json.specs.Fields.{Field, may, must, given, wanted}
+use Rattle.sm_json.specs.Kinds.{text, truth, integer, binary, list_of, region, tag, filter, rules}
 
 -- BatchGetSecretValue
 unfoldable pub batch_get_secret_value_members : List Field
@@ -38,7 +39,8 @@ batch_get_secret_value_in json = record {
   secret_id_list = given (list_of text) names.SecretIdList json;
 }
 
--- CancelRotateSecret, DeleteResourcePolicy, DescribeSecret, GetResourcePolicy and RestoreSecret
+-- CancelRotateSecret, DeleteResourcePolicy, DescribeSecret, GetResourcePolicy, RestoreSecret and
+-- StopReplicationToReplica
 unfoldable pub of_secret_members : List Field
 of_secret_members =
     must names.SecretId text ∷ []
@@ -51,7 +53,7 @@ of_secret_in json = record {
 -- CreateSecret
 unfoldable pub create_secret_members : List Field
 create_secret_members =
-    no_items names.AddReplicaRegions
+    may names.AddReplicaRegions (list_of region)
     ∷ may names.ClientRequestToken text
     ∷ may names.Description text
     ∷ may names.KmsKeyId text
@@ -62,7 +64,7 @@ create_secret_members =
 
 unfoldable pub create_secret_in : Data → CreateSecret
 create_secret_in json = record {
-  regions = [];
+  regions = wanted (list_of region) names.AddReplicaRegions json;
   client_request_token = given text names.ClientRequestToken json;
   description = given text names.Description json;
   kms_key_id = given text names.KmsKeyId json;
@@ -188,6 +190,30 @@ put_secret_value_in json = record {
   secret_id = wanted text names.SecretId json;
   secret_string = given text names.SecretString json;
   version_stages = given (list_of text) names.VersionStages json;
+}
+
+-- RemoveRegionsFromReplication
+unfoldable pub remove_regions_members : List Field
+remove_regions_members =
+    must names.RemoveReplicaRegions (list_of text)
+    ∷ must names.SecretId text ∷ []
+
+unfoldable pub remove_regions_in : Data → RegionsOfSecret
+remove_regions_in json = record {
+  regions = wanted (list_of text) names.RemoveReplicaRegions json;
+  secret_id = wanted text names.SecretId json;
+}
+
+-- ReplicateSecretToRegions
+unfoldable pub replicate_secret_members : List Field
+replicate_secret_members =
+    must names.AddReplicaRegions (list_of region)
+    ∷ must names.SecretId text ∷ []
+
+unfoldable pub replicate_secret_in : Data → RegionsOfSecret
+replicate_secret_in json = record {
+  regions = wanted (list_of region) names.AddReplicaRegions json;
+  secret_id = wanted text names.SecretId json;
 }
 
 -- RotateSecret

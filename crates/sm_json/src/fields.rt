@@ -2,7 +2,7 @@
 ghost use Rattle.std.specs.Prelude.{◌≡◌, Result, option_map};
 ghost use Rattle.serde_json.specs.Data.{Data};
 ghost use Rattle.serde_json.specs.View.{view};
-ghost use Rattle.sm_json.specs.Fields.{may, must, left, no_items, unless_null, member_of, given, fault_of};
+ghost use Rattle.sm_json.specs.Fields.{may, must, left, unless_null, member_of, given, fault_of};
 ghost use Rattle.sm_json.specs.Reads.{IsRead, Reads, Needs, Passes};
 ghost use Rattle.sm_json.specs.Names.{spelled};
 
@@ -105,23 +105,6 @@ pub fn left_out(json: &Value, name: MemberName) -> Result<(), Fault>
 {
     match member_of(json, name) {
         Some(_) => Err(Fault::At(name, Mark::LeftOut)),
-        None => Ok(()),
-    }
-}
-
-/// A list that is left out by name where it has an item.
-#[tactic(auto, using(crate::proofs::FieldLemmas::no_item, crate::proofs::FieldLemmas::some_items), unfolding(crate::specs::Fields::no_items, crate::specs::Fields::fault_of))]
-pub fn no_items(json: &Value, name: MemberName) -> Result<(), Fault>
-    ensures { Passes result (fault_of (no_items name) (view json.now)) }
-{
-    match member_of(json, name) {
-        Some(value) => match value.as_array() {
-            Some(items) => match items.as_slice() {
-                [] => Ok(()),
-                [_, ..] => Err(Fault::At(name, Mark::LeftOut)),
-            },
-            None => Err(Fault::At(name, Mark::Bad)),
-        },
         None => Ok(()),
     }
 }

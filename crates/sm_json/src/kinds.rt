@@ -122,7 +122,7 @@ fn all_items<T: Member>(alloc: Global, items: &[Value]) -> Read<List<T>>
 }
 
 /// The object that was read by its members; what is wrong with one of them is wrong with the object.
-fn object_read<T: Drop>(read: Result<T, Fault>) -> Read<T>
+pub fn object_read<T: Drop>(read: Result<T, Fault>) -> Read<T>
     ensures { (flaw : Option Flaw) → (value : T) → Reads read flaw value → IsRead result (or_flaw flaw value) }
 {
     match read {

@@ -1,7 +1,7 @@
 //! Laws of the tables of members.
 ghost use Rattle.sm_json.specs.Laws.{TablesAscend, LeastIsRefused, FitIsAnswered, OnlyMembersCount, LastCounts, OrderIsNothing};
-ghost use Rattle.sm_json.specs.KindLaws.{TextsAreStrings, TruthsAreTrueAndFalse, IntegersAreWhole, OnlyNumbersAreIntegers, BytesAreEncoded, ListsAre, TagsAre, FiltersAre, RulesAre, RulesAreLeft, ReplicasAreLeft};
-ghost use Rattle.sm_json.specs.Kinds.{text, tag, filter};
+ghost use Rattle.sm_json.specs.KindLaws.{TextsAreStrings, TruthsAreTrueAndFalse, IntegersAreWhole, OnlyNumbersAreIntegers, BytesAreEncoded, ListsAre, TagsAre, FiltersAre, RegionsAre, RulesAre, RulesAreLeft};
+ghost use Rattle.sm_json.specs.Kinds.{text, region, tag, filter};
 
 /// Each table names its members once, in ascending byte order; so the member that is refused is the least that is
 /// missing, of another type or left out by name, and a request is answered exactly where there is none.
@@ -28,10 +28,11 @@ pub fn kinds_are_json()
     ensures bytes { BytesAreEncoded }
     ensures text_lists { ListsAre text }
     ensures tag_lists { ListsAre tag }
+    ensures region_lists { ListsAre region }
     ensures filter_lists { ListsAre filter }
     ensures tags { TagsAre }
     ensures filters { FiltersAre }
+    ensures regions { RegionsAre }
     ensures rules { RulesAre }
     ensures rules_left { RulesAreLeft }
-    ensures replicas_left { ReplicasAreLeft }
 {}

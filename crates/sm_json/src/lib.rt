@@ -13,6 +13,7 @@ mod owned;
 mod passwords;
 mod policies;
 mod reading;
+mod regions;
 pub mod requests;
 mod rotation;
 mod secrets;

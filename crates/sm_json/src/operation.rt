@@ -18,8 +18,11 @@ pub enum Operation {
     ListSecrets,
     PutResourcePolicy,
     PutSecretValue,
+    RemoveRegionsFromReplication,
+    ReplicateSecretToRegions,
     RestoreSecret,
     RotateSecret,
+    StopReplicationToReplica,
     TagResource,
     UntagResource,
     UpdateSecret,
@@ -28,7 +31,7 @@ pub enum Operation {
 }
 
 /// All operations, in ascending byte order of their names.
-const OPERATIONS: [Operation; 20] = [
+const OPERATIONS: [Operation; 23] = [
     Operation::BatchGetSecretValue,
     Operation::CancelRotateSecret,
     Operation::CreateSecret,
@@ -42,8 +45,11 @@ const OPERATIONS: [Operation; 20] = [
     Operation::ListSecrets,
     Operation::PutResourcePolicy,
     Operation::PutSecretValue,
+    Operation::RemoveRegionsFromReplication,
+    Operation::ReplicateSecretToRegions,
     Operation::RestoreSecret,
     Operation::RotateSecret,
+    Operation::StopReplicationToReplica,
     Operation::TagResource,
     Operation::UntagResource,
     Operation::UpdateSecret,
@@ -70,8 +76,11 @@ impl Operation {
             Operation::ListSecrets => "ListSecrets",
             Operation::PutResourcePolicy => "PutResourcePolicy",
             Operation::PutSecretValue => "PutSecretValue",
+            Operation::RemoveRegionsFromReplication => "RemoveRegionsFromReplication",
+            Operation::ReplicateSecretToRegions => "ReplicateSecretToRegions",
             Operation::RestoreSecret => "RestoreSecret",
             Operation::RotateSecret => "RotateSecret",
+            Operation::StopReplicationToReplica => "StopReplicationToReplica",
             Operation::TagResource => "TagResource",
             Operation::UntagResource => "UntagResource",
             Operation::UpdateSecret => "UpdateSecret",

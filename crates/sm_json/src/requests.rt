@@ -10,7 +10,7 @@ ghost use Rattle.sm_json.specs.Reads.{Reads, Flawed};
 use crate::body::{Body, object_of};
 use crate::fields::{Fault, Mark};
 use crate::operation::Operation;
-use crate::{passwords, policies, rotation, secrets, values};
+use crate::{passwords, policies, regions, rotation, secrets, values};
 use json::Scratch;
 use serde_json::Value;
 use sm_model::{Request, Text};
@@ -77,12 +77,21 @@ fn request_in(alloc: Global, operation: Operation, object: &Value) -> Result<Req
         Operation::PutSecretValue => Ok(Request::PutSecretValue(values::put_secret_value_in(
             alloc, object,
         )?)),
+        Operation::RemoveRegionsFromReplication => Ok(Request::RemoveRegionsFromReplication(
+            regions::remove_regions_in(alloc, object)?,
+        )),
+        Operation::ReplicateSecretToRegions => Ok(Request::ReplicateSecretToRegions(
+            regions::replicate_secret_in(alloc, object)?,
+        )),
         Operation::RestoreSecret => Ok(Request::RestoreSecret(secrets::of_secret_in(
             alloc, object,
         )?)),
         Operation::RotateSecret => Ok(Request::RotateSecret(rotation::rotate_secret_in(
             alloc, object,
         )?)),
+        Operation::StopReplicationToReplica => Ok(Request::StopReplicationToReplica(
+            secrets::of_secret_in(alloc, object)?,
+        )),
         Operation::TagResource => Ok(Request::TagResource(secrets::tag_resource_in(
             alloc, object,
         )?)),

@@ -12,7 +12,8 @@ use sm_model::{
 };
 use std::alloc::Global;
 
-/// The members of CancelRotateSecret, DeleteResourcePolicy, DescribeSecret, GetResourcePolicy and RestoreSecret.
+/// The members of CancelRotateSecret, DeleteResourcePolicy, DescribeSecret, GetResourcePolicy, RestoreSecret and
+/// StopReplicationToReplica.
 #[tactic(auto, unfolding(crate::specs::Tables::of_secret_members, crate::specs::Tables::of_secret_in))]
 pub fn of_secret_in(alloc: Global, object: &Value) -> Result<OfSecret, Fault>
     ensures { Reads result (first_fault of_secret_members (view object.now)) (of_secret_in (view object.now)) }

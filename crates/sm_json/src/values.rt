@@ -4,11 +4,12 @@ ghost use Rattle.sm_json.specs.Fields.{first_fault};
 ghost use Rattle.sm_json.specs.Reads.{Reads};
 ghost use Rattle.sm_json.specs.Tables.{batch_get_secret_value_members, batch_get_secret_value_in, create_secret_members, create_secret_in, get_secret_value_members, get_secret_value_in, put_secret_value_members, put_secret_value_in, update_secret_members, update_secret_in, update_secret_version_stage_members, update_secret_version_stage_in};
 
-use crate::fields::{Fault, no_items, optional, required};
+use crate::fields::{Fault, optional, required};
 use crate::name::MemberName;
+use crate::regions::regions_given;
 use serde_json::Value;
 use sm_model::{
-    BatchGetSecretValue, CreateSecret, GetSecretValue, List, PutSecretValue, UpdateSecret,
+    BatchGetSecretValue, CreateSecret, GetSecretValue, PutSecretValue, UpdateSecret,
     UpdateSecretVersionStage,
 };
 use std::alloc::Global;
@@ -35,9 +36,8 @@ pub fn batch_get_secret_value_in(
 pub fn create_secret_in(alloc: Global, object: &Value) -> Result<CreateSecret, Fault>
     ensures { Reads result (first_fault create_secret_members (view object.now)) (create_secret_in (view object.now)) }
 {
-    no_items(object, MemberName::AddReplicaRegions)?;
     Ok(CreateSecret {
-        regions: List::empty(alloc),
+        regions: regions_given(alloc, object, MemberName::AddReplicaRegions)?,
         client_request_token: optional(alloc, object, MemberName::ClientRequestToken)?,
         description: optional(alloc, object, MemberName::Description)?,
         kms_key_id: optional(alloc, object, MemberName::KmsKeyId)?,

@@ -29,7 +29,7 @@ fn asked_with(
 type Row = (&'static str, &'static str, &'static str);
 
 /// What each operation asks for, and what is no operation or no JSON object.
-static ASKED: [Row; 46] = [
+static ASKED: [Row; 47] = [
     (
         "BatchGetSecretValue",
         "{\"Filters\":[{\"Key\":\"name\",\"Values\":[\"a\",\"b\"]}],\"MaxResults\":5,\"NextToken\":\"n\",\
@@ -51,6 +51,11 @@ static ASKED: [Row; 46] = [
          Tags=[Key=a Value=b ,Key=c Value= ,] ",
     ),
     ("CreateSecret", "{\"Name\":\"\"}", "Name= "),
+    (
+        "CreateSecret",
+        "{\"AddReplicaRegions\":[{\"KmsKeyId\":\"k\",\"Region\":\"eu-west-1\"},{\"Region\":\"a\"}],\"Name\":\"n\"}",
+        "Name=n Regions=[eu-west-1,a,] ",
+    ),
     (
         "DeleteResourcePolicy",
         "{\"SecretId\":\"s\"}",
@@ -172,17 +177,17 @@ static ASKED: [Row; 46] = [
     (
         "RemoveRegionsFromReplication",
         "{\"SecretId\":\"s\",\"RemoveReplicaRegions\":[\"eu-west-1\"]}",
-        "unknown",
+        "RemoveRegionsFromReplication Regions=[eu-west-1,] SecretId=s ",
     ),
     (
         "ReplicateSecretToRegions",
         "{\"SecretId\":\"s\",\"AddReplicaRegions\":[{\"Region\":\"eu-west-1\"}]}",
-        "unknown",
+        "ReplicateSecretToRegions Regions=[eu-west-1,] SecretId=s ",
     ),
     (
         "StopReplicationToReplica",
         "{\"SecretId\":\"s\"}",
-        "unknown",
+        "StopReplicationToReplica SecretId=s ",
     ),
     ("", "[", "unknown"),
     ("DescribeSecret", "[]", "no json"),
@@ -226,7 +231,7 @@ static ASKED: [Row; 46] = [
 ];
 
 /// Which member is refused, and what each type takes.
-static MEMBERS: [Row; 55] = [
+static MEMBERS: [Row; 64] = [
     (
         "CreateSecret",
         "{\"Tags\":1,\"SecretString\":2,\"Description\":3}",
@@ -235,7 +240,7 @@ static MEMBERS: [Row; 55] = [
     (
         "CreateSecret",
         "{\"Tags\":1,\"AddReplicaRegions\":[null],\"ClientRequestToken\":2}",
-        "left=AddReplicaRegions ",
+        "bad=AddReplicaRegions ",
     ),
     (
         "CreateSecret",
@@ -252,6 +257,47 @@ static MEMBERS: [Row; 55] = [
         "{\"AddReplicaRegions\":null,\"Name\":\"n\"}",
         "Name=n ",
     ),
+    (
+        "CreateSecret",
+        "{\"AddReplicaRegions\":[{\"Region\":\"a\"},{}],\"Name\":\"n\"}",
+        "bad=AddReplicaRegions ",
+    ),
+    (
+        "CreateSecret",
+        "{\"AddReplicaRegions\":[{\"KmsKeyId\":1,\"Region\":\"A\",\"Region\":\"a\"}],\"Name\":\"n\"}",
+        "Name=n Regions=[a,] ",
+    ),
+    (
+        "ReplicateSecretToRegions",
+        "{\"SecretId\":\"s\"}",
+        "bad=AddReplicaRegions ",
+    ),
+    (
+        "ReplicateSecretToRegions",
+        "{\"AddReplicaRegions\":[\"a\"],\"SecretId\":1}",
+        "bad=AddReplicaRegions ",
+    ),
+    (
+        "ReplicateSecretToRegions",
+        "{\"AddReplicaRegions\":[],\"RemoveReplicaRegions\":1,\"SecretId\":\"s\"}",
+        "ReplicateSecretToRegions Regions=[] SecretId=s ",
+    ),
+    (
+        "RemoveRegionsFromReplication",
+        "{\"AddReplicaRegions\":[],\"SecretId\":\"s\"}",
+        "bad=RemoveReplicaRegions ",
+    ),
+    (
+        "RemoveRegionsFromReplication",
+        "{\"RemoveReplicaRegions\":[{\"Region\":\"a\"}],\"SecretId\":1}",
+        "bad=RemoveReplicaRegions ",
+    ),
+    (
+        "RemoveRegionsFromReplication",
+        "{\"RemoveReplicaRegions\":[\"b\",\"a\",\"b\"],\"SecretId\":\"s\"}",
+        "RemoveRegionsFromReplication Regions=[b,a,b,] SecretId=s ",
+    ),
+    ("StopReplicationToReplica", "{}", "bad=SecretId "),
     (
         "RotateSecret",
         "{\"RotationRules\":{\"AutomaticallyAfterDays\":\"1\",\"Duration\":\"3h\"}}",

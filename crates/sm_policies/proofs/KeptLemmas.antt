@@ -46,6 +46,7 @@ with_policy_sound policy row is sound =
         changed = f.changed;
         deletion = f.deletion;
         rotation = f.rotation;
+        regions = f.regions;
         job = f.job;
       };
     }

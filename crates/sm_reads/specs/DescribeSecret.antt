@@ -19,6 +19,7 @@ use Rattle.sm_table.specs.Found.{found}
 use Rattle.sm_judging.specs.declared.judged.Judged.{Judged}
 use Rattle.sm_judging.specs.declared.judged.Judged.TheVariants.{Accept, Refuse}
 use Rattle.sm_judging.specs.LabelsShown.{labels_shown}
+use Rattle.sm_judging.specs.Regions.{replicas_shown}
 
 -- ---- the reply
 
@@ -52,7 +53,7 @@ described row = record {
   last_rotated_date = row.rotation.last;
   name = row.name;
   next_rotation_date = row.rotation.next;
-  replication_status = None;
+  replication_status = replicas_shown row.regions;
   rotation_enabled = row.rotation.enabled;
   rotation_lambda_arn = row.rotation.lambda;
   rotation_rules = rules_shown row.rotation;

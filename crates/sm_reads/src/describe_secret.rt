@@ -8,6 +8,7 @@ use sm_base::{copy_three, copy_two};
 use sm_judging::Judged;
 use sm_judging::labels_shown::labels_shown;
 use sm_judging::members::secret_id;
+use sm_judging::regions::replicas_shown;
 use sm_model::{
     Copied, Described, List, Moment, NoMemory, OfSecret, Reply, Rotation, RulesShown, SecretRow,
     Staged, Token, Why,
@@ -53,6 +54,7 @@ pub fn described(alloc: Global, row: &SecretRow) -> Result<Described, NoMemory>
         &row.rotation.lambda,
     )?;
     let rotation_rules = rules_shown(alloc, &row.rotation)?;
+    let replication_status = replicas_shown(alloc, row.regions.as_slice())?;
     let tags = row.tags.copy(alloc)?;
     let version_ids_to_stages = staged(alloc, row)?;
     Ok(Described {
@@ -65,7 +67,7 @@ pub fn described(alloc: Global, row: &SecretRow) -> Result<Described, NoMemory>
         last_rotated_date: row.rotation.last,
         name,
         next_rotation_date: row.rotation.next,
-        replication_status: None,
+        replication_status,
         rotation_enabled: row.rotation.enabled,
         rotation_lambda_arn,
         rotation_rules,

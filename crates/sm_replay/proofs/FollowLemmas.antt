@@ -16,7 +16,6 @@ use Rattle.sm_replay.specs.Following.{origin, after_entry, after_all, entries_li
 pub nothing_sound : IsSound origin
 nothing_sound = record {
   rows = record { serials = refl; names = refl; count = omega arith; each = tt };
-  plain = tt;
   last = omega arith;
 }
 

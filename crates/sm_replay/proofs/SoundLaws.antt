@@ -3,19 +3,11 @@ use Rattle.std.proofs.Common.{◌≤◌, List, [], ◌∷◌, sym, subst}
 use Rattle.sm_base.specs.declared.moment.Moment.{Moment}
 use Rattle.sm_base.specs.declared.moment.TheConstants.{LAST_READING}
 use Rattle.sm_model.specs.declared.entry.Entry.{Entry}
-use Rattle.sm_model.specs.declared.rows.Rows.{Rows}
 use Rattle.sm_table.specs.Sound.{Sound}
-use Rattle.sm_core.specs.Effects.{effect}
-use Rattle.sm_core.specs.Histories.{replay, last_moment, InTime}
+use Rattle.sm_core.specs.Histories.{last_moment, InTime}
 use Rattle.sm_core.proofs.HistoryLemmas.{legal_keeps}
-use Rattle.sm_sound.specs.Bases.{EachPlain}
 use Rattle.sm_replay.specs.Laws.{KeepsSound, MakesAsReplayed}
 use Rattle.sm_replay.proofs.FollowLemmas.{after_rows, after_last, after_count}
-use Rattle.sm_replay.proofs.PlainLaws.{effect_plain}
-
-replay_plain : (rows : Rows) (entries : List Entry) → EachPlain rows.secrets → EachPlain (replay rows entries).secrets
-replay_plain rows [] plain = plain
-replay_plain rows (e ∷ es) plain = replay_plain (effect rows e) es (effect_plain rows e plain)
 
 last_in_time : (before : Moment) (entries : List Entry) → before.0 ≤ LAST_READING → InTime entries
     → (last_moment before entries).0 ≤ LAST_READING
@@ -26,8 +18,6 @@ pub come_sound : KeepsSound
 come_sound base entries sound come early = record {
   rows = subst Sound (sym (after_rows base entries))
       (legal_keeps base.rows base.last entries sound.rows come.legal early);
-  plain = subst (λ (rows : Rows). EachPlain rows.secrets) (sym (after_rows base entries))
-      (replay_plain base.rows entries sound.plain);
   last = subst (λ (m : Moment). m.0 ≤ LAST_READING) (sym (after_last base entries))
       (last_in_time base.last entries sound.last early);
 }

@@ -3,7 +3,7 @@ ghost use Rattle.std.specs.Prelude.{◌≡◌, ◌≤◌, ◌∷◌, [], IfOk, I
 ghost use Rattle.sm_base.specs.declared.moment.TheConstants.{LAST_READING};
 ghost use Rattle.sm_core.specs.Histories.{InTime};
 ghost use Rattle.sm_table.specs.Sound.{Sound};
-ghost use Rattle.sm_sound.specs.Bases.{EachPlain, IsSound};
+ghost use Rattle.sm_sound.specs.Bases.{IsSound};
 ghost use Rattle.sm_replay.specs.Following.{origin, after_entry, after_all, MayCome, OnRefused, StopsAt};
 
 use sm_core::{Replayed, again};
@@ -64,7 +64,6 @@ impl Standing {
     /// Behind so many entries, of which the last was made at the moment and which left these rows. It takes no memory.
     pub fn over(table: Table, last: Moment, entries: u64) -> Standing
         requires rows { Sound table }
-        requires plain { EachPlain table.secrets }
         requires last { last.0 ≤ LAST_READING }
         ensures { result ≡ record { rows = table; last = last; entries = entries } }
     {
@@ -134,7 +133,7 @@ impl Standing {
     }
 
     /// Makes one entry again, where it may follow.
-    #[tactic(auto, using(crate::proofs::PlainLaws::effect_plain, crate::proofs::FollowLemmas::one_comes))]
+    #[tactic(auto, using(crate::proofs::FollowLemmas::one_comes))]
     pub fn follow(&mut self, alloc: Global, entry: &Entry) -> Result<(), Refusal>
         requires { entry.now.moment.0 ≤ LAST_READING }
         ensures after { OnOk result (self.new ≡ after_entry self.old entry.now) }

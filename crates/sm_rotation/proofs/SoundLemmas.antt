@@ -76,6 +76,7 @@ parts_fit row p f fit = record {
   changed = f.changed;
   deletion = f.deletion;
   rotation = fit.rotation;
+  regions = f.regions;
   job = fit.job;
 }
 

@@ -66,6 +66,7 @@ rerotated_sound rotation job row rotates kept fit sound =
         changed = f.changed;
         deletion = f.deletion;
         rotation = rotates;
+        regions = f.regions;
         job = fit;
       };
     }

@@ -270,7 +270,7 @@ const MEMBERS: [Exchange; 14] = [
     ),
     (
         CREATE,
-        r#"{"Name":"n","AddReplicaRegions":[{}]}"#,
+        r#"{"Name":"n","AddReplicaRegions":[{"Region":"EU"}]}"#,
         BAD,
         r#"{"Message":"AddReplicaRegions is not in its form","__type":"InvalidParameterException"}"#,
     ),
@@ -388,6 +388,36 @@ const UPKEEP: [Exchange; 10] = [
     (GET, GET_APP, BAD, NOT_FOUND),
 ];
 
+/// A secret that is made in a region, given another one, and taken out of both.
+const REGIONS: [Exchange; 4] = [
+    (
+        CREATE,
+        r#"{"Name":"n","AddReplicaRegions":[{"KmsKeyId":"k","Region":"eu-west-1"}]}"#,
+        OK,
+        "{\"ARN\":\"arn:aws:secretsmanager:us-east-1:000000000000:secret:n-ABCDEF\",\"Name\":\"n\",\
+            \"ReplicationStatus\":[{\"Region\":\"eu-west-1\",\"Status\":\"InProgress\"}]}",
+    ),
+    (
+        "ReplicateSecretToRegions",
+        r#"{"SecretId":"n","AddReplicaRegions":[{"Region":"a"},{"Region":"eu-west-1"}]}"#,
+        OK,
+        "{\"ARN\":\"arn:aws:secretsmanager:us-east-1:000000000000:secret:n-ABCDEF\",\"ReplicationStatus\":[\
+            {\"Region\":\"eu-west-1\",\"Status\":\"InProgress\"},{\"Region\":\"a\",\"Status\":\"InProgress\"}]}",
+    ),
+    (
+        "RemoveRegionsFromReplication",
+        r#"{"SecretId":"n","RemoveReplicaRegions":["eu-west-1","a"]}"#,
+        OK,
+        "{\"ARN\":\"arn:aws:secretsmanager:us-east-1:000000000000:secret:n-ABCDEF\",\"ReplicationStatus\":[]}",
+    ),
+    (
+        "StopReplicationToReplica",
+        r#"{"SecretId":"n"}"#,
+        BAD,
+        r#"{"Message":"secret is not a replica","__type":"InvalidRequestException"}"#,
+    ),
+];
+
 /// A password of the first drawn bytes, a page, and a batch of a secret and of one that is not there.
 const LISTS: [Exchange; 5] = [
     (
@@ -466,7 +496,7 @@ fn converse(
 
 #[test]
 fn answers_conversations(rt: HostRuntime) -> Result<(), Fail> {
-    let conversations: [&[Exchange]; 11] = [
+    let conversations: [&[Exchange]; 12] = [
         &TWICE,
         &OTHER_VALUES,
         &EMPTY,
@@ -476,6 +506,7 @@ fn answers_conversations(rt: HostRuntime) -> Result<(), Fail> {
         &LABELS,
         &MEMBERS,
         &UPKEEP,
+        &REGIONS,
         &LISTS,
         &DRAWN,
     ];

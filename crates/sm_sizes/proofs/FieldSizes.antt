@@ -6,7 +6,10 @@ use Rattle.std.specs.Char.{is_ascii_digit, encode_utf8 as encode}
 use Rattle.std.specs.List.{flat_map, list_all, starts_with}
 use Rattle.std.proofs.lemmas.Bool.Decides.{nat_tests}
 use Rattle.std.proofs.lemmas.Bool.{and_from, and_parts}
-use Rattle.std.proofs.lemmas.Str.{is_utf8-from_IsUtf8, IsUtf8-from_is_utf8, encodes-chars, length-encode, len_utf8_bounds}
+use Rattle.std.proofs.lemmas.List.Elements.{All-weaker}
+use Rattle.std.proofs.lemmas.List.Sums.{AllPass-from_list_all}
+use Rattle.std.proofs.lemmas.Str.{is_utf8-from_IsUtf8, IsUtf8-from_ascii, IsUtf8-from_is_utf8, encodes-chars, length-encode, len_utf8_bounds}
+use Rattle.std.proofs.lemmas.Str.Ascii.{IsAscii-from_all}
 use Rattle.sm_base.specs.Spelling.{is_run, is_name_byte, is_token, is_token_byte, is_name, is_label, is_arn, is_arn_like, is_secret_id, is_region_byte, IsArnOf}
 use Rattle.sm_base.proofs.ArnShapeLemmas.{arn_has_shape}
 use Rattle.sm_base.proofs.LabelLemmas.{label_is_utf8}
@@ -21,11 +24,13 @@ use Rattle.sm_model.specs.declared.value.Tag.{Tag}
 use Rattle.sm_model.specs.declared.value.Value.{Value}
 use Rattle.sm_model.specs.declared.value.Value.TheVariants.{Text, Bytes}
 use Rattle.sm_policy_text.specs.Documents.{has_policy_length, is_policy, is_resource_policy}
+use Rattle.sm_versions.specs.Regions.{is_region, are_regions}
 use Rattle.sm_versions.specs.Texts.{once}
 use Rattle.sm_versions.specs.Sound.{tag_keys, each_tag}
 use Rattle.sm_forms.specs.DeleteSecret.{is_window}
 use Rattle.sm_forms.specs.RotateSecret.{is_period}
 use Rattle.sm_forms.specs.UntagResource.{is_untag_key}
+use Rattle.sm_judging.proofs.RegionLemmas.{few_regions, each_region}
 use Rattle.sm_record.specs.Codec.{optional}
 use Rattle.sm_record.specs.declared.edition.Edition.TheVariants.{Second}
 use Rattle.sm_record.specs.Fields.{arn, attempt, count, long, signed, octets, rotation_rules, stage, text, token, truth, listed, tag, value}
@@ -445,13 +450,57 @@ rules_fit (Some rules) days schedule utf8 =
     and_from ((optional signed).fits rules.days) ((optional text).fits rules.schedule) (days_fit rules.days days)
     (optional_fits rules.schedule 256 (omega arith) utf8 (schedule_few rules.schedule schedule))
 
--- a secret is made with no regions
-pub no_regions_size : (regions : List (List ℕ)) → regions ≡ [] → length ((listed text).spell regions) ≡ 4
-unfolding listed
-no_regions_size [] none = omega (arith, length-append (count.spell 0) [], count_size 0)
-no_regions_size (r ∷ regions) none = absurd (cc)
+-- regions, whose names are ASCII
+region_byte_is_ascii : (byte : ℕ) → is_region_byte byte ≡ true → byte < 128
+unfolding is_region_byte
+region_byte_is_ascii byte is = grind (arith, nat_tests)
 
-pub no_regions_fit : (regions : List (List ℕ)) → regions ≡ [] → (listed text).fits regions ≡ true
+region_is_utf8 : (t : List ℕ) → is_region t ≡ true → IsUtf8 t
+region_is_utf8 t is =
+    let bytes = (and_parts (nat_le 1 (length t) && nat_le (length t) 32) (list_all is_region_byte t) is).1 in
+    IsUtf8-from_ascii t (IsAscii-from_all t
+    (All-weaker (λ byte. is_region_byte byte ≡ true) (λ byte. byte < 128) region_byte_is_ascii t
+    (AllPass-from_list_all is_region_byte t bytes)))
+
+region_size : (t : List ℕ) → is_region t ≡ true → length t ≤ 32
+region_size t is = run_size is_region_byte 1 32 t is
+
+each_region_size : (regions : List (List ℕ)) → list_all is_region regions ≡ true
+    → length (flat_map text.spell regions) ≤ 36 * length regions
+each_region_size [] all = omega arith
+each_region_size (region ∷ regions) all =
+    let both = and_parts (is_region region) (list_all is_region regions) all in
+    omega (
+      arith,
+      length-append (text.spell region) (flat_map text.spell regions),
+      text_size region,
+      region_size region both.0,
+      each_region_size regions both.1,
+    )
+
+each_region_fits : (regions : List (List ℕ)) → list_all is_region regions ≡ true → list_all text.fits regions ≡ true
+each_region_fits [] all = refl
+each_region_fits (region ∷ regions) all =
+    let both = and_parts (is_region region) (list_all is_region regions) all in
+    and_from (text.fits region) (list_all text.fits regions)
+    (text_fits region (region_is_utf8 region both.0) (omega (arith, region_size region both.0)))
+    (each_region_fits regions both.1)
+
+pub regions_size : (regions : List (List ℕ)) → IsTrue (are_regions regions)
+    → length ((listed text).spell regions) ≤ 724
+unfolding listed
+regions_size regions are =
+    omega (
+      arith,
+      length-append (count.spell (length regions)) (flat_map text.spell regions),
+      count_size (length regions),
+      each_region_size regions (each_region regions are),
+      few_regions regions are,
+    )
+
+pub regions_fit : (regions : List (List ℕ)) → IsTrue (are_regions regions) → (listed text).fits regions ≡ true
 unfolding listed count
-no_regions_fit [] none = refl
-no_regions_fit (r ∷ regions) none = absurd (cc)
+regions_fit regions are =
+    let few = few_regions regions are in
+    and_from (nat_lt (length regions) (2 ^ 32)) (list_all text.fits regions) (grind (arith, nat_tests, few))
+    (each_region_fits regions (each_region regions are))

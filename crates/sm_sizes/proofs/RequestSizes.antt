@@ -15,6 +15,7 @@ use Rattle.sm_model.specs.declared.request.DeleteSecret.{DeleteSecret}
 use Rattle.sm_model.specs.declared.request.OfSecret.{OfSecret}
 use Rattle.sm_model.specs.declared.request.PutResourcePolicy.{PutResourcePolicy}
 use Rattle.sm_model.specs.declared.request.PutSecretValue.{PutSecretValue}
+use Rattle.sm_model.specs.declared.request.RegionsOfSecret.{RegionsOfSecret}
 use Rattle.sm_model.specs.declared.request.Request.{Request}
 use Rattle.sm_model.specs.declared.request.Request.TheVariants as requests
 use Rattle.sm_model.specs.declared.request.RotateSecret.{RotateSecret}
@@ -23,6 +24,7 @@ use Rattle.sm_model.specs.declared.request.UntagResource.{UntagResource}
 use Rattle.sm_model.specs.declared.request.UpdateSecret.{UpdateSecret}
 use Rattle.sm_model.specs.declared.request.UpdateSecretVersionStage.{UpdateSecretVersionStage}
 use Rattle.sm_model.specs.declared.rows.Rows.{Rows}
+use Rattle.sm_versions.specs.Regions.{are_regions}
 use Rattle.sm_forms.specs.Members.{first_why, form_unless, form_of, has_one, is_value, are_labels, labels_form}
 use Rattle.sm_forms.specs.CreateSecret.{create_forms}
 use Rattle.sm_forms.specs.DeleteSecret.{delete_forms}
@@ -56,9 +58,9 @@ use Rattle.sm_core.specs.Judging.{judgement}
 use Rattle.sm_record.specs.Codec.{optional}
 use Rattle.sm_record.specs.declared.edition.Edition.TheVariants.{Second}
 use Rattle.sm_record.specs.Fields.{signed, octets, rotation_rules, text, truth, listed, tag}
-use Rattle.sm_record.specs.Requests.{of_secret, create_secret, delete_secret, put_resource_policy, put_secret_value, rotate_secret, tag_resource, untag_resource, update_secret, update_secret_version_stage}
+use Rattle.sm_record.specs.Requests.{of_secret, create_secret, delete_secret, put_resource_policy, put_secret_value, regions_of_secret, rotate_secret, tag_resource, untag_resource, update_secret, update_secret_version_stage}
 use Rattle.sm_sizes.specs.Texts.{CreateTexts, PolicyTexts, PutTexts, RotateTexts, UpdateTexts, MoveTexts, TaggingTexts, UntaggingTexts, HasFewTags}
-use Rattle.sm_sizes.proofs.FieldSizes.{text_size, text_fits, optional_size, optional_fits, bytes_size, bytes_fit, token_size, name_size, description_size, label_size, secret_id_size, labels_size, labels_fits, tags_size, tags_fit, tag_list_size, tag_list_fits, keys_size, keys_fit, no_regions_size, no_regions_fit, truth_size, truth_fits, window_size, window_fits, policy_size, rules_size, rules_fit}
+use Rattle.sm_sizes.proofs.FieldSizes.{text_size, text_fits, optional_size, optional_fits, bytes_size, bytes_fit, token_size, name_size, description_size, label_size, secret_id_size, labels_size, labels_fits, tags_size, tags_fit, tag_list_size, tag_list_fits, keys_size, keys_fit, regions_size, regions_fit, truth_size, truth_fits, window_size, window_fits, policy_size, rules_size, rules_fit}
 
 -- a fact of a text that is there follows from another
 some_then : (t : Option (List ℕ)) (P Q : List ℕ → Type 0) → ((x : List ℕ) → P x → Q x) → IfSome t P → IfSome t Q
@@ -94,7 +96,7 @@ module _ (r : CreateSecret) (forms : create_forms r ≡ None) (texts : CreateTex
       omega (
         arith,
         length-append regions (token ++ (description ++ (kms ++ (name ++ (binary ++ (string ++ tags)))))),
-        no_regions_size r.regions (create.create_regions r forms),
+        regions_size r.regions (create.create_regions r forms),
         length-append token (description ++ (kms ++ (name ++ (binary ++ (string ++ tags))))),
         length-append description (kms ++ (name ++ (binary ++ (string ++ tags)))),
         length-append kms (name ++ (binary ++ (string ++ tags))),
@@ -115,7 +117,7 @@ module _ (r : CreateSecret) (forms : create_forms r ≡ None) (texts : CreateTex
   pub create_fits : (create_secret Second).fits r ≡ true
   unfolding create_secret
   create_fits =
-      and_from ((listed text).fits r.regions) _ (no_regions_fit r.regions (create.create_regions r forms))
+      and_from ((listed text).fits r.regions) _ (regions_fit r.regions (create.create_regions r forms))
       (and_from ((optional text).fits r.client_request_token) _
       (optional_fits r.client_request_token 64 (omega arith) texts.token
       (tokens r.client_request_token (create.create_token r forms)))
@@ -360,6 +362,28 @@ module _ (r : UntagResource) (forms : untag_forms r ≡ None) (texts : Untagging
       and_from (text.fits r.secret_id) ((listed text).fits r.tag_keys)
       (text_fits r.secret_id texts.id (omega (arith, secret_id_size r.secret_id (untagging.untag_id r forms))))
       (keys_fit r.tag_keys texts.keys (untagging.untag_keys r forms) (untagging.untag_few r forms))
+
+-- ReplicateSecretToRegions and RemoveRegionsFromReplication
+module _ (r : RegionsOfSecret) (spelled : IsTrue (is_secret_id r.secret_id))
+    (regions : IsTrue (are_regions r.regions)) where
+  pub regional_size : length (regions_of_secret.spell r) ≤ 2000
+  unfolding regions_of_secret
+  regional_size =
+      let given : List ℕ = (listed text).spell r.regions in
+      let id : List ℕ = text.spell r.secret_id in
+      omega (
+        arith,
+        length-append given id,
+        regions_size r.regions regions,
+        text_size r.secret_id,
+        secret_id_size r.secret_id spelled,
+      )
+
+  pub regional_fits : IsUtf8 r.secret_id → regions_of_secret.fits r ≡ true
+  unfolding regions_of_secret
+  regional_fits id =
+      and_from ((listed text).fits r.regions) (text.fits r.secret_id) (regions_fit r.regions regions)
+      (text_fits r.secret_id id (omega (arith, secret_id_size r.secret_id spelled)))
 
 -- PutResourcePolicy
 module _ (r : PutResourcePolicy) (forms : put_policy_forms r ≡ None) (texts : PolicyTexts r) where

@@ -5,7 +5,6 @@ use Rattle.std.proofs.lemmas.Bool.Decides.{nat_tests}
 use Rattle.std.proofs.lemmas.Bool.{and_from}
 use Rattle.sm_base.specs.Spelling.{is_arn, is_token}
 use Rattle.sm_base.specs.declared.moment.TheConstants.{LAST_READING}
-use Rattle.sm_model.specs.declared.why.Why.{Why}
 use Rattle.sm_model.specs.Bounds.{is_attempt}
 use Rattle.sm_model.specs.Needed.{token_bytes, token_bytes_if, needed}
 use Rattle.sm_model.specs.declared.entry.Act.{Act}
@@ -17,6 +16,7 @@ use Rattle.sm_model.specs.declared.entry.Entry.{Entry}
 use Rattle.sm_model.specs.declared.request.Request.{Request}
 use Rattle.sm_model.specs.declared.request.Request.TheVariants as requests
 use Rattle.sm_forms.specs.Forms.{forms_of}
+use Rattle.sm_forms.proofs.RegionsOfSecretLemmas.{remove_id, remove_regions, replicate_id, replicate_regions}
 use Rattle.sm_core.specs.Histories.{may_be_by}
 use Rattle.sm_core.specs.Judging.{is_reading}
 use Rattle.sm_record.specs.Codec.{with_flag}
@@ -29,7 +29,7 @@ use Rattle.sm_record.specs.Spelling.{spelling, has_spelling, HasSpelling}
 use Rattle.sm_sizes.specs.Spellable.{IsSpellable, MayBeMade, is_small_answer}
 use Rattle.sm_sizes.specs.Texts.{ActTexts, AnswerText, TextsOf, HasFewTags}
 use Rattle.sm_sizes.proofs.FieldSizes.{arn_field_fits, arn_field_size, attempt_fits, attempt_size, octets_size, octets_fits, stage_fits, stage_size, text_size, text_fits, token_field_fits, token_field_size, value_fits, value_size}
-use Rattle.sm_sizes.proofs.RequestSizes.{create_size, create_fits, put_size, put_fits, update_size, update_fits, move_size, move_fits, delete_size, delete_fits, named_size, named_fits, put_policy_size, put_policy_fits, rotate_size, rotate_fits, tag_resource_size, tag_resource_fits, untag_resource_size, untag_resource_fits}
+use Rattle.sm_sizes.proofs.RequestSizes.{create_size, create_fits, put_size, put_fits, update_size, update_fits, move_size, move_fits, delete_size, delete_fits, named_size, named_fits, put_policy_size, put_policy_fits, rotate_size, rotate_fits, tag_resource_size, tag_resource_fits, untag_resource_size, untag_resource_fits, regional_size, regional_fits}
 
 -- a request that changes something has a short spelling, and needs few random bytes
 record IsShort (request : Request) : Type 0 where
@@ -48,10 +48,6 @@ token_need_if true t = token_need t
 -- a request that only reads makes no entry
 reads : {A : Type 0} → true ≡ false → A
 reads is = absurd (cc)
-
--- no operation on replica regions is known
-unknown : {A : Type 0} {why : Why} → Some why ≡ None → A
-unknown is = absurd (cc)
 
 -- the requests that make entries
 is_short : (request : Request) → forms_of request ≡ None → is_reading request ≡ false → TextsOf request
@@ -96,9 +92,17 @@ is_short (requests.UntagResource r) forms changes texts few = record {
   fits = untag_resource_fits r forms texts;
   drawn = omega arith;
 }
-is_short (requests.RemoveRegionsFromReplication r) forms changes texts few = unknown forms
-is_short (requests.ReplicateSecretToRegions r) forms changes texts few = unknown forms
-is_short (requests.StopReplicationToReplica r) forms changes texts few = unknown forms
+is_short (requests.RemoveRegionsFromReplication r) forms changes texts few = record {
+  size = omega (arith, regional_size r (remove_id r forms) (remove_regions r forms));
+  fits = regional_fits r (remove_id r forms) (remove_regions r forms) texts;
+  drawn = omega arith;
+}
+is_short (requests.ReplicateSecretToRegions r) forms changes texts few = record {
+  size = omega (arith, regional_size r (replicate_id r forms) (replicate_regions r forms));
+  fits = regional_fits r (replicate_id r forms) (replicate_regions r forms) texts;
+  drawn = omega arith;
+}
+is_short (requests.StopReplicationToReplica r) forms changes texts few = reads changes
 is_short (requests.GetSecretValue r) forms changes texts few = reads changes
 is_short (requests.BatchGetSecretValue r) forms changes texts few = reads changes
 is_short (requests.GetRandomPassword r) forms changes texts few = reads changes

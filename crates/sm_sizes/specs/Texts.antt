@@ -72,7 +72,7 @@ pub record RotateTexts (r : RotateSecret) : Type 0 where
   pub schedule : IfSome r.rotation_rules (λ rules. IfSome rules.schedule IsUtf8)
   pub id : IsUtf8 r.secret_id
 
--- each text of the request is UTF-8
+-- each text of the request is UTF-8, but for the names of regions, which are ASCII by their form
 abbrev pub TextsOf : Request → Type 0
 TextsOf (requests.CreateSecret r) = CreateTexts r
 TextsOf (requests.PutSecretValue r) = PutTexts r
@@ -82,6 +82,8 @@ TextsOf (requests.DeleteSecret r) = IsUtf8 r.secret_id
 TextsOf (requests.RestoreSecret r) = IsUtf8 r.secret_id
 TextsOf (requests.TagResource r) = TaggingTexts r
 TextsOf (requests.UntagResource r) = UntaggingTexts r
+TextsOf (requests.ReplicateSecretToRegions r) = IsUtf8 r.secret_id
+TextsOf (requests.RemoveRegionsFromReplication r) = IsUtf8 r.secret_id
 TextsOf (requests.PutResourcePolicy r) = PolicyTexts r
 TextsOf (requests.DeleteResourcePolicy r) = IsUtf8 r.secret_id
 TextsOf (requests.RotateSecret r) = RotateTexts r

@@ -127,6 +127,8 @@ fn note_texts(request: &Request)
             note_text(&untag.secret_id);
             note_each(untag.tag_keys.as_slice());
         }
+        Request::ReplicateSecretToRegions(replicate) => note_text(&replicate.secret_id),
+        Request::RemoveRegionsFromReplication(remove) => note_text(&remove.secret_id),
         Request::PutResourcePolicy(put) => {
             note_text(&put.resource_policy);
             note_text(&put.secret_id);

@@ -1,9 +1,9 @@
 -- What the tests of a sound base say: all of it, and nothing more.
-use Rattle.std.proofs.Common.{◌≡◌, ◌≤◌, ◌↔◌, ℕ, zero, suc, ◌+◌, ◌<◌, leb, eqb, Bool, true, false, not, ◌&&◌, ◌||◌, List, [], ◌∷◌, ◌++◌, length, take, get_or, Option, Some, None, is_some, IfSome, IsTrue, refl, sym, ap, ◌∙◌, arith}
+use Rattle.std.proofs.Common.{◌≡◌, ◌≤◌, ◌↔◌, ℕ, zero, suc, ◌+◌, ◌<◌, leb, Bool, true, false, not, ◌&&◌, ◌||◌, List, [], ◌∷◌, ◌++◌, length, take, get_or, Option, Some, None, is_some, IfSome, IsTrue, refl, sym, ap, ◌∙◌, arith}
 use Rattle.std.specs.Bool.{beq}
 use Rattle.std.proofs.Props.{props}
 use Rattle.std.proofs.lemmas.List.{take_more}
-use Rattle.std.proofs.lemmas.Bool.{and_parts, and_from, and_left, eqb-true, leb-true, le-leb, false≢true}
+use Rattle.std.proofs.lemmas.Bool.{and_parts, and_from, and_left, leb-true, le-leb, false≢true}
 use Rattle.sm_base.specs.declared.limits.TheConstants.{
   SECRETS_LIMIT,
   VERSIONS_LIMIT,
@@ -22,19 +22,19 @@ use Rattle.sm_table.specs.Sound.{EachSound}
 use Rattle.sm_table.proofs.PropLemmas.{Sound-prop}
 use Rattle.sm_versions.specs.Kept.{labels_once, pairs_named, ids_once, has_none, has_current_value, is_finish, VersionsKept, JobKept}
 use Rattle.sm_versions.specs.Labels.{own_count}
+use Rattle.sm_versions.specs.Regions.{are_regions}
 use Rattle.sm_versions.specs.Serials.{rises, version_serials}
 use Rattle.sm_versions.specs.Settle.{is_live, is_create}
 use Rattle.sm_versions.specs.Sound.{is_arn_of, tag_keys, each_tag, each_version, is_rotation, is_job, RowFits, RowSound}
 use Rattle.sm_versions.specs.Texts.{once}
 use Rattle.sm_versions.specs.Versions.{has_value}
-use Rattle.sm_sound.specs.Bases.{IsPlain, EachPlain, IsSound}
+use Rattle.sm_sound.specs.Bases.{IsSound}
 use Rattle.sm_sound.specs.Tests.{
   tags_fit,
   labels_fit,
   versions_fit,
   job_fits,
   may_be_job,
-  is_plain,
   dates_fit,
   fields_fit,
   is_held,
@@ -97,22 +97,12 @@ may_job_fit row (Some job) kept fit = job_is_fit row job kept fit
 
 -- ---- one secret
 
-plain_is : (row : SecretRow) → is_plain row ≡ true → IsPlain row
-plain_is row h = record { regions = none_left row.regions h }
-  where
-    none_left : (regions : List (List ℕ)) → eqb (length regions) 0 ≡ true → regions ≡ []
-    none_left [] e = refl
-    none_left (r ∷ rs) e = absurd (omega (arith, eqb-true (length (r ∷ rs)) 0 e))
-
-plain_fits : (row : SecretRow) → IsPlain row → is_plain row ≡ true
-plain_fits row plain = rw plain.regions refl
-
 -- what the tests of a secret say, one by one
 record Parts (row : SecretRow) : Type 0 where
   tags : tags_fit row.tags ≡ true
   labels : labels_fit row.labels ≡ true
   versions : versions_fit row ≡ true
-  plain : is_plain row ≡ true
+  regions : are_regions row.regions ≡ true
   fields : fields_fit row ≡ true
   held : is_held row ≡ true
 
@@ -121,13 +111,13 @@ parts_of row h =
     let tags = and_parts (tags_fit row.tags) _ h in
     let labels = and_parts (labels_fit row.labels) _ tags.1 in
     let versions = and_parts (versions_fit row) _ labels.1 in
-    let plain = and_parts (is_plain row) _ versions.1 in
-    let fields = and_parts (fields_fit row) (is_held row) plain.1 in
+    let regions = and_parts (are_regions row.regions) _ versions.1 in
+    let fields = and_parts (fields_fit row) (is_held row) regions.1 in
     record {
       tags = tags.0;
       labels = labels.0;
       versions = versions.0;
-      plain = plain.0;
+      regions = regions.0;
       fields = fields.0;
       held = fields.1;
     }
@@ -135,7 +125,7 @@ parts_of row h =
 from_parts : (row : SecretRow) → Parts row → row_fits row ≡ true
 from_parts row parts =
     and_from _ _ parts.tags (and_from _ _ parts.labels (and_from _ _ parts.versions
-    (and_from _ _ parts.plain (and_from _ _ parts.fields parts.held))))
+    (and_from _ _ parts.regions (and_from _ _ parts.fields parts.held))))
 
 versions_kept : (row : SecretRow) → Parts row → VersionsKept row
 versions_kept row parts =
@@ -187,22 +177,21 @@ row_fits_whole row parts =
       changed = changed.0;
       deletion = deletion.0;
       rotation = deletion.1;
+      regions = parts.regions;
       job = (job_part row parts).1;
     }
 
-row_sound : (row : SecretRow) → row_fits row ≡ true → RowSound row × IsPlain row
+row_sound : (row : SecretRow) → row_fits row ≡ true → RowSound row
 row_sound row h =
-    let parts = parts_of row h in (
-      record {
-        kept = record { versions = versions_kept row parts; job = (job_part row parts).0 };
-        fits = row_fits_whole row parts;
-        version_count = version_count_of row parts;
-      },
-      plain_is row parts.plain,
-    )
+    let parts = parts_of row h in
+    record {
+      kept = record { versions = versions_kept row parts; job = (job_part row parts).0 };
+      fits = row_fits_whole row parts;
+      version_count = version_count_of row parts;
+    }
 
-row_is_fit : (row : SecretRow) → RowSound row → IsPlain row → row_fits row ≡ true
-row_is_fit row sound plain =
+row_is_fit : (row : SecretRow) → RowSound row → row_fits row ≡ true
+row_is_fit row sound =
     let versions = sound.kept.versions in
     let all = sound.fits in
     from_parts row (record {
@@ -210,7 +199,7 @@ row_is_fit row sound plain =
       labels = and_from _ _ (le-leb (own_count row.labels) LABELS_LIMIT all.labels) versions.once;
       versions = and_from _ _ (le-leb (length row.versions) VERSIONS_LIMIT sound.version_count)
           (and_from _ _ versions.serials (and_from _ _ all.versions versions.ids));
-      plain = plain_fits row plain;
+      regions = all.regions;
       fields = and_from _ _ all.arn (and_from _ _ all.description (and_from _ _ all.kms
           (and_from _ _ all.policy (and_from _ _ all.created (and_from _ _ all.changed
           (and_from _ _ all.deletion all.rotation))))));
@@ -220,18 +209,14 @@ row_is_fit row sound plain =
 
 -- ---- all secrets
 
-each_sound : (rows : List SecretRow) → each_row rows ≡ true → EachSound rows × EachPlain rows
-each_sound [] h = (tt, tt)
+each_sound : (rows : List SecretRow) → each_row rows ≡ true → EachSound rows
+each_sound [] h = tt
 each_sound (r ∷ rs) h =
-    let parts = and_parts (row_fits r) (each_row rs) h in
-    let first = row_sound r parts.0 in
-    let rest = each_sound rs parts.1 in
-    ((first.0, rest.0), (first.1, rest.1))
+    let parts = and_parts (row_fits r) (each_row rs) h in (row_sound r parts.0, each_sound rs parts.1)
 
-each_is_fit : (rows : List SecretRow) → EachSound rows → EachPlain rows → each_row rows ≡ true
-each_is_fit [] sound plain = refl
-each_is_fit (r ∷ rs) sound plain =
-    and_from _ _ (row_is_fit r sound.0 plain.0) (each_is_fit rs sound.1 plain.1)
+each_is_fit : (rows : List SecretRow) → EachSound rows → each_row rows ≡ true
+each_is_fit [] sound = refl
+each_is_fit (r ∷ rs) sound = and_from _ _ (row_is_fit r sound.0) (each_is_fit rs sound.1)
 
 each_push : (rows : List SecretRow) (row : SecretRow)
     → each_row (rows ++ row ∷ []) ≡ (each_row rows && row_fits row)
@@ -271,15 +256,13 @@ base_sound base h =
     let count = and_parts (leb (length base.rows.secrets) SECRETS_LIMIT) _ last.1 in
     let serials = and_parts (rises 0 (row_serials base.rows.secrets) base.rows.next) _ count.1 in
     let names = and_parts (once (row_names base.rows.secrets)) (each_row base.rows.secrets) serials.1 in
-    let each = each_sound base.rows.secrets names.1 in
     record {
       rows = record {
         serials = serials.0;
         names = names.0;
         count = leb-true (length base.rows.secrets) SECRETS_LIMIT count.0;
-        each = each.0;
+        each = each_sound base.rows.secrets names.1;
       };
-      plain = each.1;
       last = leb-true base.last.0 LAST_READING last.0;
     }
 
@@ -288,7 +271,7 @@ base_is_fit base sound =
     and_from _ _ (le-leb base.last.0 LAST_READING sound.last)
     (and_from _ _ (le-leb (length base.rows.secrets) SECRETS_LIMIT sound.rows.count)
     (and_from _ _ sound.rows.serials
-    (and_from _ _ sound.rows.names (each_is_fit base.rows.secrets sound.rows.each sound.plain))))
+    (and_from _ _ sound.rows.names (each_is_fit base.rows.secrets sound.rows.each))))
 
 -- the answer of the tests is true exactly where the base is sound
 base_is_sound : (base : Base) (answer : Bool) → answer ≡ base_fits base → IsTrue answer ↔ IsSound base
@@ -304,9 +287,5 @@ in_time base answer timely e = base_is_sound base answer (e ∙ sym (ap (λ b. b
 
 -- ---- one proof at most, so that a type can keep it
 
-EachPlain-prop : (rows : List SecretRow) → IsProp (EachPlain rows)
-EachPlain-prop [] = Prim.hlevel props
-EachPlain-prop (r ∷ rs) = Prim.hlevel (EachPlain-prop rs, props)
-
 pub IsSound-prop : (base : Base) → IsProp (IsSound base)
-IsSound-prop base = Prim.hlevel (Sound-prop, EachPlain-prop, props)
+IsSound-prop base = Prim.hlevel (Sound-prop, props)

@@ -18,6 +18,7 @@ use Rattle.sm_record.specs.declared.base.Base.{Base}
 use Rattle.sm_table.specs.Kept.{row_names, row_serials}
 use Rattle.sm_versions.specs.Kept.{labels_once, pairs_named, ids_once, has_none, has_current_value, is_finish}
 use Rattle.sm_versions.specs.Labels.{own_count}
+use Rattle.sm_versions.specs.Regions.{are_regions}
 use Rattle.sm_versions.specs.Serials.{rises, version_serials}
 use Rattle.sm_versions.specs.Settle.{is_live, is_create}
 use Rattle.sm_versions.specs.Sound.{is_arn_of, tag_keys, each_tag, each_version, is_rotation, is_job}
@@ -81,10 +82,6 @@ abbrev pub may_be_job : SecretRow → Option Job → Bool
 may_be_job row None = true
 may_be_job row (Some job) = job_fits row job
 
--- replicated to no region
-abbrev pub is_plain : SecretRow → Bool
-is_plain row = nat_eq (length row.regions) 0
-
 -- each date fits, save those of versions and of the job
 abbrev pub dates_fit : SecretRow → Bool
 dates_fit row = is_date row.created && (is_date row.changed && (fits is_date row.deletion && is_rotation row.rotation))
@@ -103,11 +100,11 @@ is_held row =
 
 -- ---- all secrets
 
--- a sound secret that is plain
+-- a sound secret
 abbrev pub row_fits : SecretRow → Bool
 row_fits row =
     tags_fit row.tags && (labels_fit row.labels && (versions_fit row
-    && (is_plain row && (fields_fit row && is_held row))))
+    && (are_regions row.regions && (fields_fit row && is_held row))))
 
 abbrev pub each_row : List SecretRow → Bool
 each_row [] = true

@@ -1,6 +1,6 @@
 //! Whether a secret is sound.
 ghost use Rattle.std.specs.Prelude.{◌≡◌, IfOk};
-ghost use Rattle.sm_sound.specs.Tests.{is_plain, dates_fit, fields_fit, is_held, row_fits, each_row};
+ghost use Rattle.sm_sound.specs.Tests.{dates_fit, fields_fit, is_held, row_fits, each_row};
 
 use crate::arn::is_arn_of;
 use crate::fields::{date_fits, description_fits, is_date, policy_fits, rotation_fits};
@@ -9,14 +9,8 @@ use crate::labels::{are_named, is_current_kept, labels_fit};
 use crate::tags::tags_fit;
 use crate::versions::versions_fit;
 use sm_model::{NoMemory, SecretRow};
+use sm_versions::regions::are_regions;
 use std::alloc::Global;
-
-/// Whether the secret has no replica region.
-fn is_plain(row: &SecretRow) -> bool
-    ensures { result ≡ is_plain row.now }
-{
-    row.regions.is_empty()
-}
 
 /// Whether each text and each date of the secret fits, save those of its versions and its tags.
 fn fields_fit(row: &SecretRow) -> bool
@@ -59,7 +53,7 @@ pub fn row_fits(alloc: Global, row: &SecretRow) -> Result<bool, NoMemory>
     if !versions_fit(alloc, row)? {
         return Ok(false);
     }
-    Ok(is_plain(row) && fields_fit(row) && is_held(row))
+    Ok(are_regions(row.regions.as_slice()) && fields_fit(row) && is_held(row))
 }
 
 /// Whether each of the secrets is sound.

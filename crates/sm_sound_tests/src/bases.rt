@@ -160,6 +160,22 @@ pub fn bare(alloc: Global, serial: u64, name: &str) -> Result<SecretRow, Fail> {
     })
 }
 
+/// So many regions, of which the first has as long a name as one may have.
+pub fn regions(alloc: Global, count: u32) -> Result<List<Text>, Fail> {
+    let mut regions = region(alloc, "eu-west-1-is-of-32-characters-aa")?;
+    for number in 1..count {
+        regions.push(Text::new(format!(in alloc; "eu-west-{number}")?))?;
+    }
+    Ok(regions)
+}
+
+/// One region.
+pub fn region(alloc: Global, name: &str) -> Result<List<Text>, Fail> {
+    let mut regions = List::empty(alloc);
+    regions.push(text(alloc, name)?)?;
+    Ok(regions)
+}
+
 /// Gives a secret all that one may have.
 fn fill(alloc: Global, row: &mut SecretRow) -> Result<(), Fail> {
     row.description = Some(long(alloc, 2_048)?);
@@ -171,6 +187,7 @@ fn fill(alloc: Global, row: &mut SecretRow) -> Result<(), Fail> {
     row.labels = labels(alloc, &LABELS)?;
     row.rotation = rotation(alloc)?;
     row.policy = Some(KeptPolicy::of(alloc, text(alloc, POLICY)?)?);
+    row.regions = regions(alloc, 20)?;
     row.job = Some(job(alloc, Stage::Create, 5, None)?);
     Ok(())
 }

@@ -1,7 +1,7 @@
 //! Each thing that may be wrong of a base, one by one.
 use crate::bases::{
-    arn, bare, base, full, job, labels, long, only, only_at, pair, schedule, tag, text, token,
-    versions,
+    arn, bare, base, full, job, labels, long, only, only_at, pair, region, regions, schedule, tag,
+    text, token, versions,
 };
 use sm_model::{Job, KeptPolicy, List, Moment, SecretRow, Stage, Tag};
 use sm_sound::is_sound;
@@ -27,7 +27,10 @@ enum Wrong {
     ManyDays,
     Next,
     Last,
-    Region,
+    ManyRegions,
+    LongRegion,
+    EmptyRegion,
+    RegionLetter,
     Schedule,
     LongSchedule,
     TagTwice,
@@ -58,7 +61,7 @@ enum Wrong {
     Retry,
 }
 
-static FIELDS: [Wrong; 16] = [
+static FIELDS: [Wrong; 19] = [
     Wrong::OtherArn,
     Wrong::Description,
     Wrong::Kms,
@@ -72,7 +75,10 @@ static FIELDS: [Wrong; 16] = [
     Wrong::ManyDays,
     Wrong::Next,
     Wrong::Last,
-    Wrong::Region,
+    Wrong::ManyRegions,
+    Wrong::LongRegion,
+    Wrong::EmptyRegion,
+    Wrong::RegionLetter,
     Wrong::Schedule,
     Wrong::LongSchedule,
 ];
@@ -125,7 +131,10 @@ fn spoil_fields(alloc: Global, row: &mut SecretRow, wrong: Wrong) -> Result<(), 
         Wrong::ManyDays => row.rotation.days = Some(1_001),
         Wrong::Next => row.rotation.next = Some(Moment(212_622_780_801)),
         Wrong::Last => row.rotation.last = Some(LATE),
-        Wrong::Region => row.regions.push(text(alloc, "eu-west-1")?)?,
+        Wrong::ManyRegions => row.regions = regions(alloc, 21)?,
+        Wrong::LongRegion => row.regions = region(alloc, "eu-west-1-is-of-33-characters-aaa")?,
+        Wrong::EmptyRegion => row.regions = region(alloc, "")?,
+        Wrong::RegionLetter => row.regions = region(alloc, "eu_west-1")?,
         Wrong::Schedule => row.rotation.schedule = Some(text(alloc, "rate(3 hours)")?),
         Wrong::LongSchedule => row.rotation.schedule = Some(schedule(alloc, 120)?),
         _ => {}

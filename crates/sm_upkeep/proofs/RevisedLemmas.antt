@@ -58,6 +58,7 @@ revised_sound deletion tags row date are sound =
         changed = f.changed;
         deletion = date;
         rotation = f.rotation;
+        regions = f.regions;
         job = f.job;
       };
     }

@@ -18,10 +18,11 @@ use Rattle.sm_model.specs.declared.value.Tag.{Tag}
 use Rattle.sm_model.specs.Bounds.{fits, is_description, is_small, is_date}
 use Rattle.sm_model.specs.Needed.{token_bytes_if}
 use Rattle.sm_forms.specs.CreateSecret.{create_forms}
-use Rattle.sm_forms.proofs.CreateSecretLemmas.{create_text, create_binary, create_description, create_kms, create_tags}
+use Rattle.sm_forms.proofs.CreateSecretLemmas.{create_text, create_binary, create_description, create_kms, create_regions, create_tags}
 use Rattle.sm_versions.specs.Texts.{is_aws, once}
 use Rattle.sm_model.specs.Labels.{aws_current}
 use Rattle.sm_versions.specs.Labels.{own_count}
+use Rattle.sm_versions.specs.Regions.{are_regions}
 use Rattle.sm_versions.specs.Sound.{IsArnOf, tag_keys, each_tag, RowFits}
 use Rattle.sm_versions.proofs.ArnLemmas.{drawn_is_arn_of}
 use Rattle.sm_versions.specs.Kept.{CurrentKept}
@@ -40,6 +41,7 @@ use Rattle.sm_judging.specs.Refusals.{refuse_if, first_refusal, scheduled_refusa
 use Rattle.sm_judging.specs.Secrets.{unless_scheduled}
 use Rattle.sm_judging.proofs.JudgedLemmas.{unless_scheduled_accepts}
 use Rattle.sm_judging.proofs.ChangeLemmas.{map_settle_push, unless_scheduled_change}
+use Rattle.sm_judging.proofs.RegionLemmas.{new_regions}
 use Rattle.sm_values.specs.declared.new_value.NewValue.{NewValue}
 use Rattle.sm_values.specs.declared.create_secret.CreateCall.{CreateCall}
 use Rattle.sm_values.specs.NewValue.{is_repeat}
@@ -165,6 +167,7 @@ record Fits (call : CreateCall) : Type 0 where
   description : IsTrue (fits is_description call.details.description)
   kms : IsTrue (fits is_description call.details.kms)
   tags : IsTrue (each_tag call.details.tags) × IsTrue (once (tag_keys call.details.tags))
+  regions : IsTrue (are_regions call.details.regions)
   small : IfSome call.first (λ first. IsTrue (is_small first.value))
 
 empty_fits : (serial : ℕ) (moment : Moment) (call : CreateCall) → IsTrue (is_date moment)
@@ -184,6 +187,7 @@ empty_fits serial moment call date few fit = record {
   changed = date;
   deletion = refl;
   rotation = refl;
+  regions = fit.regions;
   job = refl;
 }
 
@@ -204,6 +208,7 @@ with_first_fits row moment (Some first) date small fit = record {
   changed = fit.changed;
   deletion = fit.deletion;
   rotation = fit.rotation;
+  regions = fit.regions;
   job = fit.job;
 }
 
@@ -223,6 +228,7 @@ call_fits drawn create forms room = record {
   description = text_fits create.description (create_description create forms);
   kms = text_fits create.kms_key_id (create_kms create forms);
   tags = tags_fit create.tags (create_tags create forms);
+  regions = new_regions create.regions (create_regions create forms);
   small = new_small _ (value_of create.secret_string create.secret_binary)
       (value_small create.secret_string create.secret_binary (create_text create forms) (create_binary create forms));
 }

@@ -125,6 +125,7 @@ redescribed_sound call row fit sound =
         changed = f.changed;
         deletion = f.deletion;
         rotation = f.rotation;
+        regions = f.regions;
         job = f.job;
       };
     }

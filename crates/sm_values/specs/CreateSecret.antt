@@ -26,6 +26,7 @@ use Rattle.sm_table.specs.Found.{row_named}
 use Rattle.sm_judging.specs.declared.judged.Judged.{Judged}
 use Rattle.sm_judging.specs.declared.judged.Judged.TheVariants.{Accept, Refuse}
 use Rattle.sm_judging.specs.Refusals.{refuse_if, first_refusal, scheduled_refusal}
+use Rattle.sm_judging.specs.Regions.{with_regions, replicas_shown}
 use Rattle.sm_judging.specs.Secrets.{unless_scheduled}
 use Rattle.sm_values.specs.declared.new_value.NewValue.{NewValue}
 use Rattle.sm_values.specs.declared.create_secret.Names.{Names}
@@ -53,6 +54,7 @@ details_of create = record {
   description = create.description;
   kms = create.kms_key_id;
   tags = unwrap_or create.tags [];
+  regions = with_regions [] create.regions;
 }
 
 abbrev pub create_call : List ℕ → CreateSecret → CreateCall
@@ -96,7 +98,7 @@ empty_row serial moment names details = record {
   deletion = None;
   rotation = no_rotation;
   policy = None;
-  regions = [];
+  regions = details.regions;
   job = None;
 }
 
@@ -113,10 +115,14 @@ with_first row moment (Some first) = record row {
 abbrev pub created_row : ℕ → Moment → CreateCall → SecretRow
 created_row serial moment call = with_first (empty_row serial moment call.names call.details) moment call.first
 
--- the reply that names the secret, and the version where a value was given; there are no replica regions
+-- the reply that names the secret, its replica regions where it has some, and the version where a value was given
 abbrev pub created_secret : SecretRow → Option (List ℕ) → CreatedSecret
-created_secret row version_id =
-    record { arn = row.arn; name = row.name; replication_status = None; version_id = version_id }
+created_secret row version_id = record {
+  arn = row.arn;
+  name = row.name;
+  replication_status = replicas_shown row.regions;
+  version_id = version_id;
+}
 
 -- ---- the judgement
 

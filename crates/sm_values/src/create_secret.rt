@@ -2,12 +2,14 @@
 ghost use Rattle.std.specs.Prelude.{◌≡◌, ◌≤◌, [], IfOk, None, Some, length, take, unwrap_or};
 ghost use Rattle.sm_base.specs.Drawn.{drawn_arn};
 ghost use Rattle.sm_forms.specs.CreateSecret.{create_forms};
+ghost use Rattle.sm_judging.specs.Regions.{with_regions};
 ghost use Rattle.sm_judging.specs.Secrets.{unless_scheduled};
 ghost use Rattle.sm_values.specs.CreateSecret.{create_needs, first_of, names_of, details_of, create_call, first_version, no_rotation, empty_row, created_row, created_secret, with_first, has_too_many_tags, is_full, create_with_room, create_new, create_held, create_judged, create_judgement};
 
 use crate::new_value::{NewValue, is_repeat, new_value, token_of};
 use sm_base::limits::{NO_SERIAL, SECRETS_LIMIT, TAGS_LIMIT};
 use sm_judging::Judged;
+use sm_judging::regions::{replicas_shown, with_regions};
 use sm_model::{
     Arn, Change, Copied, CreateSecret, CreatedSecret, List, Moment, Name, NoMemory, Pair, Reply,
     Rotation, SecretRow, SharedList, Tag, Text, Token, VersionRow, What, Why,
@@ -29,6 +31,8 @@ pub struct Details {
     pub description: Option<Text>,
     pub kms: Option<Text>,
     pub tags: List<Tag>,
+    /// Those that it is replicated to, none twice.
+    pub regions: List<Text>,
 }
 
 /// A CreateSecret whose forms pass.
@@ -90,6 +94,7 @@ fn details_of(alloc: Global, create: &CreateSecret) -> Result<Details, NoMemory>
         description: create.description.copy(alloc)?,
         kms: create.kms_key_id.copy(alloc)?,
         tags: tags_of(alloc, &create.tags)?,
+        regions: regions_of(alloc, &create.regions)?,
     })
 }
 
@@ -131,6 +136,14 @@ fn tags_of(alloc: Global, tags: &Option<List<Tag>>) -> Result<List<Tag>, NoMemor
         Some(tags) => tags.copy(alloc),
         None => Ok(List::empty(alloc)),
     }
+}
+
+/// The replica regions that were given, each once.
+fn regions_of(alloc: Global, given: &List<Text>) -> Result<List<Text>, NoMemory>
+    ensures { IfOk result (λ regions. regions ≡ with_regions [] given.now) }
+{
+    let none: List<Text> = List::empty(alloc);
+    with_regions(alloc, none.as_slice(), given.as_slice())
 }
 
 // ---- the tests
@@ -227,7 +240,7 @@ fn create_with_room(
     Ok(Judged::Accept(Reply::CreateSecret(reply), Some(Change::Add(row))))
 }
 
-/// The reply that names the secret, and the version where a value was given.
+/// The reply that names the secret, its replica regions where it has some, and the version where a value was given.
 fn created_secret(
     alloc: Global,
     row: &SecretRow,
@@ -238,7 +251,7 @@ fn created_secret(
     Ok(CreatedSecret {
         arn: row.arn.as_text().copy(alloc)?,
         name: row.name.as_text().copy(alloc)?,
-        replication_status: None,
+        replication_status: replicas_shown(alloc, row.regions.as_slice())?,
         version_id,
     })
 }
@@ -284,7 +297,7 @@ fn empty_row(
         deletion: None,
         rotation: no_rotation(),
         policy: None,
-        regions: List::empty(alloc),
+        regions: details.regions,
         job: None,
     }
 }

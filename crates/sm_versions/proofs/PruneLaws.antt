@@ -244,6 +244,7 @@ fits_pruned row moment f = record {
   changed = f.changed;
   deletion = f.deletion;
   rotation = f.rotation;
+  regions = f.regions;
   job = f.job;
 }
 

@@ -116,6 +116,7 @@ put_fits_on row token value labels when None h small date f =
       changed = f.changed;
       deletion = f.deletion;
       rotation = f.rotation;
+      regions = f.regions;
       job = f.job;
     }
 put_fits_on row token value labels when (Some version) h small date f = record {
@@ -132,6 +133,7 @@ put_fits_on row token value labels when (Some version) h small date f = record {
   changed = f.changed;
   deletion = f.deletion;
   rotation = f.rotation;
+  regions = f.regions;
   job = f.job;
 }
 
@@ -197,6 +199,7 @@ moved_fits row label None h f = record {
   changed = f.changed;
   deletion = f.deletion;
   rotation = f.rotation;
+  regions = f.regions;
   job = f.job;
 }
 moved_fits row label (Some to) h f = record {
@@ -215,6 +218,7 @@ moved_fits row label (Some to) h f = record {
   changed = f.changed;
   deletion = f.deletion;
   rotation = f.rotation;
+  regions = f.regions;
   job = f.job;
 }
 
@@ -265,6 +269,7 @@ settle_fits row sound =
       changed = f.changed;
       deletion = f.deletion;
       rotation = f.rotation;
+      regions = f.regions;
       job = settled_fits row row.job f.job;
     }
 
@@ -308,6 +313,7 @@ changed_sound row moment date sound =
         changed = date;
         deletion = f.deletion;
         rotation = f.rotation;
+        regions = f.regions;
         job = f.job;
       };
     }

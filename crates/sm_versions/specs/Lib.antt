@@ -10,4 +10,5 @@ pub mod Places
 pub mod Serials
 pub mod Kept
 pub mod Due
+pub mod Regions
 pub mod Sound

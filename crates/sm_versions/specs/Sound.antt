@@ -1,5 +1,5 @@
 -- What holds of one secret between any two changes, all of it: the labels and versions, and that each text, value,
--- number, date, schedule and policy fits.
+-- number, date, schedule, policy and region fits.
 -- AWS Secrets Manager User Guide: "AWS Secrets Manager quotas"; API Reference: SecretListEntry (ARN), RotationRulesType
 -- (ScheduleExpression).
 use Rattle.std.specs.Prelude.{ℕ, ◌≤◌, Bool, true, ◌&&◌, nat_eq, List, [], ◌∷◌, ◌++◌, length, drop, codes, IsTrue}
@@ -17,6 +17,7 @@ use Rattle.sm_cron.specs.Spelling.{is_schedule_expression}
 use Rattle.sm_model.specs.Bounds.{fits, is_description, is_small, is_tag, is_attempt, are_days, is_date, is_rotation_date}
 use Rattle.sm_versions.specs.Texts.{once}
 use Rattle.sm_versions.specs.Labels.{own_count}
+use Rattle.sm_versions.specs.Regions.{are_regions}
 use Rattle.sm_versions.specs.Kept.{KeptUnsettled, CurrentKept}
 
 -- what the ARNs of all secrets of a name begin with
@@ -72,6 +73,7 @@ pub record RowFits (row : SecretRow) : Type 0 where
   pub changed : IsTrue (is_date row.changed)
   pub deletion : IsTrue (fits is_date row.deletion)
   pub rotation : IsTrue (is_rotation row.rotation)
+  pub regions : IsTrue (are_regions row.regions)
   pub job : IsTrue (fits is_job row.job)
 
 -- what each step of a change keeps, be there as many versions as there may be, or one more until some are dropped

@@ -9,6 +9,7 @@ pub mod lookup;
 pub mod moving;
 pub mod placing;
 pub mod pruning;
+pub mod regions;
 pub mod settling;
 pub mod values;
 pub mod versions;

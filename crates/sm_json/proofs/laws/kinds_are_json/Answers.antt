@@ -1,7 +1,7 @@
-use Rattle.sm_json.specs.Kinds.{text, tag, filter}
+use Rattle.sm_json.specs.Kinds.{text, region, tag, filter}
 use Rattle.sm_json.proofs.KindLemmas.{texts, truths, integers, only_numbers, encoded, lists}
-use Rattle.sm_json.proofs.KindLawLemmas.{tags, filters, rules_are}
-use Rattle.sm_json.proofs.LeftLemmas.{rules_left, replicas_left}
+use Rattle.sm_json.proofs.KindLawLemmas.{tags, filters, regions, rules_are}
+use Rattle.sm_json.proofs.LeftLemmas.{rules_left}
 use Rattle.sm_json.proofs.laws.kinds_are_json.Goals as goal
 
 pub returns-clause-texts : goal.returns-clause-texts
@@ -25,6 +25,9 @@ returns-clause-text_lists c = lists text
 pub returns-clause-tag_lists : goal.returns-clause-tag_lists
 returns-clause-tag_lists c = lists tag
 
+pub returns-clause-region_lists : goal.returns-clause-region_lists
+returns-clause-region_lists c = lists region
+
 pub returns-clause-filter_lists : goal.returns-clause-filter_lists
 returns-clause-filter_lists c = lists filter
 
@@ -34,11 +37,11 @@ returns-clause-tags c = tags
 pub returns-clause-filters : goal.returns-clause-filters
 returns-clause-filters c = filters
 
+pub returns-clause-regions : goal.returns-clause-regions
+returns-clause-regions c = regions
+
 pub returns-clause-rules : goal.returns-clause-rules
 returns-clause-rules c = rules_are
 
 pub returns-clause-rules_left : goal.returns-clause-rules_left
 returns-clause-rules_left c = rules_left
-
-pub returns-clause-replicas_left : goal.returns-clause-replicas_left
-returns-clause-replicas_left c = replicas_left

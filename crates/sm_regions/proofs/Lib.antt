@@ -1,0 +1,4 @@
+pub mod RegionalLemmas
+pub mod ReplicateSecretToRegionsLemmas
+pub mod RemoveRegionsFromReplicationLemmas
+pub mod StopReplicationToReplicaLemmas

@@ -1,0 +1,4 @@
+pub mod Regional
+pub mod ReplicateSecretToRegions
+pub mod RemoveRegionsFromReplication
+pub mod StopReplicationToReplica
