@@ -1,0 +1,4 @@
+mod AnswerLemmas
+mod TakeLemmas
+mod TimelyLemmas
+pub mod PrefixLaws
