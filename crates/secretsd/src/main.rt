@@ -36,7 +36,7 @@ mod timed_stream;
 mod upstreams;
 mod welcome;
 
-ghost use Rattle.sm_words.specs.Reading.{IsInBounds};
+ghost use Rattle.sm_command_line.specs.Reading.{IsInBounds};
 
 use crate::ending::say_end;
 use crate::entropy::SaidRandom;
@@ -57,7 +57,7 @@ use sm_io::{
 use sm_model::{Fails, Moment, NoMemory};
 use sm_rotator::Rotator;
 use sm_server::{Status, run_once};
-use sm_words::{Mode, Settings, WordsRefused, read_words, refusal_of};
+use sm_command_line::{Mode, Settings, WordsRefused, read_words, refusal_of};
 use std::alloc::Global;
 use std::env::Env;
 use std::io::ErrorKind;

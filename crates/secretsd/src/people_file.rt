@@ -2,7 +2,7 @@
 use crate::people_line::reason_of;
 use sm_principal::{People, PeopleRefused};
 use sm_server::Status;
-use sm_words::Settings;
+use sm_command_line::Settings;
 use std::fs;
 use std::io::ErrorKind;
 use std::os::unix::fs::PermissionsExt;

@@ -10,7 +10,7 @@ use sm_agent::Agent;
 use sm_io::{StreamSink, StreamSource, SystemClock};
 use sm_model::NoMemory;
 use sm_server::{Status, agent_of_words, answer_connection};
-use sm_words::Settings;
+use sm_command_line::Settings;
 use std::alloc::Global;
 use std::cell::RefCell;
 use std::io::{Read, Write};

@@ -1,6 +1,6 @@
 //! Mode serve: workers at an address.
 ghost use Rattle.std.specs.Prelude.{◌≡◌, ◌+◌, All, OnOk, vec_len};
-ghost use Rattle.sm_words.specs.Reading.{IsInBounds};
+ghost use Rattle.sm_command_line.specs.Reading.{IsInBounds};
 ghost use Rattle.sm_workers.specs.Workers.{IsFresh};
 
 use crate::crew::{Ground, Hand, add_doors, add_porter, add_turners};
@@ -15,7 +15,7 @@ use sm_disk::Disk;
 use sm_gather::Gathered;
 use sm_model::NoMemory;
 use sm_server::{RanBy, Status, run_server};
-use sm_words::Settings;
+use sm_command_line::Settings;
 use std::net::TcpListener;
 use std::sync::Wait;
 use std::thread::Threads;

@@ -1,5 +1,5 @@
 //! What is said of the words before they are followed.
-use sm_words::{Mode, Settings};
+use sm_command_line::{Mode, Settings};
 use std::io::IsTerminal;
 use std::net::ToSocketAddrs;
 

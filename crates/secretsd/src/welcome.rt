@@ -1,6 +1,6 @@
 //! What a server says once it can be asked.
 use crate::opening::Opening;
-use sm_words::Settings;
+use sm_command_line::Settings;
 use std::net::TcpListener;
 
 /// What a server says once it can be asked: where it listens, where the secrets are, how many workers there are, and

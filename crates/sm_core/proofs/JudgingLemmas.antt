@@ -25,31 +25,31 @@ use Rattle.sm_judging.specs.declared.judged.Judged.TheVariants.{Accept, Refuse, 
 use Rattle.sm_judging.specs.Changes.{IsChange}
 use Rattle.sm_judging.specs.Judged.{judged_told, refusal_told, IfAccepted, IfChange}
 use Rattle.sm_judging.proofs.JudgedLemmas.{told_same, told_refusal}
-use Rattle.sm_values.proofs.CreateSecretLemmas.{create_refuses, create_repeats, create_change}
-use Rattle.sm_reads.proofs.DescribeSecretLemmas.{describe_refuses, describe_reads, describe_change}
-use Rattle.sm_reads.proofs.GetSecretValueLemmas.{get_refuses, get_reads, get_change}
-use Rattle.sm_values.proofs.PutSecretValueLemmas.{put_refuses, put_repeats, put_change}
-use Rattle.sm_values.proofs.UpdateSecretLemmas.{update_refuses, update_repeats, update_change}
-use Rattle.sm_labels.proofs.UpdateSecretVersionStageLemmas.{move_refuses, move_changes, move_change}
-use Rattle.sm_lists.specs.BatchGetSecretValue.{value_question}
-use Rattle.sm_lists.proofs.BatchGetSecretValueLemmas.{batch_refuses, batch_reads}
-use Rattle.sm_lists.proofs.GetRandomPasswordLemmas.{password_refuses, password_reads}
-use Rattle.sm_lists.proofs.ListSecretVersionIdsLemmas.{versions_refuses, versions_reads, versions_change}
-use Rattle.sm_lists.proofs.ListSecretsLemmas.{list_refuses, list_reads}
-use Rattle.sm_policies.proofs.DeleteResourcePolicyLemmas.{delete_policy_refuses, delete_policy_changes, delete_policy_change}
-use Rattle.sm_policies.proofs.GetResourcePolicyLemmas.{get_policy_refuses, get_policy_reads, get_policy_change}
-use Rattle.sm_policies.proofs.PutResourcePolicyLemmas.{put_policy_refuses, put_policy_changes, put_policy_change}
-use Rattle.sm_policies.proofs.ValidateResourcePolicyLemmas.{validate_refuses, validate_reads, validate_change}
+use Rattle.sm_judge_values.proofs.CreateSecretLemmas.{create_refuses, create_repeats, create_change}
+use Rattle.sm_judge_reads.proofs.DescribeSecretLemmas.{describe_refuses, describe_reads, describe_change}
+use Rattle.sm_judge_reads.proofs.GetSecretValueLemmas.{get_refuses, get_reads, get_change}
+use Rattle.sm_judge_values.proofs.PutSecretValueLemmas.{put_refuses, put_repeats, put_change}
+use Rattle.sm_judge_values.proofs.UpdateSecretLemmas.{update_refuses, update_repeats, update_change}
+use Rattle.sm_judge_labels.proofs.UpdateSecretVersionStageLemmas.{move_refuses, move_changes, move_change}
+use Rattle.sm_judge_lists_and_passwords.specs.BatchGetSecretValue.{value_question}
+use Rattle.sm_judge_lists_and_passwords.proofs.BatchGetSecretValueLemmas.{batch_refuses, batch_reads}
+use Rattle.sm_judge_lists_and_passwords.proofs.GetRandomPasswordLemmas.{password_refuses, password_reads}
+use Rattle.sm_judge_lists_and_passwords.proofs.ListSecretVersionIdsLemmas.{versions_refuses, versions_reads, versions_change}
+use Rattle.sm_judge_lists_and_passwords.proofs.ListSecretsLemmas.{list_refuses, list_reads}
+use Rattle.sm_judge_policies.proofs.DeleteResourcePolicyLemmas.{delete_policy_refuses, delete_policy_changes, delete_policy_change}
+use Rattle.sm_judge_policies.proofs.GetResourcePolicyLemmas.{get_policy_refuses, get_policy_reads, get_policy_change}
+use Rattle.sm_judge_policies.proofs.PutResourcePolicyLemmas.{put_policy_refuses, put_policy_changes, put_policy_change}
+use Rattle.sm_judge_policies.proofs.ValidateResourcePolicyLemmas.{validate_refuses, validate_reads, validate_change}
 use Rattle.sm_regions.proofs.RemoveRegionsFromReplicationLemmas.{remove_refuses, remove_changes, remove_change}
 use Rattle.sm_regions.proofs.ReplicateSecretToRegionsLemmas.{replicate_refuses, replicate_changes, replicate_change}
 use Rattle.sm_regions.proofs.StopReplicationToReplicaLemmas.{stop_refuses, stop_reads, stop_change}
-use Rattle.sm_rotations.proofs.CancelRotateSecretLemmas.{cancel_refuses, cancel_changes, cancel_change}
-use Rattle.sm_rotations.proofs.RotateSecretLemmas.{rotate_refuses, rotate_repeats, rotate_change}
-use Rattle.sm_upkeep.specs.DeleteSecret.{delete_judgement, deletes_nobody}
-use Rattle.sm_upkeep.proofs.DeleteSecretLemmas.{delete_refuses, delete_changes, delete_change}
-use Rattle.sm_upkeep.proofs.RestoreSecretLemmas.{restore_refuses, restore_changes, restore_change}
-use Rattle.sm_upkeep.proofs.TagResourceLemmas.{tag_refuses, tag_changes, tag_change}
-use Rattle.sm_upkeep.proofs.UntagResourceLemmas.{untag_refuses, untag_changes, untag_change}
+use Rattle.sm_judge_rotations.proofs.CancelRotateSecretLemmas.{cancel_refuses, cancel_changes, cancel_change}
+use Rattle.sm_judge_rotations.proofs.RotateSecretLemmas.{rotate_refuses, rotate_repeats, rotate_change}
+use Rattle.sm_judge_deletion_and_tags.specs.DeleteSecret.{delete_judgement, deletes_nobody}
+use Rattle.sm_judge_deletion_and_tags.proofs.DeleteSecretLemmas.{delete_refuses, delete_changes, delete_change}
+use Rattle.sm_judge_deletion_and_tags.proofs.RestoreSecretLemmas.{restore_refuses, restore_changes, restore_change}
+use Rattle.sm_judge_deletion_and_tags.proofs.TagResourceLemmas.{tag_refuses, tag_changes, tag_change}
+use Rattle.sm_judge_deletion_and_tags.proofs.UntagResourceLemmas.{untag_refuses, untag_changes, untag_change}
 use Rattle.sm_core.specs.Effects.{effect, entry_of}
 use Rattle.sm_core.specs.Histories.{IsDue, LegalAct}
 use Rattle.sm_core.specs.Judging.{judgement_asking, judgement_for, judgement, is_batch, refusal, IsUnchanged}

@@ -30,22 +30,22 @@ use Rattle.sm_table.specs.Changes.{row_with, replaced}
 use Rattle.sm_table.specs.Found.{named_by, row_with_arn}
 use Rattle.sm_table.specs.Sweep.{sweep}
 use Rattle.sm_judging.specs.Changes.{with_row, change_named}
-use Rattle.sm_values.specs.declared.put_secret_value.PutCall.{PutCall}
-use Rattle.sm_values.specs.CreateSecret.{create_effect}
-use Rattle.sm_values.specs.PutSecretValue.{put_call, put_into, put_effect_of}
-use Rattle.sm_values.specs.UpdateSecret.{update_call, update_into}
-use Rattle.sm_labels.specs.UpdateSecretVersionStage.{move_call, move_in}
-use Rattle.sm_policies.specs.Kept.{with_policy}
+use Rattle.sm_judge_values.specs.declared.put_secret_value.PutCall.{PutCall}
+use Rattle.sm_judge_values.specs.CreateSecret.{create_effect}
+use Rattle.sm_judge_values.specs.PutSecretValue.{put_call, put_into, put_effect_of}
+use Rattle.sm_judge_values.specs.UpdateSecret.{update_call, update_into}
+use Rattle.sm_judge_labels.specs.UpdateSecretVersionStage.{move_call, move_in}
+use Rattle.sm_judge_policies.specs.Kept.{with_policy}
 use Rattle.sm_regions.specs.RemoveRegionsFromReplication.{unreplicated}
 use Rattle.sm_regions.specs.ReplicateSecretToRegions.{replicated}
-use Rattle.sm_rotations.specs.CancelRotateSecret.{cancelled}
-use Rattle.sm_rotations.specs.Reported.{answered}
-use Rattle.sm_rotations.specs.RotateSecret.{plan_of, token_to_start, rotates}
-use Rattle.sm_rotations.specs.WholeArns.{change_with_arn}
-use Rattle.sm_upkeep.specs.DeleteSecret.{window_days, scheduled_at, drop_named, delete_effect}
-use Rattle.sm_upkeep.specs.RestoreSecret.{unscheduled}
-use Rattle.sm_upkeep.specs.TagResource.{tagged}
-use Rattle.sm_upkeep.specs.UntagResource.{untagged}
+use Rattle.sm_judge_rotations.specs.CancelRotateSecret.{cancelled}
+use Rattle.sm_judge_rotations.specs.Reported.{answered}
+use Rattle.sm_judge_rotations.specs.RotateSecret.{plan_of, token_to_start, rotates}
+use Rattle.sm_judge_rotations.specs.WholeArns.{change_with_arn}
+use Rattle.sm_judge_deletion_and_tags.specs.DeleteSecret.{window_days, scheduled_at, drop_named, delete_effect}
+use Rattle.sm_judge_deletion_and_tags.specs.RestoreSecret.{unscheduled}
+use Rattle.sm_judge_deletion_and_tags.specs.TagResource.{tagged}
+use Rattle.sm_judge_deletion_and_tags.specs.UntagResource.{untagged}
 use Rattle.sm_core.specs.Effects.{when_of, request_effect, act_effect, effect}
 use Rattle.sm_core.specs.Tokens.{versions_in, need_not_stay, goes_from, VersionsStay}
 use Rattle.sm_core.proofs.StayLemmas.{AllStay}

@@ -24,9 +24,9 @@ use Rattle.sm_judging.specs.declared.judged.Judged.{Judged}
 use Rattle.sm_judging.specs.declared.judged.Judged.TheVariants.{Accept, Refuse, Memory}
 use Rattle.sm_judging.specs.Changes.{change_named, settled, IsChange}
 use Rattle.sm_judging.specs.Secrets.{unless_scheduled}
-use Rattle.sm_rotations.proofs.ActLemmas.{Agrees}
-use Rattle.sm_upkeep.specs.declared.delete_secret.Deletion.TheVariants.{Forced, After}
-use Rattle.sm_upkeep.specs.DeleteSecret.{window_days, scheduled_at, delete_found, without_row, drop_named}
+use Rattle.sm_judge_rotations.proofs.ActLemmas.{Agrees}
+use Rattle.sm_judge_deletion_and_tags.specs.declared.delete_secret.Deletion.TheVariants.{Forced, After}
+use Rattle.sm_judge_deletion_and_tags.specs.DeleteSecret.{window_days, scheduled_at, delete_found, without_row, drop_named}
 use Rattle.sm_core.specs.Effects.{request_effect}
 use Rattle.sm_core.specs.Judging.{judgement, is_of_nobody}
 use Rattle.sm_core.specs.Replaying.{change_of, change_asked, change_kept, is_deletion}

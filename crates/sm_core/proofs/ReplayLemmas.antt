@@ -20,11 +20,11 @@ use Rattle.sm_judging.specs.declared.judged.Judged.{Judged}
 use Rattle.sm_judging.specs.declared.judged.Judged.TheVariants as judged
 use Rattle.sm_judging.specs.Changes.{settled, IsChange}
 use Rattle.sm_judging.specs.Judged.{IfChange}
-use Rattle.sm_lists.specs.BatchGetSecretValue.{no_question}
-use Rattle.sm_rotations.specs.Reported.{reported_change, MayReport}
-use Rattle.sm_rotations.proofs.ActLemmas.{Agrees, with_bytes}
-use Rattle.sm_rotations.proofs.BegunLemmas.{begun_agrees}
-use Rattle.sm_rotations.proofs.ReportedLemmas.{reported_agrees}
+use Rattle.sm_judge_lists_and_passwords.specs.BatchGetSecretValue.{no_question}
+use Rattle.sm_judge_rotations.specs.Reported.{reported_change, MayReport}
+use Rattle.sm_judge_rotations.proofs.ActLemmas.{Agrees, with_bytes}
+use Rattle.sm_judge_rotations.proofs.BegunLemmas.{begun_agrees}
+use Rattle.sm_judge_rotations.proofs.ReportedLemmas.{reported_agrees}
 use Rattle.sm_core.specs.declared.replaying.Replayed.{Replayed}
 use Rattle.sm_core.specs.declared.replaying.Replayed.TheVariants.{Accept, Refuse, Memory}
 use Rattle.sm_core.specs.Effects.{when_of, act_effect, effect}

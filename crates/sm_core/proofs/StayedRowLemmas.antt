@@ -17,8 +17,8 @@ use Rattle.sm_table.proofs.FoundLaws.{IsIn, with_arn_in, named_by_in, unswept_in
 use Rattle.sm_table.proofs.FoundLemmas.{row_with_has}
 use Rattle.sm_table.proofs.SoundLaws.{sweep_sound}
 use Rattle.sm_judging.specs.Changes.{with_row, change_named, settled}
-use Rattle.sm_rotations.specs.WholeArns.{change_with_arn}
-use Rattle.sm_upkeep.specs.DeleteSecret.{without_row, drop_named}
+use Rattle.sm_judge_rotations.specs.WholeArns.{change_with_arn}
+use Rattle.sm_judge_deletion_and_tags.specs.DeleteSecret.{without_row, drop_named}
 use Rattle.sm_core.specs.Tokens.{HasSecret, versions_in, versions_at}
 use Rattle.sm_core.proofs.StayLemmas.{AllStay, stay_same, stay_on, RowStays}
 

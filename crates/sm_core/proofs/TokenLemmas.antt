@@ -34,27 +34,27 @@ use Rattle.sm_table.specs.Sweep.{sweep}
 use Rattle.sm_judging.specs.declared.judged.Judged.{Judged}
 use Rattle.sm_judging.specs.Changes.{change_named, settled}
 use Rattle.sm_judging.specs.Secrets.{finished_row}
-use Rattle.sm_values.specs.declared.create_secret.CreateCall.{CreateCall}
-use Rattle.sm_values.specs.declared.new_value.NewValue.{NewValue}
-use Rattle.sm_values.specs.declared.put_secret_value.PutCall.{PutCall}
-use Rattle.sm_values.specs.declared.update_secret.UpdateCall.{UpdateCall}
-use Rattle.sm_values.specs.CreateSecret.{create_call, empty_row, with_first, created_row, create_effect}
-use Rattle.sm_values.specs.NewValue.{token_of, judged_by}
-use Rattle.sm_values.specs.PutSecretValue.{put_call, labels_placed, put_into, put_on, put_judgement_of, put_effect_of}
-use Rattle.sm_values.specs.UpdateSecret.{update_call, redescribed, with_value, update_into, update_placed, update_accepted, update_repeated, update_on, update_judgement, update_effect}
-use Rattle.sm_labels.specs.UpdateSecretVersionStage.{move_call, move_in}
-use Rattle.sm_policies.specs.Kept.{with_policy}
+use Rattle.sm_judge_values.specs.declared.create_secret.CreateCall.{CreateCall}
+use Rattle.sm_judge_values.specs.declared.new_value.NewValue.{NewValue}
+use Rattle.sm_judge_values.specs.declared.put_secret_value.PutCall.{PutCall}
+use Rattle.sm_judge_values.specs.declared.update_secret.UpdateCall.{UpdateCall}
+use Rattle.sm_judge_values.specs.CreateSecret.{create_call, empty_row, with_first, created_row, create_effect}
+use Rattle.sm_judge_values.specs.NewValue.{token_of, judged_by}
+use Rattle.sm_judge_values.specs.PutSecretValue.{put_call, labels_placed, put_into, put_on, put_judgement_of, put_effect_of}
+use Rattle.sm_judge_values.specs.UpdateSecret.{update_call, redescribed, with_value, update_into, update_placed, update_accepted, update_repeated, update_on, update_judgement, update_effect}
+use Rattle.sm_judge_labels.specs.UpdateSecretVersionStage.{move_call, move_in}
+use Rattle.sm_judge_policies.specs.Kept.{with_policy}
 use Rattle.sm_regions.specs.RemoveRegionsFromReplication.{unreplicated}
 use Rattle.sm_regions.specs.ReplicateSecretToRegions.{replicated}
-use Rattle.sm_rotations.specs.CancelRotateSecret.{cancelled}
-use Rattle.sm_rotations.specs.declared.rotate_secret.Plan.{Plan}
-use Rattle.sm_rotations.specs.Reported.{answered}
-use Rattle.sm_rotations.specs.RotateSecret.{plan_of, token_to_start, rotates}
-use Rattle.sm_rotations.proofs.WholeArnLemmas.{arn_row_sound}
-use Rattle.sm_upkeep.specs.DeleteSecret.{window_days, scheduled_at, drop_named, delete_effect}
-use Rattle.sm_upkeep.specs.RestoreSecret.{unscheduled}
-use Rattle.sm_upkeep.specs.TagResource.{tagged}
-use Rattle.sm_upkeep.specs.UntagResource.{untagged}
+use Rattle.sm_judge_rotations.specs.CancelRotateSecret.{cancelled}
+use Rattle.sm_judge_rotations.specs.declared.rotate_secret.Plan.{Plan}
+use Rattle.sm_judge_rotations.specs.Reported.{answered}
+use Rattle.sm_judge_rotations.specs.RotateSecret.{plan_of, token_to_start, rotates}
+use Rattle.sm_judge_rotations.proofs.WholeArnLemmas.{arn_row_sound}
+use Rattle.sm_judge_deletion_and_tags.specs.DeleteSecret.{window_days, scheduled_at, drop_named, delete_effect}
+use Rattle.sm_judge_deletion_and_tags.specs.RestoreSecret.{unscheduled}
+use Rattle.sm_judge_deletion_and_tags.specs.TagResource.{tagged}
+use Rattle.sm_judge_deletion_and_tags.specs.UntagResource.{untagged}
 use Rattle.sm_core.specs.Effects.{when_of, request_effect, act_effect, effect}
 use Rattle.sm_core.specs.Histories.{IsDue, MayBeAsked, LegalAct, LegalEntry, Legal, InTime}
 use Rattle.sm_core.specs.Tokens.{HasSecret, versions_in, versions_at, lets_go, VersionsStay, SecretsStay, Adds, Gives, NeverUntil, AtMostOne}

@@ -11,22 +11,22 @@ use Rattle.sm_model.specs.Versions.{When}
 use Rattle.sm_table.specs.Changes.{changed}
 use Rattle.sm_table.specs.Sweep.{sweep}
 use Rattle.sm_judging.specs.Changes.{settled}
-use Rattle.sm_values.specs.CreateSecret.{create_effect}
-use Rattle.sm_values.specs.PutSecretValue.{put_effect}
-use Rattle.sm_values.specs.UpdateSecret.{update_effect}
-use Rattle.sm_labels.specs.UpdateSecretVersionStage.{move_effect}
-use Rattle.sm_policies.specs.DeleteResourcePolicy.{delete_policy_effect}
-use Rattle.sm_policies.specs.PutResourcePolicy.{put_policy_effect}
+use Rattle.sm_judge_values.specs.CreateSecret.{create_effect}
+use Rattle.sm_judge_values.specs.PutSecretValue.{put_effect}
+use Rattle.sm_judge_values.specs.UpdateSecret.{update_effect}
+use Rattle.sm_judge_labels.specs.UpdateSecretVersionStage.{move_effect}
+use Rattle.sm_judge_policies.specs.DeleteResourcePolicy.{delete_policy_effect}
+use Rattle.sm_judge_policies.specs.PutResourcePolicy.{put_policy_effect}
 use Rattle.sm_regions.specs.RemoveRegionsFromReplication.{remove_effect}
 use Rattle.sm_regions.specs.ReplicateSecretToRegions.{replicate_effect}
-use Rattle.sm_rotations.specs.Begun.{begun_effect}
-use Rattle.sm_rotations.specs.CancelRotateSecret.{cancel_effect}
-use Rattle.sm_rotations.specs.Reported.{reported_effect}
-use Rattle.sm_rotations.specs.RotateSecret.{rotate_effect}
-use Rattle.sm_upkeep.specs.DeleteSecret.{delete_effect}
-use Rattle.sm_upkeep.specs.RestoreSecret.{restore_effect}
-use Rattle.sm_upkeep.specs.TagResource.{tag_effect}
-use Rattle.sm_upkeep.specs.UntagResource.{untag_effect}
+use Rattle.sm_judge_rotations.specs.Begun.{begun_effect}
+use Rattle.sm_judge_rotations.specs.CancelRotateSecret.{cancel_effect}
+use Rattle.sm_judge_rotations.specs.Reported.{reported_effect}
+use Rattle.sm_judge_rotations.specs.RotateSecret.{rotate_effect}
+use Rattle.sm_judge_deletion_and_tags.specs.DeleteSecret.{delete_effect}
+use Rattle.sm_judge_deletion_and_tags.specs.RestoreSecret.{restore_effect}
+use Rattle.sm_judge_deletion_and_tags.specs.TagResource.{tag_effect}
+use Rattle.sm_judge_deletion_and_tags.specs.UntagResource.{untag_effect}
 
 -- the rows after an accepted request, of those that are still there at its moment
 abbrev pub request_effect : Rows → When → List ℕ → Request → Rows

@@ -13,8 +13,8 @@ use Rattle.sm_table.specs.Sound.{Sound}
 use Rattle.sm_forms.specs.Forms.{forms_of}
 use Rattle.sm_judging.specs.declared.judged.Judged.{Judged}
 use Rattle.sm_judging.specs.declared.judged.Judged.TheVariants.{Accept, Refuse, Memory}
-use Rattle.sm_rotations.specs.Begun.{MayBegin}
-use Rattle.sm_rotations.specs.Reported.{MayReport}
+use Rattle.sm_judge_rotations.specs.Begun.{MayBegin}
+use Rattle.sm_judge_rotations.specs.Reported.{MayReport}
 use Rattle.sm_core.specs.Judging.{judgement, is_of_nobody}
 use Rattle.sm_core.specs.Effects.{when_of, effect}
 

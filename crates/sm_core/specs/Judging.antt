@@ -9,29 +9,29 @@ use Rattle.sm_model.specs.declared.rows.Rows.{Rows}
 use Rattle.sm_model.specs.declared.why.Why.{Why}
 use Rattle.sm_model.specs.Versions.{When}
 use Rattle.sm_judging.specs.declared.judged.Judged.{Judged}
-use Rattle.sm_values.specs.CreateSecret.{create_judgement, create_refusal, create_repeat}
-use Rattle.sm_reads.specs.DescribeSecret.{describe_judgement, describe_refusal}
-use Rattle.sm_reads.specs.GetSecretValue.{get_judgement, get_refusal}
-use Rattle.sm_values.specs.PutSecretValue.{put_judgement, put_refusal, put_repeat}
-use Rattle.sm_values.specs.UpdateSecret.{update_judgement, update_refusal, update_repeat}
-use Rattle.sm_labels.specs.UpdateSecretVersionStage.{move_judgement, move_refusal}
-use Rattle.sm_lists.specs.BatchGetSecretValue.{value_question, no_question, batch_judgement, batch_refusal}
-use Rattle.sm_lists.specs.GetRandomPassword.{password_judgement, password_refusal}
-use Rattle.sm_lists.specs.ListSecretVersionIds.{versions_judgement, versions_refusal}
-use Rattle.sm_lists.specs.ListSecrets.{list_judgement, list_refusal}
-use Rattle.sm_policies.specs.DeleteResourcePolicy.{delete_policy_judgement, delete_policy_refusal}
-use Rattle.sm_policies.specs.GetResourcePolicy.{get_policy_judgement, get_policy_refusal}
-use Rattle.sm_policies.specs.PutResourcePolicy.{put_policy_judgement, put_policy_refusal}
-use Rattle.sm_policies.specs.ValidateResourcePolicy.{validate_judgement, validate_refusal}
+use Rattle.sm_judge_values.specs.CreateSecret.{create_judgement, create_refusal, create_repeat}
+use Rattle.sm_judge_reads.specs.DescribeSecret.{describe_judgement, describe_refusal}
+use Rattle.sm_judge_reads.specs.GetSecretValue.{get_judgement, get_refusal}
+use Rattle.sm_judge_values.specs.PutSecretValue.{put_judgement, put_refusal, put_repeat}
+use Rattle.sm_judge_values.specs.UpdateSecret.{update_judgement, update_refusal, update_repeat}
+use Rattle.sm_judge_labels.specs.UpdateSecretVersionStage.{move_judgement, move_refusal}
+use Rattle.sm_judge_lists_and_passwords.specs.BatchGetSecretValue.{value_question, no_question, batch_judgement, batch_refusal}
+use Rattle.sm_judge_lists_and_passwords.specs.GetRandomPassword.{password_judgement, password_refusal}
+use Rattle.sm_judge_lists_and_passwords.specs.ListSecretVersionIds.{versions_judgement, versions_refusal}
+use Rattle.sm_judge_lists_and_passwords.specs.ListSecrets.{list_judgement, list_refusal}
+use Rattle.sm_judge_policies.specs.DeleteResourcePolicy.{delete_policy_judgement, delete_policy_refusal}
+use Rattle.sm_judge_policies.specs.GetResourcePolicy.{get_policy_judgement, get_policy_refusal}
+use Rattle.sm_judge_policies.specs.PutResourcePolicy.{put_policy_judgement, put_policy_refusal}
+use Rattle.sm_judge_policies.specs.ValidateResourcePolicy.{validate_judgement, validate_refusal}
 use Rattle.sm_regions.specs.RemoveRegionsFromReplication.{remove_judgement, remove_refusal}
 use Rattle.sm_regions.specs.ReplicateSecretToRegions.{replicate_judgement, replicate_refusal}
 use Rattle.sm_regions.specs.StopReplicationToReplica.{stop_judgement, stop_refusal}
-use Rattle.sm_rotations.specs.CancelRotateSecret.{cancel_judgement, cancel_refusal}
-use Rattle.sm_rotations.specs.RotateSecret.{rotate_judgement, rotate_refusal, rotate_repeat}
-use Rattle.sm_upkeep.specs.DeleteSecret.{delete_judgement, delete_refusal, deletes_nobody}
-use Rattle.sm_upkeep.specs.RestoreSecret.{restore_judgement, restore_refusal}
-use Rattle.sm_upkeep.specs.TagResource.{tag_judgement, tag_refusal}
-use Rattle.sm_upkeep.specs.UntagResource.{untag_judgement, untag_refusal}
+use Rattle.sm_judge_rotations.specs.CancelRotateSecret.{cancel_judgement, cancel_refusal}
+use Rattle.sm_judge_rotations.specs.RotateSecret.{rotate_judgement, rotate_refusal, rotate_repeat}
+use Rattle.sm_judge_deletion_and_tags.specs.DeleteSecret.{delete_judgement, delete_refusal, deletes_nobody}
+use Rattle.sm_judge_deletion_and_tags.specs.RestoreSecret.{restore_judgement, restore_refusal}
+use Rattle.sm_judge_deletion_and_tags.specs.TagResource.{tag_judgement, tag_refusal}
+use Rattle.sm_judge_deletion_and_tags.specs.UntagResource.{untag_judgement, untag_refusal}
 
 -- the first test after the forms that fails, or the reply and, where an entry is due, the change; of each secret of a
 -- batch a question is asked

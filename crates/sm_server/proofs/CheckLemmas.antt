@@ -8,7 +8,7 @@ use Rattle.sm_account.specs.States.{Base}
 use Rattle.sm_principal.specs.declared.people.People.{People as Persons}
 use Rattle.sm_rotation.specs.Vouched.{Replies}
 use Rattle.sm_session.specs.Told.{Told}
-use Rattle.sm_spells.proofs.KnownLemmas.{append_known-nil, prepend_known-nil}
+use Rattle.sm_seat_traces.proofs.KnownLemmas.{append_known-nil, prepend_known-nil}
 use Rattle.sm_summary.specs.Summary.{IsSummary}
 use Rattle.sm_server.specs.declared.asked.Task.TheVariants.{Summarize}
 use Rattle.sm_server.specs.declared.status.Status.{Status}

@@ -19,8 +19,8 @@ use Rattle.sm_server.specs.declared.status.Status.{Status}
 use Rattle.sm_server.specs.declared.status.Status.TheVariants.{Done, Words, Damaged, OpenFault, Memory, People, SinkFault, SourceFault, EdgeFault, Cut, BadMessage, Enough}
 use Rattle.sm_principal.specs.declared.people.People.{People as Persons}
 use Rattle.sm_principal.specs.Callers.{people_of}
-use Rattle.sm_words.specs.Reading.{settings_of}
-use Rattle.sm_spells.specs.Spells.{History}
+use Rattle.sm_command_line.specs.Reading.{settings_of}
+use Rattle.sm_seat_traces.specs.Spells.{History}
 use Rattle.sm_session.specs.Answer.{Asked, heard}
 use Rattle.sm_session.specs.Endings.{joined}
 use Rattle.sm_session.specs.Replies.{framed_answer}

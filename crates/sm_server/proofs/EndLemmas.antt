@@ -3,7 +3,7 @@ use Rattle.std.proofs.Common.{◌≡◌, ℕ, ◌≤◌, List, Option, Result, O
 use Rattle.sm_drill.specs.Messages.{messages_of}
 use Rattle.sm_http.specs.Messages.{Message}
 use Rattle.sm_principal.specs.declared.people.People.{People as Persons}
-use Rattle.sm_words.specs.declared.settings.Settings.{Settings}
+use Rattle.sm_command_line.specs.declared.settings.Settings.{Settings}
 use Rattle.sm_session.specs.Told.{Growth, Within}
 use Rattle.sm_server.specs.declared.asked.Task.{Task}
 use Rattle.sm_server.specs.declared.asked.Task.TheVariants.{Answer, Practise, Summarize}

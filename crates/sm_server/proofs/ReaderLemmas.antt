@@ -2,9 +2,9 @@
 use Rattle.std.proofs.Common.{◌≡◌, ◌∙◌, Option, None, Some, Result, Ok, Err, sym, ap, subst, inl, inr}
 use Rattle.sm_agent.specs.Agents.{AgentState}
 use Rattle.sm_agent_stream.specs.Streams.{Around}
-use Rattle.sm_words.specs.declared.settings.Mode.{Mode}
-use Rattle.sm_words.specs.declared.settings.Mode.TheVariants.{Exec, Serve, Check, Drill, Agent}
-use Rattle.sm_words.specs.declared.settings.Settings.{Settings}
+use Rattle.sm_command_line.specs.declared.settings.Mode.{Mode}
+use Rattle.sm_command_line.specs.declared.settings.Mode.TheVariants.{Exec, Serve, Check, Drill, Agent}
+use Rattle.sm_command_line.specs.declared.settings.Settings.{Settings}
 use Rattle.sm_server.specs.declared.status.Status.{Status}
 use Rattle.sm_server.specs.declared.status.Status.TheVariants as statuses
 use Rattle.sm_server.specs.Readers.{AgentRan, BuildsAgent, EndsReader, IsNewAgent, StreamRan, end_of_reader, end_of_reading, first_agent}

@@ -19,10 +19,10 @@ use Rattle.sm_account.specs.Books.{FaultsBound, count_limit, faults_of}
 use Rattle.sm_account.specs.History.{faults_in}
 use Rattle.sm_account.specs.Openings.{IsOpenedOver, TakenFrom}
 use Rattle.sm_account.specs.States.{Base, base_of}
-use Rattle.sm_spells.specs.Spells.{History}
-use Rattle.sm_words.specs.declared.settings.Mode.{Mode}
-use Rattle.sm_words.specs.declared.settings.Mode.TheVariants.{Exec, Serve, Check, Drill, Agent}
-use Rattle.sm_words.specs.declared.settings.Settings.{Settings}
+use Rattle.sm_seat_traces.specs.Spells.{History}
+use Rattle.sm_command_line.specs.declared.settings.Mode.{Mode}
+use Rattle.sm_command_line.specs.declared.settings.Mode.TheVariants.{Exec, Serve, Check, Drill, Agent}
+use Rattle.sm_command_line.specs.declared.settings.Settings.{Settings}
 use Rattle.sm_workers.specs.declared.worker.WorkerBy.{WorkerBy}
 use Rattle.sm_workers.specs.Closed.{Closed}
 use Rattle.sm_workers.specs.Views.{Views}

@@ -10,9 +10,9 @@ use Rattle.sm_principal.specs.declared.people.People.{People}
 use Rattle.sm_principal.specs.declared.people.People.{People as Persons}
 use Rattle.sm_principal.specs.Callers.{people_of}
 use Rattle.sm_reply.specs.Shown.{Answered}
-use Rattle.sm_words.specs.Reading.{settings_of}
-use Rattle.sm_words.specs.declared.settings.Settings.{Settings}
-use Rattle.sm_spells.specs.Spells.{History}
+use Rattle.sm_command_line.specs.Reading.{settings_of}
+use Rattle.sm_command_line.specs.declared.settings.Settings.{Settings}
+use Rattle.sm_seat_traces.specs.Spells.{History}
 use Rattle.sm_session.specs.Answer.{Asked, heard}
 use Rattle.sm_session.specs.Endings.{joined}
 use Rattle.sm_session.specs.Streams.{message_limit, AreWhole}

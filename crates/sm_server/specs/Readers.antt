@@ -3,9 +3,9 @@ use Rattle.std.specs.Prelude.{◌≡◌, ◌⊎◌, Option, Some, None, Result, 
 use Rattle.sm_agent.specs.Agents.{AgentState, empty_agent}
 use Rattle.sm_agent_stream.specs.Streams.{Around, StreamOf}
 use Rattle.sm_session.specs.declared.ended.Ended.{Ended}
-use Rattle.sm_words.specs.declared.settings.Mode.{Mode}
-use Rattle.sm_words.specs.declared.settings.Mode.TheVariants.{Exec, Serve, Check, Drill, Agent}
-use Rattle.sm_words.specs.declared.settings.Settings.{Settings}
+use Rattle.sm_command_line.specs.declared.settings.Mode.{Mode}
+use Rattle.sm_command_line.specs.declared.settings.Mode.TheVariants.{Exec, Serve, Check, Drill, Agent}
+use Rattle.sm_command_line.specs.declared.settings.Settings.{Settings}
 use Rattle.sm_server.specs.declared.status.Status.{Status}
 use Rattle.sm_server.specs.declared.status.Status.TheVariants.{Words, Memory}
 use Rattle.sm_server.specs.Status.{status_of}

@@ -17,9 +17,9 @@ use Rattle.sm_account.specs.Crashes.{HoldsOnDisk}
 use Rattle.sm_account.specs.History.{faults_in}
 use Rattle.sm_account.specs.Openings.{TakenFrom}
 use Rattle.sm_account.specs.States.{base_of}
-use Rattle.sm_words.specs.declared.settings.Mode.{Mode}
-use Rattle.sm_words.specs.declared.settings.Mode.TheVariants.{Exec, Serve, Check, Drill, Agent}
-use Rattle.sm_words.specs.declared.settings.Settings.{Settings}
+use Rattle.sm_command_line.specs.declared.settings.Mode.{Mode}
+use Rattle.sm_command_line.specs.declared.settings.Mode.TheVariants.{Exec, Serve, Check, Drill, Agent}
+use Rattle.sm_command_line.specs.declared.settings.Settings.{Settings}
 use Rattle.sm_workers.specs.declared.worker.Task.{Task}
 use Rattle.sm_workers.specs.declared.worker.Task.TheVariants.{Door, Turner}
 use Rattle.sm_workers.specs.declared.worker.WorkerBy.{WorkerBy}

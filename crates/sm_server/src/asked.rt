@@ -1,12 +1,12 @@
 //! What the words of a run ask for.
 ghost use Rattle.std.specs.Prelude.{◌≡◌, map, string_bytes};
 ghost use Rattle.sm_principal.specs.Callers.{people_of};
-ghost use Rattle.sm_words.specs.Reading.{settings_of};
+ghost use Rattle.sm_command_line.specs.Reading.{settings_of};
 ghost use Rattle.sm_server.specs.Asked.{FollowsPeople, FollowsWords, end_of_people, task_of_mode};
 
 use crate::status::Status;
 use sm_principal::{People, PeopleRefused};
-use sm_words::{Mode, WordsRefused, read_words};
+use sm_command_line::{Mode, WordsRefused, read_words};
 use std::alloc::Global;
 
 /// What a run over one stream does.

@@ -19,7 +19,7 @@ ghost use Rattle.sm_server.specs.Ran.{Runs, Story, course_of};
 ghost use Rattle.sm_server.specs.Status.{WasFollowed, WasOpened, WasUnderstood};
 ghost use Rattle.sm_server.specs.Stored.{Leaves, Stands, StaysVouched, WantsBy, status_unopened, disk_unopened};
 ghost use Rattle.sm_server.specs.declared.status.Status.TheVariants.{Memory};
-ghost use Rattle.sm_words.specs.Reading.{settings_of};
+ghost use Rattle.sm_command_line.specs.Reading.{settings_of};
 
 use crate::answering::answer_source;
 use crate::asked::{Task, people_of, task_of_words};

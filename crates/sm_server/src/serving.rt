@@ -4,7 +4,7 @@ ghost use Rattle.sm_base.specs.declared.limits.TheConstants.{JOURNAL_LIMIT, SEAT
 ghost use Rattle.sm_account.specs.Accounts.{base, began, doors, failed, history, taken};
 ghost use Rattle.sm_account.specs.States.{base_of};
 ghost use Rattle.sm_principal.specs.Callers.{people_of};
-ghost use Rattle.sm_words.specs.Reading.{settings_of};
+ghost use Rattle.sm_command_line.specs.Reading.{settings_of};
 ghost use Rattle.sm_workers.specs.Views.{views_by};
 ghost use Rattle.sm_workers.specs.Workers.{IsFresh};
 ghost use Rattle.sm_server.specs.Served.{EndsServer, EndsWorkers, FollowsOrders, LeavesAt, LeavesOver, RanAs, doors_in, end_of_serving, is_door};
@@ -20,7 +20,7 @@ use sm_io::{Clock, Edge, Words};
 use sm_lock::BuildRefused;
 use sm_principal::People;
 use sm_rotator::Rotator;
-use sm_words::{Mode, WordsRefused, read_words};
+use sm_command_line::{Mode, WordsRefused, read_words};
 use sm_workers::{ConnEnd, Task, WorkerBy, any_failed, run_at};
 use std::alloc::Global;
 use std::sync::Wait;

@@ -15,7 +15,7 @@ use Rattle.sm_http.proofs.ChainLemmas.{begin-append, goes_on, gave_nothing, stay
 use Rattle.sm_http.proofs.MessageLemmas.{message_unique, bad_is_no_message, partial_is_no_message}
 use Rattle.sm_http.proofs.OneReadingLemmas.{one_reading}
 use Rattle.sm_session.specs.Streams.{StartWith}
-use Rattle.sm_spells.proofs.KnownLemmas.{prepend_known-nil}
+use Rattle.sm_seat_traces.proofs.KnownLemmas.{prepend_known-nil}
 
 -- the reader goes on after these messages of the bytes that were read, or the last of them closed the stream
 abbrev pub StandsAfter : List ℕ → List Message → ReaderState → Type 0

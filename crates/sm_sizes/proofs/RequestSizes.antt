@@ -50,8 +50,8 @@ use Rattle.sm_forms.proofs.UpdateSecretVersionStageLemmas as moving
 use Rattle.sm_judging.specs.declared.judged.Judged.{Judged}
 use Rattle.sm_judging.specs.declared.judged.Judged.TheVariants.{Accept, Refuse, Memory}
 use Rattle.sm_judging.specs.Judged.{IfChange}
-use Rattle.sm_values.proofs.CreateSecretLemmas.{create_few}
-use Rattle.sm_upkeep.proofs.TagResourceLemmas.{tag_few}
+use Rattle.sm_judge_values.proofs.CreateSecretLemmas.{create_few}
+use Rattle.sm_judge_deletion_and_tags.proofs.TagResourceLemmas.{tag_few}
 use Rattle.sm_core.specs.Histories.{IsDue, LegalAct}
 use Rattle.sm_core.proofs.NobodyLemmas.{due_of}
 use Rattle.sm_core.specs.Judging.{judgement}

@@ -9,8 +9,8 @@ use Rattle.sm_pool.specs.Rounds.{ComesToRest}
 use Rattle.sm_pool.specs.Turns.{TurnDone, holds_of}
 use Rattle.sm_rotation.specs.Vouched.{Replies}
 use Rattle.sm_session.specs.Sessions.{Place}
-use Rattle.sm_spells.specs.Spells.{Spell}
-use Rattle.sm_spells.proofs.SpellLaws.{spells_join}
+use Rattle.sm_seat_traces.specs.Spells.{Spell}
+use Rattle.sm_seat_traces.proofs.SpellLaws.{spells_join}
 use Rattle.sm_workers.specs.Chains.{Chain}
 use Rattle.sm_workers.specs.Turners.{ComeToRest, NoneFell, Post, Turn, TurnerDid, WaitsAt, holds_in, passing}
 use Rattle.sm_workers.proofs.ChainLemmas.{chain_more, chain_on, joins, waits_at_both, waits_at_still}

@@ -1,4 +1,4 @@
-use Rattle.sm_lists.specs.BatchGetSecretValue.{value_question}
+use Rattle.sm_judge_lists_and_passwords.specs.BatchGetSecretValue.{value_question}
 use Rattle.sm_core.proofs.JudgingLemmas.{is_alone, judged_alone}
 use Rattle.sm_core.proofs.judging.judge_exactly.Goals as goal
 

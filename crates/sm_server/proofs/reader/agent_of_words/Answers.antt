@@ -1,5 +1,5 @@
 use Rattle.std.proofs.Common.{map, string_bytes}
-use Rattle.sm_words.specs.Reading.{settings_of}
+use Rattle.sm_command_line.specs.Reading.{settings_of}
 use Rattle.sm_server.proofs.ReaderLemmas.{built_reader, ended_reader}
 use Rattle.sm_server.proofs.reader.agent_of_words.Goals as goal
 

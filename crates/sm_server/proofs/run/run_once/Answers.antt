@@ -1,8 +1,8 @@
 use Rattle.std.proofs.Common.{◌≡◌, Option, map, string_bytes, ◌∙◌, ap}
 use Rattle.sm_principal.specs.declared.people.People.TheVariants.{Everybody}
 use Rattle.sm_principal.specs.Callers.{people_of}
-use Rattle.sm_words.specs.declared.settings.Settings.{Settings}
-use Rattle.sm_words.specs.Reading.{settings_of}
+use Rattle.sm_command_line.specs.declared.settings.Settings.{Settings}
+use Rattle.sm_command_line.specs.Reading.{settings_of}
 use Rattle.std.proofs.Common.{Ok, sym}
 use Rattle.sm_server.specs.declared.asked.Task.{Task}
 use Rattle.sm_server.specs.declared.asked.Task.TheVariants.{Answer}

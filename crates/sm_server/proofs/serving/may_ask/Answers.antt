@@ -1,6 +1,6 @@
 use Rattle.std.proofs.Common.{map, string_bytes}
 use Rattle.sm_principal.specs.Callers.{people_of}
-use Rattle.sm_words.specs.Reading.{settings_of}
+use Rattle.sm_command_line.specs.Reading.{settings_of}
 use Rattle.sm_server.proofs.ServedLemmas.{ended_orders, read_orders}
 use Rattle.sm_server.proofs.serving.may_ask.Goals as goal
 

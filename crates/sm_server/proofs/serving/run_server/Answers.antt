@@ -1,6 +1,6 @@
 use Rattle.std.proofs.Common.{inl, map, refl, string_bytes}
 use Rattle.sm_principal.specs.Callers.{people_of}
-use Rattle.sm_words.specs.Reading.{settings_of}
+use Rattle.sm_command_line.specs.Reading.{settings_of}
 use Rattle.sm_server.proofs.ServedLemmas.{ran_as}
 use Rattle.sm_server.proofs.serving.run_server.Goals as goal
 

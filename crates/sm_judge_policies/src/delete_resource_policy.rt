@@ -1,0 +1,57 @@
+//! Judging DeleteResourcePolicy (AWS Secrets Manager API Reference, DeleteResourcePolicy).
+ghost use Rattle.std.specs.Prelude.{◌≡◌, IfOk, None};
+ghost use Rattle.sm_forms.specs.OfSecret.{of_secret_forms};
+ghost use Rattle.sm_judging.specs.Secrets.{unless_scheduled};
+ghost use Rattle.sm_judge_policies.specs.DeleteResourcePolicy.{delete_policy_on, delete_policy_judgement};
+
+use crate::kept::{keep, named};
+use sm_judging::Judged;
+use sm_judging::members::secret_id;
+use sm_model::{Change, NoMemory, OfSecret, Reply, SecretRow, Why};
+use sm_table::Table;
+use sm_versions::When;
+use std::alloc::Global;
+
+/// Judges a DeleteResourcePolicy.
+#[tactic(auto, using(sm_forms::proofs::OfSecretLemmas::named_id))]
+pub fn judge_delete_policy(
+    alloc: Global,
+    table: &Table,
+    when: When,
+    delete: &OfSecret,
+) -> Result<Judged, NoMemory>
+    requires { of_secret_forms delete.now ≡ None }
+    ensures { IfOk result (λ judged. judged ≡ delete_policy_judgement table.now when delete.now) }
+{
+    let id = secret_id(alloc, &delete.secret_id)?;
+    match table.find(&id, when.moment) {
+        Some(row) => delete_policy_unless_scheduled(alloc, row, when),
+        None => Ok(Judged::Refuse(Why::NoSecret)),
+    }
+}
+
+/// Takes the policy off this row, unless its secret is scheduled for deletion.
+fn delete_policy_unless_scheduled(
+    alloc: Global,
+    row: &SecretRow,
+    when: When,
+) -> Result<Judged, NoMemory>
+    ensures { IfOk result (λ judged. judged ≡ unless_scheduled row.now.deletion (delete_policy_on row.now when)) }
+{
+    match row.deletion {
+        Some(date) => Ok(Judged::Refuse(Why::Scheduled(date))),
+        None => delete_policy_on(alloc, row, when),
+    }
+}
+
+/// Takes the policy off a copy of the row, whether it has one or not.
+fn delete_policy_on(alloc: Global, row: &SecretRow, when: When) -> Result<Judged, NoMemory>
+    ensures { IfOk result (λ judged. judged ≡ delete_policy_on row.now when) }
+{
+    let reply = named(alloc, row)?;
+    let after = keep(alloc, row, when, None)?;
+    Ok(Judged::Accept(
+        Reply::DeleteResourcePolicy(reply),
+        Some(Change::Replace(after)),
+    ))
+}

@@ -1,0 +1,54 @@
+-- Judging DescribeSecret: when it is refused, and that it changes nothing.
+use Rattle.std.proofs.Common.{◌≡◌, ◌+◌, true, List, [], ◌∷◌, ◌++◌, Option, Some, None, is_none, refl, sym, ap, ◌∙◌, append_assoc, arith}
+use Rattle.std.proofs.lemmas.List.{append-nil}
+use Rattle.sm_base.specs.declared.moment.Moment.{Moment}
+use Rattle.sm_base.specs.SecretId.{secret_id}
+use Rattle.sm_model.specs.declared.entry.Change.{Change}
+use Rattle.sm_model.specs.declared.request.OfSecret.{OfSecret}
+use Rattle.sm_model.specs.declared.rows.Rows.{Rows}
+use Rattle.sm_model.specs.declared.rows.SecretRow.{SecretRow}
+use Rattle.sm_model.specs.declared.rows.VersionRow.{VersionRow}
+use Rattle.sm_table.specs.Found.{found}
+use Rattle.sm_judging.specs.Judged.{refusal_told, IfAccepted, IfChange}
+use Rattle.sm_judging.specs.LabelsShown.{labels_shown}
+use Rattle.sm_judge_reads.specs.DescribeSecret.{with_labels, staged, describe_found, describe_judgement, unless_found, describe_refusal}
+
+found_refuses : (row : Option SecretRow) → refusal_told (describe_found row) ≡ Some (unless_found row)
+found_refuses None = refl
+found_refuses (Some row) = refl
+
+pub describe_refuses : (rows : Rows) (moment : Moment) (describe : OfSecret)
+    → refusal_told (describe_judgement rows moment describe) ≡ Some (describe_refusal rows moment describe)
+describe_refuses rows moment describe = found_refuses (found rows moment (secret_id describe.secret_id))
+
+found_reads : (row : Option SecretRow) → IfAccepted (describe_found row) (λ change. is_none change ≡ true)
+found_reads None = tt
+found_reads (Some row) = refl
+
+pub describe_reads : (rows : Rows) (moment : Moment) (describe : OfSecret)
+    → IfAccepted (describe_judgement rows moment describe) (λ change. is_none change ≡ true)
+describe_reads rows moment describe = found_reads (found rows moment (secret_id describe.secret_id))
+
+found_change : (row : Option SecretRow) (P : Change → Type 0) → IfChange (describe_found row) P
+found_change None P = tt
+found_change (Some row) P = tt
+
+pub describe_change : (rows : Rows) (moment : Moment) (describe : OfSecret) (P : Change → Type 0)
+    → IfChange (describe_judgement rows moment describe) P
+describe_change rows moment describe P = found_change (found rows moment (secret_id describe.secret_id)) P
+
+-- ---- the versions with a label
+
+staged-append : (row : SecretRow) (vs ws : List VersionRow) → staged row (vs ++ ws) ≡ staged row vs ++ staged row ws
+staged-append row [] ws = refl
+staged-append row (v ∷ vs) ws =
+    ap (λ rest. with_labels v.id (labels_shown row v.id) ++ rest) (staged-append row vs ws)
+    ∙ sym (append_assoc (with_labels v.id (labels_shown row v.id)) (staged row vs) (staged row ws))
+
+-- one version more is shown behind the others
+pub staged_more : (row : SecretRow) (versions : List VersionRow) (version : VersionRow)
+    → staged row (versions ++ version ∷ [])
+    ≡ staged row versions ++ with_labels version.id (labels_shown row version.id)
+staged_more row versions version =
+    rw (staged-append row versions (version ∷ []))
+    (ap (λ rest. staged row versions ++ rest) (append-nil (with_labels version.id (labels_shown row version.id))))

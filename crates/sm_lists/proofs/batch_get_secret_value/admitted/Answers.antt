@@ -1,6 +1,0 @@
-use Rattle.sm_lists.proofs.BatchGetSecretValueLemmas.{get_answer}
-use Rattle.sm_lists.proofs.batch_get_secret_value.admitted.Goals as goal
-
-pub returns-in-Ok-clause-answer : goal.returns-in-Ok-clause-answer
-returns-in-Ok-clause-answer c =
-    get_answer c.judge_get.result c.args.table.now c.args.moment c.args.get.now c.judge_get.ensures
