@@ -11,7 +11,7 @@ use crate::rotators::MakeRotator;
 use crate::welcome::Welcome;
 use sm_account::Account;
 use sm_disk::Disk;
-use sm_io::{ListenerEdge, SystemClock, SystemWords};
+use sm_io::{ListenerEdge, SystemClock, SystemRandom};
 use sm_model::NoMemory;
 use sm_rotator::Rotator;
 use sm_workers::WorkerBy;
@@ -22,7 +22,7 @@ use std::sync::Wait;
 pub type Hand<'a, H, D: Disk, R: Rotator> = WorkerBy<
     ListenerEdge<Entrance<'a, H>>,
     SystemClock<&'a HostRuntime>,
-    SystemWords<SaidRandom<'a>>,
+    SystemRandom<SaidRandom<'a>>,
     R,
     Account<D, R>,
 >;
@@ -39,8 +39,8 @@ pub struct Ground<'a, H> {
 }
 
 /// A random source of a worker's own.
-fn words_of<'a>(rt: &'a HostRuntime, reports: &'a Reports<'a>) -> SystemWords<SaidRandom<'a>> {
-    SystemWords::new(rt.alloc(), SaidRandom { rt, reports })
+fn words_of<'a>(rt: &'a HostRuntime, reports: &'a Reports<'a>) -> SystemRandom<SaidRandom<'a>> {
+    SystemRandom::new(rt.alloc(), SaidRandom { rt, reports })
 }
 
 /// Adds a worker.

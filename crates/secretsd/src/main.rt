@@ -52,7 +52,7 @@ use crate::starting::say_start;
 use sm_disk::Disk;
 use sm_gather::Gathered;
 use sm_io::{
-    Clock, CountWords, FixedClock, StreamSink, StreamSource, SystemClock, SystemWords, Words,
+    Clock, CountWords, FixedClock, StreamSink, StreamSource, SystemClock, SystemRandom, Words,
 };
 use sm_model::{Fails, Moment, NoMemory};
 use sm_rotator::Rotator;
@@ -208,7 +208,7 @@ fn run_over<D: Disk + Drop>(rt: &HostRuntime, orders: &Orders, disk: D) -> Statu
         None => {
             let mut clock = SystemClock::new(rt);
             let reports = orders.reports;
-            let mut random = SystemWords::new(alloc, SaidRandom { rt, reports });
+            let mut random = SystemRandom::new(alloc, SaidRandom { rt, reports });
             run_with(rt, orders, disk, &mut clock, &mut random)
         }
     }

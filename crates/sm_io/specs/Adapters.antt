@@ -2,7 +2,7 @@
 use Rattle.std.specs.Prelude.{ℕ}
 use Rattle.sm_io.specs.declared.stream_source.StreamSource.{StreamSource}
 use Rattle.sm_io.specs.declared.stream_sink.StreamSink.{StreamSink}
-use Rattle.sm_io.specs.declared.system_words.SystemWords.{SystemWords}
+use Rattle.sm_io.specs.declared.system_random.SystemRandom.{SystemRandom}
 use Rattle.sm_io.specs.declared.system_clock.SystemClock.{SystemClock}
 
 -- the reader that a source reads from, and how often it failed
@@ -20,7 +20,7 @@ abbrev pub write_faults : {W : Type 0} → StreamSink W → ℕ
 write_faults sink = sink.faults
 
 -- how often a random source failed
-abbrev pub draw_faults : {R : Type 0} → SystemWords R → ℕ
+abbrev pub draw_faults : {R : Type 0} → SystemRandom R → ℕ
 draw_faults words = words.faults
 
 -- what a clock reads where its system can't tell the time

@@ -2,8 +2,8 @@
 use Rattle.std.specs.Prelude.{ℕ, ◌+◌, ◌%◌, List, map, length}
 use Rattle.std.specs.List.{range_with_len}
 use Rattle.sm_io.specs.declared.calls.Calls.{Calls}
-use Rattle.sm_io.specs.declared.words.Drew.{Drew}
-use Rattle.sm_io.specs.declared.words.Drew.TheVariants.{Bytes, Failed, Memory}
+use Rattle.sm_io.specs.declared.random.Drew.{Drew}
+use Rattle.sm_io.specs.declared.random.Drew.TheVariants.{Bytes, Failed, Memory}
 use Rattle.sm_io.specs.Calls.{after_call, after_fault}
 
 -- the first byte, how many bytes were drawn, and the calls

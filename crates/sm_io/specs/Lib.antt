@@ -10,7 +10,7 @@ pub mod MemorySource
 pub mod Source
 pub mod Sink
 pub mod Transfer
-pub mod Words
+pub mod Random
 pub mod StreamConn
 pub mod Edge
 pub mod ListenerEdge

@@ -1,8 +1,8 @@
 -- Random words from a list.
 use Rattle.std.specs.Prelude.{ℕ, List, length, drop, ◌++◌, Bool, ◌||◌, nat_lt}
 use Rattle.sm_io.specs.declared.calls.Calls.{Calls}
-use Rattle.sm_io.specs.declared.words.Drew.{Drew}
-use Rattle.sm_io.specs.declared.words.Drew.TheVariants.{Bytes, Failed, Memory}
+use Rattle.sm_io.specs.declared.random.Drew.{Drew}
+use Rattle.sm_io.specs.declared.random.Drew.TheVariants.{Bytes, Failed, Memory}
 use Rattle.sm_io.specs.Calls.{fails_next, after_call, after_fault}
 
 -- the bytes that were drawn, those that are left, and the calls

@@ -1,18 +1,18 @@
 //! Random words in memory that count up.
 ghost use Rattle.std.specs.Prelude.{◌≡◌, ◌↔◌, ◌+◌, ◌≤◌, [], length, IsTrue, IfOk, Some};
 ghost use Rattle.sm_base.specs.Faults.{Rose};
-ghost use Rattle.sm_io.specs.Words.{IfDrew, OnDrawFailed, Draws, StaysUnlessFailed};
+ghost use Rattle.sm_io.specs.Random.{IfDrew, OnDrawFailed, Draws, StaysUnlessFailed};
 ghost use Rattle.sm_io.specs.Calls.{no_calls, fails_next};
 ghost use Rattle.sm_io.specs.CountWords.{count_up, after_draw};
 
 use crate::calls::Calls;
 use crate::count::Count;
-use crate::words::{Drew, Words};
+use crate::random::{Drew, Words};
 use sm_base::{Bytes, Fails, NoMemory};
 use std::alloc::Global;
 use std::marker::Model;
 
-/// Words that draw a first byte, the first plus 1, and on, modulo 256, unless a call is told to fail.
+/// A random source that draws a first byte, the first plus 1, and on, modulo 256, unless a call is told to fail.
 #[derive(Drop)]
 pub struct CountWords {
     alloc: Global,
@@ -34,7 +34,7 @@ impl Model for CountWords {
 }
 
 impl CountWords {
-    /// Words that have drawn nothing. It takes no memory.
+    /// A random source that has drawn nothing. It takes no memory.
     pub fn new(alloc: Global, first: u8, fails: Fails) -> CountWords
         ensures state { result ≡ record { first = first; count = 0; calls = no_calls fails } }
         ensures drawn { ⟦<CountWords as Words>⟧.drawn result ≡ Some [] }

@@ -2,16 +2,16 @@
 ghost use Rattle.std.specs.Prelude.{◌≡◌, ◌↔◌, ◌≤◌, [], length, take, IsTrue, Some};
 ghost use Rattle.sm_base.specs.Faults.{Rose};
 ghost use Rattle.sm_io.specs.Calls.{no_calls};
-ghost use Rattle.sm_io.specs.Words.{IfDrew, OnDrawFailed, Draws, StaysUnlessFailed};
+ghost use Rattle.sm_io.specs.Random.{IfDrew, OnDrawFailed, Draws, StaysUnlessFailed};
 ghost use Rattle.sm_io.specs.ListWords.{fails_draw, after_list_draw};
 
 use crate::calls::Calls;
-use crate::words::{Drew, Words};
+use crate::random::{Drew, Words};
 use sm_base::{Bytes, Fails};
 use std::alloc::Global;
 use std::marker::Model;
 
-/// Words that draw given bytes in order, unless a call is told to fail. A draw of more bytes than are left
+/// A random source that draws given bytes in order, unless a call is told to fail. A draw of more bytes than are left
 /// is a fault.
 #[derive(Drop)]
 pub struct ListWords {
@@ -33,7 +33,7 @@ impl Model for ListWords {
 }
 
 impl ListWords {
-    /// Words that draw these bytes. It takes no memory.
+    /// A random source that draws these bytes. It takes no memory.
     pub fn new(alloc: Global, bytes: Bytes, fails: Fails) -> ListWords
         ensures state { result ≡ record { drawn = []; rest = bytes; calls = no_calls fails } }
         ensures drawn { ⟦<ListWords as Words>⟧.drawn result ≡ Some [] }

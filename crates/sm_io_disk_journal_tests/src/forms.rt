@@ -5,7 +5,7 @@ use sm_base::moment::LAST_READING;
 use sm_base::{Bytes, Fails, List, Moment, NoMemory};
 use sm_io::{
     Clock, CountWords, Drew, FixedClock, Gave, ListClock, ListWords, MemorySink, MemorySource,
-    QuietSink, ReadEnd, Sink, Source, StreamSink, StreamSource, SystemClock, SystemWords, Words,
+    QuietSink, ReadEnd, Sink, Source, StreamSink, StreamSource, SystemClock, SystemRandom, Words,
     Wrote, put_all, read_to,
 };
 use std::alloc::Global;
@@ -30,7 +30,7 @@ enum Case {
     ListWords,
     /// Two draws from a source that fails so often.
     Sevens(u64),
-    SystemWords,
+    SystemRandom,
     FixedClock,
     ListClock,
     EmptyClock,
@@ -96,7 +96,7 @@ const ROWS: [Row; 24] = [
     ("each draw that failed is told", Case::Sevens(2), b"!!"),
     (
         "the system's words are not all zeros",
-        Case::SystemWords,
+        Case::SystemRandom,
         b"..",
     ),
     ("a clock stands", Case::FixedClock, b"\0\0\0\0\0\0\0\x05"),
@@ -295,12 +295,12 @@ fn show_words(rt: &HostRuntime, case: Case, shown: &mut Shown) -> Result<(), Fai
         Case::Sevens(failing) => {
             let calls = AtomicU64::new(0);
             draw(
-                &mut sendable(SystemWords::new(alloc, Sevens { calls, failing })),
+                &mut sendable(SystemRandom::new(alloc, Sevens { calls, failing })),
                 2,
                 shown,
             )
         }
-        _ => draw_long(&mut sendable(SystemWords::new(alloc, rt)), shown),
+        _ => draw_long(&mut sendable(SystemRandom::new(alloc, rt)), shown),
     }
 }
 
@@ -334,7 +334,7 @@ fn show_row(rt: &HostRuntime, case: Case) -> Result<Shown, Fail> {
         }
         Case::MemorySink | Case::QuietSink | Case::StreamSink | Case::FullFile | Case::NullFile =>
             show_sink(rt, case, &mut shown)?,
-        Case::CountWords | Case::ListWords | Case::Sevens(_) | Case::SystemWords => {
+        Case::CountWords | Case::ListWords | Case::Sevens(_) | Case::SystemRandom => {
             show_words(rt, case, &mut shown)?
         }
         Case::FixedClock

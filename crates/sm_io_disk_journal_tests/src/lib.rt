@@ -1,5 +1,5 @@
-//! What no clause says of sources, sinks, words, clocks, disks and journals: each through its bound on its happy path,
-//! the system's own, and one that fails. A crate of its own, so that those below are proved without it.
+//! What no clause says of sources, sinks, random sources, clocks, disks and journals: each through its bound on its
+//! happy path, the system's own, and one that fails. A crate of its own, so that those below are proved without it.
 //!
 //! Each test walks a table. A row has a name, and bytes that say what is wanted; one helper gives what came.
 #![tactic(auto)]

@@ -19,7 +19,7 @@ use Rattle.sm_pool.specs.declared.done.Trouble.TheVariants as troubles
 use Rattle.sm_pool.specs.Asking.{Asking, Asks, IsUnasked}
 use Rattle.sm_pool.specs.Ends.{due_ends, report_ends}
 use Rattle.sm_pool.specs.Holds.{ReportHeld, StartHeld, hold_of}
-use Rattle.sm_pool.specs.Turns.{Asked, Begins, Count, HasRisen, IsOfDraw, OnWords, StartDone, Telling, Tells, Unasked, Undrawn, WorkDone}
+use Rattle.sm_pool.specs.Turns.{Asked, Begins, Count, HasRisen, IsOfDraw, OnRandom, StartDone, Telling, Tells, Unasked, Undrawn, WorkDone}
 use Rattle.sm_pool.proofs.AskingLemmas.{unasked_none}
 use Rattle.sm_pool.proofs.HoldLemmas.{spell_one}
 use Rattle.sm_seat_traces.proofs.KnownLemmas.{append_known-nil}
@@ -87,7 +87,7 @@ module _ (base : Base) (gap : History → History → Type 0) (still : (h : Hist
 
   -- none were drawn
   pub undrawn_start : (trouble : Trouble) (known : Option (List ℕ)) (words : Telling) (failures : Count)
-      (from : History) → IsOfDraw trouble → OnWords trouble (HasRisen failures) → Tells words []
+      (from : History) → IsOfDraw trouble → OnRandom trouble (HasRisen failures) → Tells words []
       → StartDone base gap seat (record { before = known; after = known }) words failures from from
       (ends.Trouble trouble)
   undrawn_start trouble known words failures from is failed random = record {

@@ -15,7 +15,7 @@ use Rattle.sm_pool.specs.declared.done.Done.TheVariants as ends
 use Rattle.sm_pool.specs.Alone.{IsStale, OnDisk}
 use Rattle.sm_pool.specs.Holds.{Hold, hold_shape}
 use Rattle.sm_pool.specs.Rounds.{ComesToRest, Counts, EndsRound, NoneFell, Point, Rotated, Round, Turned, TurnedOn, asks_in, courses_in, drawn_in, goes_on, holds_in, last_in, marks_of, readings_in, turn_limit}
-use Rattle.sm_pool.specs.Turns.{Course, HasRisen, Passing, RotatorFailed, TurnDone, WordsFailed, asks_of, done_of, drawn_of, holds_of, readings_of}
+use Rattle.sm_pool.specs.Turns.{Course, HasRisen, Passing, RotatorFailed, TurnDone, RandomSourceFailed, asks_of, done_of, drawn_of, holds_of, readings_of}
 use Rattle.sm_pool.proofs.AskingLemmas.{append_told-nil, asked_more}
 use Rattle.sm_seat_traces.proofs.KnownLemmas.{append_known-nil, told_more}
 
@@ -73,7 +73,7 @@ module _ (replies : Replies) (base : Base) (seat : ℕ) where
     is = turn.takes.is;
     spell = turn.spell;
     disk = subst (λ d. OnDisk d (Rose from.counts.disk to.counts.disk)) turn.takes.done_is failed;
-    words = subst (λ count. WordsFailed turn.course (HasRisen count)) words turn.takes.words;
+    words = subst (λ count. RandomSourceFailed turn.course (HasRisen count)) words turn.takes.words;
     rotator = subst (λ count. RotatorFailed turn.course (HasRisen count)) rotator turn.takes.rotator;
     later = later;
   }

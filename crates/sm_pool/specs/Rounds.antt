@@ -12,7 +12,7 @@ use Rattle.sm_pool.specs.declared.done.Done.{Done}
 use Rattle.sm_pool.specs.declared.done.Done.TheVariants as ends
 use Rattle.sm_pool.specs.Alone.{OnDisk}
 use Rattle.sm_pool.specs.Holds.{Hold, hold_shape}
-use Rattle.sm_pool.specs.Turns.{Course, IsCourse, RotatorFailed, WordsFailed, asks_of, done_of, drawn_of, holds_of, readings_of}
+use Rattle.sm_pool.specs.Turns.{Course, IsCourse, RotatorFailed, RandomSourceFailed, asks_of, done_of, drawn_of, holds_of, readings_of}
 
 -- whether a turn made an entry, so that another follows
 abbrev pub goes_on : Done → Bool
@@ -72,7 +72,7 @@ module _ (replies : Replies) (base : Base) (seat : ℕ) where
     pub is : IsCourse replies base course
     pub spell : Spell hold_shape NoGap seat (λ hold. ⊤) from.history (holds_of course) to.history
     pub disk : OnDisk (done_of course) (Rose from.counts.disk to.counts.disk)
-    pub words : WordsFailed course (Rose from.counts.words to.counts.words)
+    pub words : RandomSourceFailed course (Rose from.counts.words to.counts.words)
     pub rotator : RotatorFailed course (Rose from.counts.rotator to.counts.rotator)
     pub later : NoneFell from.counts to.counts
 

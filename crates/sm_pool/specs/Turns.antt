@@ -122,14 +122,14 @@ start_ends (Undrawn trouble) = ends.Trouble trouble
 start_ends (Begins drawn hold started) = due_ends started
 
 -- a fact where the random source failed
-abbrev pub OnWords : Trouble → Type 0 → Type 0
-OnWords troubles.Disk P = ⊤
-OnWords troubles.Words P = P
-OnWords troubles.Memory P = ⊤
-OnWords (troubles.Limit limit) P = ⊤
+abbrev pub OnRandom : Trouble → Type 0 → Type 0
+OnRandom troubles.Disk P = ⊤
+OnRandom troubles.Words P = P
+OnRandom troubles.Memory P = ⊤
+OnRandom (troubles.Limit limit) P = ⊤
 
 abbrev pub StartFailed : StartCourse → Type 0 → Type 0
-StartFailed (Undrawn trouble) P = OnWords trouble P
+StartFailed (Undrawn trouble) P = OnRandom trouble P
 StartFailed (Begins drawn hold started) P = ⊤
 
 -- The course of a start: it ends so, these readings and random bytes were told, and the random source failed only where
@@ -198,11 +198,11 @@ RotatorFailed (Rests hold) P = ⊤
 RotatorFailed (Starts hold course) P = ⊤
 RotatorFailed (Works hold work course) P = WorkFailed course P
 
-abbrev pub WordsFailed : Course → Type 0 → Type 0
-WordsFailed (Wants hold) P = ⊤
-WordsFailed (Rests hold) P = ⊤
-WordsFailed (Starts hold course) P = StartFailed course P
-WordsFailed (Works hold work course) P = ⊤
+abbrev pub RandomSourceFailed : Course → Type 0 → Type 0
+RandomSourceFailed (Wants hold) P = ⊤
+RandomSourceFailed (Rests hold) P = ⊤
+RandomSourceFailed (Starts hold course) P = StartFailed course P
+RandomSourceFailed (Works hold work course) P = ⊤
 
 -- what passes between a turn and the outside: what the clock and the random source tell, and how often the random
 -- source and the rotator have failed
@@ -221,7 +221,7 @@ pub record TakesTurn (replies : Replies) (base : Base) (passing : Passing) (cour
   pub readings : Tells passing.clock (readings_of (holds_of course))
   pub drawn : Tells passing.words (drawn_of course)
   pub rotator : RotatorFailed course (HasRisen passing.rotator_count)
-  pub words : WordsFailed course (HasRisen passing.words_count)
+  pub words : RandomSourceFailed course (HasRisen passing.words_count)
 
 -- the verdict on a work came too late
 abbrev pub IsLate : Reported → Type 0

@@ -4,7 +4,7 @@ use Rattle.std.specs.Io.KnownBytes.{append_known}
 use Rattle.sm_io.specs.declared.clock.Clock.{Ghosts as ClockGhosts}
 use Rattle.sm_io.specs.declared.sink.Sink.{Ghosts as SinkGhosts}
 use Rattle.sm_io.specs.declared.source.Source.{Ghosts as SourceGhosts}
-use Rattle.sm_io.specs.declared.words.Words.{Ghosts as WordsGhosts}
+use Rattle.sm_io.specs.declared.random.Words.{Ghosts as WordsGhosts}
 use Rattle.sm_rotator.specs.declared.rotator.Rotator.{Ghosts as RotatorGhosts}
 use Rattle.sm_session.specs.Endings.{Sides}
 use Rattle.sm_session.specs.Told.{Told, Growth}

@@ -1,7 +1,7 @@
 //! The random bytes that a request needs.
 ghost use Rattle.std.specs.Prelude.{◌≡◌, ◌<◌, ◌≤◌, length};
 ghost use Rattle.sm_base.specs.Faults.{Rose};
-ghost use Rattle.sm_io.specs.Words.{IfDrew, OnDrawFailed, Draws};
+ghost use Rattle.sm_io.specs.Random.{IfDrew, OnDrawFailed, Draws};
 
 use sm_io::{Drew, Words};
 use sm_model::Bytes;

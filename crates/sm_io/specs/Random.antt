@@ -1,8 +1,8 @@
 -- What a draw answers, and what it does to the bytes that were drawn.
 use Rattle.std.specs.Prelude.{◌≡◌, ℕ, List, Option, ⊤}
 use Rattle.std.specs.Io.KnownBytes.{append_known}
-use Rattle.sm_io.specs.declared.words.Drew.{Drew}
-use Rattle.sm_io.specs.declared.words.Drew.TheVariants.{Bytes, Failed, Memory}
+use Rattle.sm_io.specs.declared.random.Drew.{Drew}
+use Rattle.sm_io.specs.declared.random.Drew.TheVariants.{Bytes, Failed, Memory}
 use Rattle.sm_base.specs.Faults.{raised}
 
 -- a fact about the bytes that were drawn, where there are some

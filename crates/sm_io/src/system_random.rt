@@ -2,28 +2,28 @@
 ghost use Rattle.std.specs.Prelude.{◌≡◌, ◌≤◌, length, None, OnOk, OnErr};
 ghost use Rattle.sm_io.specs.Adapters.{draw_faults};
 ghost use Rattle.sm_base.specs.Faults.{Rose};
-ghost use Rattle.sm_io.specs.Words.{IfDrew, OnDrawFailed, StaysUnlessFailed, faults_after_draw};
+ghost use Rattle.sm_io.specs.Random.{IfDrew, OnDrawFailed, StaysUnlessFailed, faults_after_draw};
 
-use crate::words::{Drew, Words};
+use crate::random::{Drew, Words};
 use sm_base::Bytes;
 use std::alloc::Global;
 use std::io;
 use std::random::RandomSource;
 
-/// Words of the system's random source. They tell no content.
+/// The system's random source. It tells no content.
 #[derive(Drop)]
-pub struct SystemWords<R> {
+pub struct SystemRandom<R> {
     alloc: Global,
     source: R,
     faults: u64,
 }
 
-impl<R> SystemWords<R> {
+impl<R> SystemRandom<R> {
     /// The words of this source, without a fault so far.
-    pub fn new(alloc: Global, source: R) -> SystemWords<R>
+    pub fn new(alloc: Global, source: R) -> SystemRandom<R>
         ensures { draw_faults result ≡ 0 }
     {
-        SystemWords {
+        SystemRandom {
             alloc,
             source,
             faults: 0,
@@ -31,7 +31,7 @@ impl<R> SystemWords<R> {
     }
 }
 
-impl<R: RandomSource> Words for SystemWords<R> {
+impl<R: RandomSource> Words for SystemRandom<R> {
     ghost drawn = { λ _. None };
 
     ghost faults = { λ w. draw_faults w };
