@@ -29,7 +29,7 @@ BUSY_CALLS = 500
 # Of what the client takes itself, on a machine with other work.
 ALLOWANCE = 5
 PIDFD_GETFD = 438
-DOORS = 3
+WORKERS = 3
 ACCEPTS = "accept,accept4"
 # What an accept is told of a peer or a network (accept(2)), and what the system may lack.
 OF_PEERS = ["ECONNABORTED", "ENETDOWN", "EPROTO", "ENOPROTOOPT", "EHOSTDOWN", "ENONET", "EHOSTUNREACH", "EOPNOTSUPP"]
@@ -200,7 +200,7 @@ def fault_of_idle(program):
 
 
 def fault_of_drip(program):
-    """A message that comes by a byte each two seconds is given up after thirty seconds, and its door goes on."""
+    """A message that comes by a byte each two seconds is given up after thirty seconds, and its worker goes on."""
     with Serving(program, "--connections", "1") as server:
         start, connection = time.monotonic(), raw(server.port)
         for byte in message("ListSecrets"):
@@ -220,7 +220,7 @@ def fault_of_drip(program):
 
 
 def fault_of_untaken(program):
-    """A client that takes no reply is given up after thirty seconds, and its door goes on."""
+    """A client that takes no reply is given up after thirty seconds, and its worker goes on."""
     with tempfile.TemporaryDirectory() as folder, Serving(program, "--connections", "1", "--data", folder) as server:
         if Client(server.port).ask("CreateSecret", Name="long", SecretString="v" * 65_536) != 200:
             return "no secret was made"
@@ -238,7 +238,7 @@ def fault_of_untaken(program):
 
 
 def fault_of_slow_clients(program, seconds=1):
-    """Ten clients that ask once every three seconds share four doors, and none waits for long."""
+    """Ten clients that ask once every three seconds share four connection workers, and none waits for long."""
     longest, statuses = [], []
 
     def ask_slowly(port, number):
@@ -281,7 +281,7 @@ def calls_of_busy_client(port):
 
 
 def fault_of_busy_clients(program, seconds=1):
-    """Ten clients that ask without a rest share four doors, and none waits for long."""
+    """Ten clients that ask without a rest share four connection workers, and none waits for long."""
     with Serving(program, "--connections", "4") as server, multiprocessing.Pool(BUSY_CLIENTS) as pool:
         calls = pool.map(calls_of_busy_client, [server.port] * BUSY_CLIENTS)
     longest, cut = max(longest for longest, _ in calls), sum(cut for _, cut in calls)
@@ -339,13 +339,13 @@ def shut_listener(process, port):
 
 
 def fault_of_failed_accepts(program):
-    """An accept that fails for its peer, its network or a lack of the system's is tried again, and each door answers."""
+    """An accept that fails for its peer, its network or a lack of the system's is tried again, and each worker answers."""
     want_strace()
     for error, times, seconds in FAILED_ACCEPTS:
-        with Serving(program, "--connections", str(DOORS), before=traced(ACCEPTS, error, times)) as server:
+        with Serving(program, "--connections", str(WORKERS), before=traced(ACCEPTS, error, times)) as server:
             start = time.monotonic()
             try:
-                fault = fault_of_doors(server.port)
+                fault = fault_of_workers(server.port)
             except (OSError, http.client.HTTPException) as refused:
                 fault = repr(refused)
             passed = time.monotonic() - start
@@ -370,16 +370,16 @@ def want_strace():
         raise NotTried("strace, where it may trace")
 
 
-def fault_of_doors(port):
-    """Each door has a part of a message, and the last one a whole one: then the others get the rest."""
+def fault_of_workers(port):
+    """Each connection worker has a part of a message, and the last one a whole one: then the others get the rest."""
     part, rest = message("ListSecrets")[:-1], message("ListSecrets")[-1:]
-    begun = [raw(port, part) for _ in range(DOORS - 1)]
+    begun = [raw(port, part) for _ in range(WORKERS - 1)]
     answered = [Client(port).ask() == 200]
     for connection in begun:
         connection.sendall(rest)
         answered.append(connection.recv(65_536).startswith(b"HTTP/1.1 200 "))
         connection.close()
-    return None if all(answered) else f"{answered.count(True)} of {DOORS} doors answer"
+    return None if all(answered) else f"{answered.count(True)} of {WORKERS} workers answer"
 
 
 def fault_of_few_threads(program):

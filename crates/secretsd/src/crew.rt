@@ -1,8 +1,8 @@
-//! The workers of a server: a porter and doors over one listener, and turners.
+//! The workers of a server: a porter and connection workers over one listener, and turners.
 ghost use Rattle.std.specs.Prelude.{◌≡◌, ◌+◌, ◌≤◌, All, OnOk, vec_len};
 ghost use Rattle.sm_workers.specs.Workers.{IsFresh};
 
-use crate::entrance::{Door, Entrance};
+use crate::entrance::{ConnectionWorker, Entrance};
 use crate::entropy::SaidRandom;
 use crate::hall::Hall;
 use crate::porter::Porter;
@@ -98,8 +98,8 @@ pub fn add_porter<'a, H: Wait, D: Disk + Drop, R: Rotator + Drop>(
     Ok(())
 }
 
-/// Adds so many doors, which share a hall.
-pub fn add_doors<'a, H: Wait, D: Disk + Drop, R: Rotator + Drop>(
+/// Adds so many connection workers, which share a hall.
+pub fn add_connection_workers<'a, H: Wait, D: Disk + Drop, R: Rotator + Drop>(
     ground: &Ground<'a, H>,
     workers: &mut Vec<Hand<'a, H, D, R>>,
     count: u32,
@@ -109,13 +109,13 @@ pub fn add_doors<'a, H: Wait, D: Disk + Drop, R: Rotator + Drop>(
     ensures long { OnOk result (vec_len workers.new ≡ vec_len workers.old + count) }
 {
     for number in 0..count {
-        let door = Door {
+        let worker = ConnectionWorker {
             rt: ground.rt,
             threads: ground.threads,
             hall: ground.hall,
             log: ground.log,
         };
-        add_at_entrance(ground, workers, Entrance::Door(door))?;
+        add_at_entrance(ground, workers, Entrance::ConnectionWorker(worker))?;
     }
     Ok(())
 }

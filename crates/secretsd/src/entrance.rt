@@ -1,4 +1,4 @@
-//! How connections come in: a porter accepts them, and doors serve them.
+//! How connections come in: a porter accepts them, and connection workers serve them.
 use crate::hall::Hall;
 use crate::logged_stream::LoggedStream;
 use crate::porter::Porter;
@@ -10,9 +10,9 @@ use std::io::ErrorKind;
 use std::net::{OpenListener, SocketAddr};
 use std::sync::Wait;
 
-/// A door, which has the connections that wait in the hall.
+/// A connection worker, which has the connections that wait in the hall.
 #[derive(Drop)]
-pub struct Door<'a, H> {
+pub struct ConnectionWorker<'a, H> {
     pub rt: &'a HostRuntime,
     pub threads: &'a H,
     pub hall: &'a Hall,
@@ -20,7 +20,7 @@ pub struct Door<'a, H> {
     pub log: bool,
 }
 
-impl<'a, H: Wait> Door<'a, H> {
+impl<'a, H: Wait> ConnectionWorker<'a, H> {
     /// The next connection, or that no more will come.
     fn next(&self) -> io::Result<(LoggedStream<'a>, SocketAddr)> {
         match self.hall.receive(self.threads) {
@@ -43,11 +43,12 @@ impl<'a, H: Wait> Door<'a, H> {
     }
 }
 
-/// What a worker does at the entrance. The porter has a seat among the doors, but no connection of its own.
+/// What a worker does at the entrance. The porter has a seat among the connection workers, but no connection of its
+/// own.
 #[derive(Drop)]
 pub enum Entrance<'a, H> {
     Porter(Porter<'a, H>),
-    Door(Door<'a, H>),
+    ConnectionWorker(ConnectionWorker<'a, H>),
 }
 
 impl<'a, H: Wait> OpenListener for Entrance<'a, H> {
@@ -56,7 +57,7 @@ impl<'a, H: Wait> OpenListener for Entrance<'a, H> {
     fn accept(&self) -> io::Result<(LoggedStream<'a>, SocketAddr)> {
         match self {
             Entrance::Porter(porter) => Err(porter.keep()),
-            Entrance::Door(door) => door.next(),
+            Entrance::ConnectionWorker(worker) => worker.next(),
         }
     }
 }

@@ -1,4 +1,4 @@
-//! Where connections wait for a door.
+//! Where connections wait for a connection worker.
 use std::net::{SocketAddr, TcpStream};
 use std::sync::atomic::{AtomicBool, Ordering};
 use std::sync::{Condvar, Mutex, Wait};
@@ -6,7 +6,7 @@ use std::sync::{Condvar, Mutex, Wait};
 /// A connection that was accepted, and whose it is.
 pub type Guest = (TcpStream, SocketAddr);
 
-/// What stands between the one who accepts and the doors.
+/// What stands between the one who accepts and the connection workers.
 #[derive(Drop)]
 struct Place {
     guest: Option<Guest>,
@@ -25,7 +25,7 @@ impl Place {
     }
 }
 
-/// A place for one connection that was accepted and waits for a door. Further ones wait with the system.
+/// A place for one connection that was accepted and waits for a connection worker. Further ones wait with the system.
 #[derive(Drop)]
 pub struct Hall {
     place: Mutex<Place>,

@@ -14,7 +14,7 @@ const PIECE: usize = 16_384;
 
 /// Ends a connection, and drops what the client sends until it closes too. A system that closes a stream with bytes
 /// unread tells the other side that it was cut, and takes away replies that were not read there. It ends after two
-/// seconds or 16 MiB, and where another connection waits for the door after half a second of silence.
+/// seconds or 16 MiB, and where another connection waits for the connection worker after half a second of silence.
 pub fn part(stream: &mut TimedStream, held: Option<u8>) -> io::Result<()> {
     send_end(stream, held)?;
     let start = stream.now()?;

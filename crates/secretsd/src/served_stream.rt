@@ -21,8 +21,8 @@ const TURN: u64 = 50;
 /// A connection. Where it is dropped while the client is still there, the client is parted from.
 ///
 /// A reply is the last where it is the 1,000th, where it is a 413, and from the 50th on where another connection waits
-/// for the door: then the next read fails. Its last byte is held back until the drop, so that the system can send both
-/// as one: a client that asks without a rest would else ask once more before it sees the end.
+/// for the connection worker: then the next read fails. Its last byte is held back until the drop, so that the system
+/// can send both as one: a client that asks without a rest would else ask once more before it sees the end.
 pub struct ServedStream<'a> {
     stream: TimedStream<'a>,
     replies: u64,

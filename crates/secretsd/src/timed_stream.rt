@@ -16,7 +16,7 @@ const MESSAGE: u64 = 30;
 /// How many seconds a client may keep the writes of a reply waiting.
 const REPLY: u64 = 30;
 
-/// How many milliseconds a read waits before it looks whether another connection waits for the door.
+/// How many milliseconds a read waits before it looks whether another connection waits for the connection worker.
 const SLICE: u64 = 50;
 
 /// How many slices are waited for the first message of a connection while another waits.
@@ -42,9 +42,9 @@ enum Stage {
 }
 
 /// A stream of the system's on which each message and each reply has a time of its own. A read fails where nothing
-/// comes for five seconds, or, where another connection waits for the door, for 50 milliseconds between two messages
-/// and for half a second before the first; and where a message takes more than 30 seconds. A write fails where a reply
-/// has waited 30 seconds for the client.
+/// comes for five seconds, or, where another connection waits for the connection worker, for 50 milliseconds between
+/// two messages and for half a second before the first; and where a message takes more than 30 seconds. A write fails
+/// where a reply has waited 30 seconds for the client.
 ///
 /// Nothing says where messages end, so the first byte that comes behind a reply counts as a message's first.
 #[derive(Drop)]
@@ -81,12 +81,12 @@ impl<'a> TimedStream<'a> {
         Ok(Duration::from_secs(seconds).saturating_sub(spent))
     }
 
-    /// Whether another connection waits for the door.
+    /// Whether another connection waits for the connection worker.
     pub fn is_wanted(&self) -> bool {
         self.hall.is_wanted()
     }
 
-    /// Whether another connection waits for the door, which is promised to it by that.
+    /// Whether another connection waits for the connection worker, which is promised to it by that.
     pub fn gives_way(&self) -> bool {
         self.hall.promise()
     }

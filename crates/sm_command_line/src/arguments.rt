@@ -6,7 +6,7 @@ ghost use Rattle.sm_command_line.specs.Command.{option_rule, people_rule, rotato
 
 use clap::builder::ValueParser;
 use clap::{Arg, ArgAction};
-use sm_base::limits::{DOORS_LIMIT, TURNERS_LIMIT};
+use sm_base::limits::{CONNECTION_WORKERS_LIMIT, TURNERS_LIMIT};
 use std::alloc::Global;
 
 /// The address of the server without `--listen`.
@@ -132,7 +132,7 @@ pub fn connections<'a>(alloc: Global) -> Arg<'a>
         "How many connections are served at a time, in mode serve. Further ones wait for their turn.\n\
          Example: --connections 16",
     )
-    .value_parser(ValueParser::unsigned(1, DOORS_LIMIT as u64))
+    .value_parser(ValueParser::unsigned(1, CONNECTION_WORKERS_LIMIT as u64))
     .default_value("4")
 }
 

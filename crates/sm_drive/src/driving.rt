@@ -24,9 +24,9 @@ use sm_disk::Disk;
 use sm_rotator::Rotator;
 use std::alloc::Global;
 
-/// Opens the account of a disk, with one door and under the limit of all journals, and makes the calls, one after the
-/// other, each of seat 1. A restart closes it and opens it again. Where an opening is refused, at the start or at a
-/// restart, the run ends, and the error hands the disk back.
+/// Opens the account of a disk, with one connection worker and under the limit of all journals, and makes the calls,
+/// one after the other, each of seat 1. A restart closes it and opens it again. Where an opening is refused, at the
+/// start or at a restart, the run ends, and the error hands the disk back.
 pub fn drive<D: Disk, R: Rotator>(
     alloc: Global,
     disk: D,

@@ -48,13 +48,14 @@ end_of_server (Some settings) = end_of_serving settings.mode
 abbrev pub EndsServer : Option Status → Option Settings → Type 0
 EndsServer end asked = (end ≡ Some Memory) ⊎ (end ≡ end_of_server asked)
 
--- how many of the workers are doors
-abbrev pub is_door : {E R : Type 0} → Task E R → Bool
-is_door (Door edge) = true
-is_door (Turner rotator) = false
+-- how many of the workers are connection workers
+abbrev pub is_connection_worker : {E R : Type 0} → Task E R → Bool
+is_connection_worker (Door edge) = true
+is_connection_worker (Turner rotator) = false
 
-abbrev pub doors_in : {E C W R A O M : Type 0} {g : StoriedGhosts A O M} → List (WorkerBy E C W R A O M g) → ℕ
-doors_in workers = count_by (λ worker. is_door worker.task) workers
+abbrev pub connection_workers_in : {E C W R A O M : Type 0} {g : StoriedGhosts A O M} → List (WorkerBy E C W R A O M g)
+    → ℕ
+connection_workers_in workers = count_by (λ worker. is_connection_worker worker.task) workers
 
 -- how a server ends whose workers ended: by an edge exactly where some edge failed
 abbrev pub EndsWorkers : {E C W R A O M : Type 0} {g : StoriedGhosts A O M} → Status → List (WorkerBy E C W R A O M g)
@@ -89,9 +90,9 @@ UnopenedBy G asked read status old new =
 
 module _ {E K C W R A O D : Type 0} {g : StoriedGhosts A O Mark} (views : Views E K C W R) (G : DiskGhosts D)
     {V : RotatorGhosts R} where
-  -- How a server ends that opened this account. At 0 each door ended since its edge has no connection left; where it
-  -- ends by an edge, some edge failed; in both cases the pass of each worker came back. Without memory for the lock
-  -- nobody worked.
+  -- How a server ends that opened this account. At 0 each connection worker ended since its edge has no connection
+  -- left; where it ends by an edge, some edge failed; in both cases the pass of each worker came back. Without memory
+  -- for the lock nobody worked.
   abbrev pub EndsServed : Persons → Account D R G V → Status → List (WorkerBy E C W R A O Mark g)
       → List (WorkerBy E C W R A O Mark g) → Type 0
   EndsServed people account Done old new =

@@ -7,7 +7,7 @@ ghost use Rattle.sm_principal.specs.Callers.{people_of};
 ghost use Rattle.sm_command_line.specs.Reading.{settings_of};
 ghost use Rattle.sm_workers.specs.Views.{views_by};
 ghost use Rattle.sm_workers.specs.Workers.{IsFresh};
-ghost use Rattle.sm_server.specs.Served.{EndsServer, EndsWorkers, FollowsOrders, LeavesAt, LeavesOver, RanAs, doors_in, end_of_serving, is_door};
+ghost use Rattle.sm_server.specs.Served.{EndsServer, EndsWorkers, FollowsOrders, LeavesAt, LeavesOver, RanAs, connection_workers_in, end_of_serving, is_connection_worker};
 
 use crate::asked::people_of;
 use crate::run::end_unopened;
@@ -127,7 +127,7 @@ where
     ensures ran { LeavesOver (views_by E.Edge E.C.Source E.C.Sink C.Clock W.Words R.Rotator) D.Disk people.now disk
         result workers.old workers.new }
 {
-    match Account::open(alloc, disk, doors_of(workers), JOURNAL_LIMIT) {
+    match Account::open(alloc, disk, connection_workers_of(workers), JOURNAL_LIMIT) {
         Ok(account) => {
             witness.opened(account.table(), account.entries());
             let (status, account) = serve_at(rt, alloc, account, workers, people);
@@ -140,20 +140,20 @@ where
     }
 }
 
-/// How many of the workers are doors.
-fn doors_of<E, D: Disk, C, W, R: Rotator>(workers: &[WorkerBy<E, C, W, R, Account<D, R>>]) -> u32
+/// How many of the workers are connection workers.
+fn connection_workers_of<E, D: Disk, C, W, R: Rotator>(workers: &[WorkerBy<E, C, W, R, Account<D, R>>]) -> u32
     requires { length workers.now ≤ SEATS_LIMIT }
-    ensures { result ≡ doors_in workers.now }
+    ensures { result ≡ connection_workers_in workers.now }
 {
     workers
         .iter()
-        .filter(|worker| is_door(&worker.task))
+        .filter(|worker| is_connection_worker(&worker.task))
         .count() as u32
 }
 
-/// Whether it is the task of a door.
-fn is_door<E, R>(task: &Task<E, R>) -> bool
-    ensures { result ≡ is_door task.now }
+/// Whether it is the task of a connection worker.
+fn is_connection_worker<E, R>(task: &Task<E, R>) -> bool
+    ensures { result ≡ is_connection_worker task.now }
 {
     match task {
         Task::Door(_) => true,
@@ -161,7 +161,8 @@ fn is_door<E, R>(task: &Task<E, R>) -> bool
     }
 }
 
-/// Runs the workers at an account that was just opened, with as many open doors as there are doors among them.
+/// Runs the workers at an account that was just opened, with as many open doors as there are connection workers among
+/// them.
 fn serve_at<
     E: Edge<ConnEnd> + Send,
     C: Clock + Send,
@@ -181,7 +182,7 @@ where
     requires many { (1 ≤ length workers.old) × (length workers.old ≤ SEATS_LIMIT) }
     requires fresh { All IsFresh workers.old }
     requires empty { history account ≡ [] }
-    requires open { doors account ≡ doors_in workers.old }
+    requires open { doors account ≡ connection_workers_in workers.old }
     ensures ran { LeavesAt (views_by E.Edge E.C.Source E.C.Sink C.Clock W.Words R.Rotator) D.Disk people.now account
         result.1 result.0 workers.old workers.new }
 {

@@ -1,6 +1,6 @@
 pub mod KnownLemmas
 pub mod ChainLemmas
-pub mod DoorLemmas
+pub mod ConnectionWorkerLemmas
 pub mod TurnerLemmas
 pub mod WorkerLemmas
 pub mod GivenLemmas

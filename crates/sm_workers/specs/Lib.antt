@@ -1,7 +1,7 @@
 pub mod Known
 pub mod Chains
 pub mod Visits
-pub mod Doors
+pub mod ConnectionWorkers
 pub mod Turners
 pub mod Views
 pub mod Workers

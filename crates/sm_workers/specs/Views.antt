@@ -10,7 +10,7 @@ use Rattle.sm_rotator.specs.declared.rotator.Rotator.{Ghosts as RotatorGhosts}
 use Rattle.sm_session.specs.Endings.{Sides}
 use Rattle.sm_session.specs.Views.{sides_by}
 use Rattle.sm_workers.specs.declared.worker.ConnEnd.{ConnEnd}
-use Rattle.sm_workers.specs.Doors.{EdgeState}
+use Rattle.sm_workers.specs.ConnectionWorkers.{EdgeState}
 
 -- what an edge tells, and how often it has failed
 abbrev pub edge_by : {E K : Type 0} → EdgeGhosts E ConnEnd K → E → EdgeState K

@@ -1,8 +1,8 @@
-//! What runs the workers of a server in threads over one account behind a lock: doors, whose connections are served,
-//! and turners, which take rotation turns.
+//! What runs the workers of a server in threads over one account behind a lock: connection workers, whose connections
+//! are served, and turners, which take rotation turns.
 #![tactic(auto)]
 
-mod doors;
+mod connection_workers;
 mod jobs;
 mod passes;
 pub mod running;

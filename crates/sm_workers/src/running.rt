@@ -90,7 +90,7 @@ where
     }
 }
 
-/// Whether the edge of some door failed. It takes no memory.
+/// Whether the edge of some connection worker failed. It takes no memory.
 pub fn any_failed<E, C, W, R, A: Storied>(workers: &[WorkerBy<E, C, W, R, A>]) -> bool
     ensures { MatchBool result (SomeFailed workers.now) (NoneFailed workers.now) }
 {

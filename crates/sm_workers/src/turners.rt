@@ -96,7 +96,7 @@ fn look_on<C: Clock, D: Disk, R: Rotator, H: Wait>(
     ensures seen { Grows (number pass ∷ []) (seen pass) (seen result.pass) }
     ensures readings { C.readings clock.new ≡ C.readings clock.old }
 {
-    let (pass, open) = see_doors(rt, gate, pass);
+    let (pass, open) = see_open_doors(rt, gate, pass);
     if open {
         clock.pause();
         return Behind { pass, ends: false };
@@ -105,7 +105,7 @@ fn look_on<C: Clock, D: Disk, R: Rotator, H: Wait>(
 }
 
 /// Waits for the account, and sees whether a door of it is open.
-fn see_doors<D: Disk, R: Rotator, H: Wait>(
+fn see_open_doors<D: Disk, R: Rotator, H: Wait>(
     rt: &H,
     gate: &Gate<Account<D, R>>,
     pass: Pass<Account<D, R>>,

@@ -32,7 +32,7 @@ pub struct WorkerBy<E, C, W, R, A: Storied> {
     pub words: W,
     /// The right to enter the lock, while the worker does not work.
     pub pass: Option<Pass<A>>,
-    /// Whether the edge of a door failed.
+    /// Whether the edge of a connection worker failed.
     pub failed: bool,
 }
 

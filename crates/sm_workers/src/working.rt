@@ -6,7 +6,7 @@ ghost use Rattle.sm_session.specs.Views.{standing_by};
 ghost use Rattle.sm_workers.specs.Views.{views_by};
 ghost use Rattle.sm_workers.specs.Workers.{Did, EndsAs, IsReady, WorksWithItsPass};
 
-use crate::doors::{Left, keep_door};
+use crate::connection_workers::{Left, serve_connections};
 use crate::turners::keep_turning;
 use crate::worker::{ConnEnd, Task, WorkerBy};
 use sm_account::Account;
@@ -40,7 +40,7 @@ fn do_task<E: Edge<ConnEnd>, C: Clock, W: Words, D: Disk, R: Rotator, H: Wait>(
         task.new }
 {
     match task {
-        Task::Door(edge) => keep_door(rt, alloc, gate, pass, edge, clock, words, people),
+        Task::Door(edge) => serve_connections(rt, alloc, gate, pass, edge, clock, words, people),
         Task::Turner(rotator) => Left {
             pass: keep_turning(rt, gate, pass, rotator, clock, words),
             failed: false,

@@ -2,7 +2,7 @@
 #![tactic(auto)]
 
 #[cfg(test)]
-mod doors;
+mod connection_workers;
 #[cfg(test)]
 mod meeting;
 #[cfg(test)]

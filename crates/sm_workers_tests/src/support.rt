@@ -52,7 +52,7 @@ pub fn edge(alloc: Global, conns: Vec<MemoryConn>, from: Option<u64>) -> MemoryE
 }
 
 /// A worker for an edge.
-pub fn door<E, R: Rotator>(alloc: Global, edge: E) -> MemoryWorker<E, R>
+pub fn connection_worker<E, R: Rotator>(alloc: Global, edge: E) -> MemoryWorker<E, R>
     ensures { IsFresh result }
 {
     Worker::door(edge, clock(), CountWords::new(alloc, 0, fails(alloc, None)))

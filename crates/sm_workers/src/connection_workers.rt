@@ -1,10 +1,10 @@
-//! The worker of a door.
+//! A connection worker.
 ghost use Rattle.std.specs.Prelude.{◌≡◌, ◌≤◌, ◌∷◌, []};
 ghost use Rattle.sm_account.specs.Accounts.{base};
 ghost use Rattle.sm_io.specs.Edge.{IsFewer, told_more};
 ghost use Rattle.sm_lock.specs.Handles.{built_with, number, seen, IsIn};
 ghost use Rattle.sm_lock.specs.Story.{Grows};
-ghost use Rattle.sm_workers.specs.Doors.{DoorDid, EndsDoor};
+ghost use Rattle.sm_workers.specs.ConnectionWorkers.{ConnectionWorkerDid, EndsConnectionWorker};
 ghost use Rattle.sm_session.specs.Views.{sides_by, standing_by};
 ghost use Rattle.sm_workers.specs.Views.{edge_by};
 ghost use Rattle.sm_workers.specs.Visits.{Visit};
@@ -20,15 +20,15 @@ use sm_session::serve;
 use std::alloc::Global;
 use std::sync::Wait;
 
-/// What a task leaves: the pass again, and whether the edge of a door failed.
+/// What a task leaves: the pass again, and whether the edge of a connection worker failed.
 pub(crate) struct Left<A: Storied> {
     pub pass: Pass<A>,
     pub failed: bool,
 }
 
 /// Serves the connections of an edge one after the other, until none is left or the edge fails. Then it closes its
-/// door.
-pub(crate) fn keep_door<E: Edge<ConnEnd>, C: Clock, W: Words, D: Disk, R: Rotator, H: Wait>(
+/// connection worker.
+pub(crate) fn serve_connections<E: Edge<ConnEnd>, C: Clock, W: Words, D: Disk, R: Rotator, H: Wait>(
     rt: &H,
     alloc: Global,
     gate: &Gate<Account<D, R>>,
@@ -41,12 +41,12 @@ pub(crate) fn keep_door<E: Edge<ConnEnd>, C: Clock, W: Words, D: Disk, R: Rotato
     requires { IsIn gate.now pass }
     ensures gate { IsIn gate.now result.pass }
     ensures number { number result.pass ≡ number pass }
-    ensures did { DoorDid (sides_by E.C.Source E.C.Sink) people.now
+    ensures did { ConnectionWorkerDid (sides_by E.C.Source E.C.Sink) people.now
         (record { base = base (built_with gate.now); seat = number pass })
         (edge_by E.Edge edge.old) (edge_by E.Edge edge.new)
         (standing_by C.Clock W.Words (seen pass) clock.old words.old)
         (standing_by C.Clock W.Words (seen result.pass) clock.new words.new) }
-    ensures ends { EndsDoor result.failed (edge_by E.Edge edge.old) (edge_by E.Edge edge.new) }
+    ensures ends { EndsConnectionWorker result.failed (edge_by E.Edge edge.old) (edge_by E.Edge edge.new) }
 {
     let mut pass = pass;
     for _ in rt.forever() {

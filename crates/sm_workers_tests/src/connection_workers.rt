@@ -1,6 +1,6 @@
-//! Doors and a turner at one account.
+//! Connection workers and a turner at one account.
 use crate::support::{
-    MemoryWorker, add, connection, door, edge, outcome, ran_server, three, turner,
+    MemoryWorker, add, connection, connection_worker, edge, outcome, ran_server, three, turner,
 };
 use sm_io::MemoryEdge;
 use sm_rotator::NoRotator;
@@ -11,7 +11,7 @@ use std::sync::Wait;
 use std::test::Fail;
 use std::thread::Threads;
 
-/// The secrets that twenty connections of each of two doors make.
+/// The secrets that twenty connections of each of two connection workers make.
 const FIRST: [&str; 20] = [
     "a01", "a02", "a03", "a04", "a05", "a06", "a07", "a08", "a09", "a10", "a11", "a12", "a13",
     "a14", "a15", "a16", "a17", "a18", "a19", "a20",
@@ -38,9 +38,9 @@ fn makers(alloc: Global, names: &[&str], from: Option<u64>) -> Result<MemoryEdge
     Ok(edge(alloc, conns, from))
 }
 
-/// How many connections came back to a door, whether each got a secret's reply and ended well, and whether the edge
-/// failed.
-fn at_door(worker: &Over) -> (usize, bool, bool) {
+/// How many connections came back to a connection worker, whether each got a secret's reply and ended well, and whether
+/// the edge failed.
+fn at_connection_worker(worker: &Over) -> (usize, bool, bool) {
     match &worker.task {
         Task::Door(edge) => {
             let (count, well) = outcome(edge);
@@ -50,8 +50,8 @@ fn at_door(worker: &Over) -> (usize, bool, bool) {
     }
 }
 
-/// What came of two doors, whose connections make secrets of these names, and of which the second may fail at an
-/// accept, and of a turner, which ends once both doors are closed; how the server ends, and how many entries the
+/// What came of two connection workers, whose connections make secrets of these names, and of which the second may fail
+/// at an accept, and of a turner, which ends once both doors are closed; how the server ends, and how many entries the
 /// account has then.
 fn run<R: Threads + Wait + Sync>(
     rt: &R,
@@ -62,12 +62,12 @@ fn run<R: Threads + Wait + Sync>(
 ) -> Result<((usize, bool, bool), (usize, bool, bool), (Status, u64)), Fail> {
     let mut workers: Vec<Over> = three(
         alloc,
-        door(alloc, makers(alloc, first, None)?),
-        door(alloc, makers(alloc, second, from)?),
+        connection_worker(alloc, makers(alloc, first, None)?),
+        connection_worker(alloc, makers(alloc, second, from)?),
         turner(alloc, NoRotator::new()),
     )?;
     let ended = ran_server(rt, alloc, workers.as_mut_slice())?;
-    Ok((at_door(&workers[0]), at_door(&workers[1]), ended))
+    Ok((at_connection_worker(&workers[0]), at_connection_worker(&workers[1]), ended))
 }
 
 #[test]
@@ -81,7 +81,7 @@ fn each_connection_is_served(rt: HostRuntime) -> Result<(), Fail> {
 }
 
 #[test]
-fn a_door_whose_edge_fails_says_so(rt: HostRuntime) -> Result<(), Fail> {
+fn a_connection_worker_whose_edge_fails_says_so(rt: HostRuntime) -> Result<(), Fail> {
     let out = run(
         &rt,
         rt.alloc(),

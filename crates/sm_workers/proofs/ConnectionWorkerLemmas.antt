@@ -1,4 +1,4 @@
--- The visits of a door, one after the other.
+-- The visits of a connection worker, one after the other.
 use Rattle.std.proofs.Common.{◌≡◌, ℕ, ◌≤◌, List, [], ◌∷◌, ◌++◌, map, sym, ap, ◌∙◌, subst, arith}
 use Rattle.std.specs.Prelude.{Option}
 use Rattle.std.proofs.lemmas.List.{map-append}
@@ -12,7 +12,7 @@ use Rattle.sm_seat_traces.specs.Spells.{Spell}
 use Rattle.sm_seat_traces.proofs.SpellLaws.{spells_join}
 use Rattle.sm_workers.specs.declared.worker.ConnEnd.{ConnEnd}
 use Rattle.sm_workers.specs.Chains.{Chain, Waits}
-use Rattle.sm_workers.specs.Doors.{DoorDid, EdgeState}
+use Rattle.sm_workers.specs.ConnectionWorkers.{ConnectionWorkerDid, EdgeState}
 use Rattle.sm_workers.specs.Known.{told_ahead, told_behind}
 use Rattle.sm_workers.specs.Visits.{Visit, turns_in}
 use Rattle.sm_workers.proofs.ChainLemmas.{chain_more, chain_on, joins, waits_both, waits_same, waits_still}
@@ -103,9 +103,9 @@ module _ {K : Type 0} (sides : K → Sides) (people : People) (place : Place) wh
           later = omega (arith, so_far.later, later);
         }
 
-    -- all that the door did
-    pub door_did : DoorDid sides people place old at from mid
-    door_did = record {
+    -- all that the connection worker did
+    pub connection_worker_did : ConnectionWorkerDid sides people place old at from mid
+    connection_worker_did = record {
       visits = so_far.visits;
       left = so_far.left;
       handed = so_far.handed;
@@ -139,10 +139,10 @@ module _ {K : Type 0} (sides : K → Sides) (people : People) (base : Base) (own
       (omega (arith, later, faults_stay)) begins ends
 
   -- the door was closed
-  pub left_door : now.left ≡ at.left → now.handed ≡ at.handed → now.back ≡ at.back → at.faults ≤ now.faults
+  pub left_connection_worker : now.left ≡ at.left → now.handed ≡ at.handed → now.back ≡ at.back → at.faults ≤ now.faults
       → Grows (own ∷ []) mid.seen to.seen → to ≡ record mid { seen = to.seen }
-      → DoorDid sides people (record { base = base; seat = seat }) old now from to
-  left_door left handed back later seen stays =
+      → ConnectionWorkerDid sides people (record { base = base; seat = seat }) old now from to
+  left_connection_worker left handed back later seen stays =
       let place : Place = record { base = base; seat = seat } in
       let waits : Waits seat mid to = record {
         seen = subst (λ n. Grows (n ∷ []) mid.seen to.seen) same seen;
@@ -150,5 +150,5 @@ module _ {K : Type 0} (sides : K → Sides) (people : People) (base : Base) (own
         drawn = ap (λ (s : Standing). s.drawn) stays;
         random = ap (λ (s : Standing). s.random) stays;
       } in
-      door_did sides people place old now from to
+      connection_worker_did sides people place old now from to
       (so_far_waits sides people place old at from mid so_far now to left handed back later waits)

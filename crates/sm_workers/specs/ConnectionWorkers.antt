@@ -1,4 +1,4 @@
--- What the worker of a door does.
+-- What a connection worker does.
 use Rattle.std.specs.Prelude.{◌≡◌, ℕ, ◌≤◌, Bool, true, false, List, [], ◌∷◌, map, Option}
 use Rattle.sm_base.specs.Faults.{Rose}
 use Rattle.sm_io.specs.Edge.{NoneLeft}
@@ -20,14 +20,14 @@ pub record EdgeState (K : Type 0) : Type 0 where
   pub faults : ℕ
 
 -- Where it gave up, the edge's count rose. Where it did not, no connection is left.
-abbrev pub EndsDoor : {K : Type 0} → Bool → EdgeState K → EdgeState K → Type 0
-EndsDoor true old new = Rose old.faults new.faults
-EndsDoor false old new = NoneLeft new.left
+abbrev pub EndsConnectionWorker : {K : Type 0} → Bool → EdgeState K → EdgeState K → Type 0
+EndsConnectionWorker true old new = Rose old.faults new.faults
+EndsConnectionWorker false old new = NoneLeft new.left
 
 module _ {K : Type 0} (sides : K → Sides) (people : People) (place : Place) where
-  -- The visits of a door, one after the other. They are of the first connections that were left, in their order; each
-  -- of these was handed out and came back. The turns of all visits are one spell of the seat.
-  pub record DoorDid (old new : EdgeState K) (from to : Standing) : Type 0 where
+  -- The visits of a connection worker, one after the other. They are of the first connections that were left, in their
+  -- order; each of these was handed out and came back. The turns of all visits are one spell of the seat.
+  pub record ConnectionWorkerDid (old new : EdgeState K) (from to : Standing) : Type 0 where
     pub visits : List (Visit sides people place)
     pub left : old.left ≡ told_ahead (map (λ visit. visit.conn) visits) new.left
     pub handed : new.handed ≡ told_behind old.handed (map (λ visit. visit.conn) visits)

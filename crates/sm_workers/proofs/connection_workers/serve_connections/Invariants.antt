@@ -3,8 +3,8 @@ use Rattle.sm_account.specs.Accounts.{base}
 use Rattle.sm_lock.specs.Handles.{built_with, number, seen, IsIn}
 use Rattle.sm_session.specs.Views.{sides_by, standing_by}
 use Rattle.sm_workers.specs.Views.{edge_by}
-use Rattle.sm_workers.proofs.DoorLemmas.{SoFar}
-use Rattle.sm_workers.proofs.doors.keep_door.Given as goal
+use Rattle.sm_workers.proofs.ConnectionWorkerLemmas.{SoFar}
+use Rattle.sm_workers.proofs.connection_workers.serve_connections.Given as goal
 
 -- the connections that were handed out so far were visited, under the seat that the pass has had all along
 abbrev pub invariant-loop : goal.invariant-loop

@@ -1,7 +1,7 @@
 use Rattle.std.proofs.Common.{refl}
 use Rattle.sm_lock.specs.Handles.{seen}
 use Rattle.sm_session.specs.Views.{standing_by}
-use Rattle.sm_workers.proofs.doors.visit.Goals as goal
+use Rattle.sm_workers.proofs.connection_workers.visit.Goals as goal
 
 pub returns-clause-visits : goal.returns-clause-visits
 returns-clause-visits g c =

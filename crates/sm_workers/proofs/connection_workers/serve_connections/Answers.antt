@@ -3,8 +3,8 @@ use Rattle.sm_account.specs.Accounts.{base}
 use Rattle.sm_lock.specs.Handles.{built_with, number, seen}
 use Rattle.sm_session.specs.Views.{sides_by, standing_by}
 use Rattle.sm_workers.specs.Views.{edge_by}
-use Rattle.sm_workers.proofs.DoorLemmas.{left_door, so_far_first, visited}
-use Rattle.sm_workers.proofs.doors.keep_door.Goals as goal
+use Rattle.sm_workers.proofs.ConnectionWorkerLemmas.{left_connection_worker, so_far_first, visited}
+use Rattle.sm_workers.proofs.connection_workers.serve_connections.Goals as goal
 
 pub loop-init : goal.loop-init
 loop-init g c = record {
@@ -38,7 +38,7 @@ pub returns-in-End-clause-did : goal.returns-in-End-clause-did
 returns-in-End-clause-did g c =
     let i = c.loop.invariant in
     let accepted = c.in-End.ensures in
-    left_door (sides_by g.E.C.Source g.E.C.Sink) c.args.people.now (base (built_with c.args.gate.now))
+    left_connection_worker (sides_by g.E.C.Source g.E.C.Sink) c.args.people.now (base (built_with c.args.gate.now))
     (number c.loop.pass) (number c.args.pass) i.numbered (edge_by g.E.Edge c.args.edge.now)
     (edge_by g.E.Edge c.loop.edge) (edge_by g.E.Edge c.accept.new.self)
     (standing_by g.C.Clock g.W.Words (seen c.args.pass) c.args.clock.now c.args.words.now)
@@ -50,7 +50,7 @@ pub returns-in-Failed-clause-did : goal.returns-in-Failed-clause-did
 returns-in-Failed-clause-did g c =
     let i = c.loop.invariant in
     let accepted = c.in-Failed.ensures in
-    left_door (sides_by g.E.C.Source g.E.C.Sink) c.args.people.now (base (built_with c.args.gate.now))
+    left_connection_worker (sides_by g.E.C.Source g.E.C.Sink) c.args.people.now (base (built_with c.args.gate.now))
     (number c.loop.pass) (number c.args.pass) i.numbered (edge_by g.E.Edge c.args.edge.now)
     (edge_by g.E.Edge c.loop.edge) (edge_by g.E.Edge c.accept.new.self)
     (standing_by g.C.Clock g.W.Words (seen c.args.pass) c.args.clock.now c.args.words.now)
