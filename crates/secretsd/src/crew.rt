@@ -1,4 +1,4 @@
-//! The workers of a server: a porter and connection workers over one listener, and turners.
+//! The workers of a server: a porter and connection workers over one listener, and rotation workers.
 ghost use Rattle.std.specs.Prelude.{◌≡◌, ◌+◌, ◌≤◌, All, OnOk, vec_len};
 ghost use Rattle.sm_workers.specs.Workers.{IsFresh};
 
@@ -120,8 +120,8 @@ pub fn add_connection_workers<'a, H: Wait, D: Disk + Drop, R: Rotator + Drop>(
     Ok(())
 }
 
-/// Adds a turner with this rotator.
-fn add_turner<'a, H, D: Disk + Drop, R: Rotator + Drop>(
+/// Adds a rotation worker with this rotator.
+fn add_rotation_worker<'a, H, D: Disk + Drop, R: Rotator + Drop>(
     ground: &Ground<'a, H>,
     workers: &mut Vec<Hand<'a, H, D, R>>,
     rotator: R,
@@ -130,17 +130,17 @@ fn add_turner<'a, H, D: Disk + Drop, R: Rotator + Drop>(
     ensures all { All IsFresh workers.new.items }
     ensures long { OnOk result (vec_len workers.new ≡ vec_len workers.old + 1) }
 {
-    let turner: Hand<'a, H, D, R> = WorkerBy::turner(
+    let worker: Hand<'a, H, D, R> = WorkerBy::turner(
         rotator,
         SystemClock::new(ground.rt),
         words_of(ground.rt, ground.reports),
     );
-    add(workers, turner)?;
+    add(workers, worker)?;
     Ok(())
 }
 
-/// Adds so many turners, each with a rotator of its own.
-pub fn add_turners<'a, H, D: Disk + Drop, M: MakeRotator>(
+/// Adds so many rotation workers, each with a rotator of its own.
+pub fn add_rotation_workers<'a, H, D: Disk + Drop, M: MakeRotator>(
     ground: &Ground<'a, H>,
     workers: &mut Vec<Hand<'a, H, D, M::Made>>,
     rotators: &M,
@@ -151,7 +151,7 @@ pub fn add_turners<'a, H, D: Disk + Drop, M: MakeRotator>(
     ensures long { OnOk result (vec_len workers.new ≡ vec_len workers.old + count) }
 {
     for number in 0..count {
-        add_turner(ground, workers, rotators.make()?)?;
+        add_rotation_worker(ground, workers, rotators.make()?)?;
     }
     Ok(())
 }

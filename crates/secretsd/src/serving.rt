@@ -3,7 +3,7 @@ ghost use Rattle.std.specs.Prelude.{◌≡◌, ◌+◌, All, OnOk, vec_len};
 ghost use Rattle.sm_command_line.specs.Reading.{IsInBounds};
 ghost use Rattle.sm_workers.specs.Workers.{IsFresh};
 
-use crate::crew::{Ground, Hand, add_connection_workers, add_porter, add_turners};
+use crate::crew::{Ground, Hand, add_connection_workers, add_porter, add_rotation_workers};
 use crate::folder_disk::FolderDisk;
 use crate::hall::Hall;
 use crate::opening::Opening;
@@ -182,7 +182,7 @@ fn serve_on<'a, D: Disk + Drop + Send, M: MakeRotator, H: Threads + Wait + Sync>
     }
 }
 
-/// Adds all workers that the settings ask for: a porter, connection workers and turners.
+/// Adds all workers that the settings ask for: a porter, connection workers and rotation workers.
 fn add_all<'a, H: Wait, D: Disk + Drop, M: MakeRotator>(
     ground: &Ground<'a, H>,
     workers: &mut Vec<Hand<'a, H, D, M::Made>>,
@@ -197,6 +197,6 @@ fn add_all<'a, H: Wait, D: Disk + Drop, M: MakeRotator>(
 {
     add_porter(ground, workers, listener, welcome)?;
     add_connection_workers(ground, workers, settings.connections)?;
-    add_turners(ground, workers, rotators, settings.workers)?;
+    add_rotation_workers(ground, workers, rotators, settings.workers)?;
     Ok(())
 }

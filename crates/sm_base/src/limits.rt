@@ -115,11 +115,11 @@ pub const CALLER_LIMIT: usize = 256;
 
 // ---- the server
 
-/// How many seats one account may have: its connection workers and turners.
+/// How many seats one account may have: its connection workers and rotation workers.
 pub const SEATS_LIMIT: u32 = 128;
 
 /// How many connection workers a server may have, each of which serves one connection at a time.
 pub const CONNECTION_WORKERS_LIMIT: u32 = 64;
 
-/// How many turners of rotations a server may have.
-pub const TURNERS_LIMIT: u32 = 16;
+/// How many rotation workers a server may have.
+pub const ROTATION_WORKERS_LIMIT: u32 = 16;

@@ -5,7 +5,7 @@ use Rattle.clap.specs.Words.{App, Kinds, Row, Rule, Text, fault_of, matches_of, 
 use Rattle.clap.specs.Simple.{on_top}
 use Rattle.clap.specs.declared.builder.action.ArgAction.TheVariants.{SetTrue}
 use Rattle.clap.specs.declared.builder.value_parser.ValueParser.TheVariants as values
-use Rattle.sm_base.specs.declared.limits.TheConstants.{CONNECTION_WORKERS_LIMIT, TURNERS_LIMIT}
+use Rattle.sm_base.specs.declared.limits.TheConstants.{CONNECTION_WORKERS_LIMIT, ROTATION_WORKERS_LIMIT}
 
 -- an option of this name that takes one value
 abbrev pub option_rule : Text → Rule
@@ -53,7 +53,7 @@ abbrev pub connections_rule : Rule
 connections_rule = with_default (codes "4") (number_from 1 CONNECTION_WORKERS_LIMIT (codes "connections"))
 
 abbrev pub workers_rule : Rule
-workers_rule = with_default (codes "2") (number_from 0 TURNERS_LIMIT (codes "workers"))
+workers_rule = with_default (codes "2") (number_from 0 ROTATION_WORKERS_LIMIT (codes "workers"))
 
 abbrev pub number_rule : Rule
 number_rule = number_from 0 18446744073709551615 (codes "number")

@@ -5,7 +5,7 @@ use Rattle.std.specs.Str.{bytes_eq}
 use Rattle.std.specs.Str.Parse.{digits_value, without_leading_plus}
 use Rattle.clap.specs.Words.{Kinds, Row, Text, first_of, one_of}
 use Rattle.clap.specs.ValueTests.{is_numeral}
-use Rattle.sm_base.specs.declared.limits.TheConstants.{CONNECTION_WORKERS_LIMIT, TURNERS_LIMIT}
+use Rattle.sm_base.specs.declared.limits.TheConstants.{CONNECTION_WORKERS_LIMIT, ROTATION_WORKERS_LIMIT}
 use Rattle.sm_command_line.specs.declared.settings.Mode.{Mode}
 use Rattle.sm_command_line.specs.declared.settings.Mode.TheVariants.{Exec, Serve, Check, Drill, Agent}
 use Rattle.sm_command_line.specs.declared.settings.Settings.{Settings}
@@ -60,7 +60,8 @@ settings_of words = settings_if (faults words) (found words)
 -- as many connections and workers as a server may have
 abbrev pub IsInBounds : Settings → Type 0
 IsInBounds settings =
-    (1 ≤ settings.connections) × (settings.connections ≤ CONNECTION_WORKERS_LIMIT) × (settings.workers ≤ TURNERS_LIMIT)
+    (1 ≤ settings.connections) × (settings.connections ≤ CONNECTION_WORKERS_LIMIT)
+    × (settings.workers ≤ ROTATION_WORKERS_LIMIT)
 
 -- an answer, where it is not want of memory
 abbrev pub told : Result Settings WordsRefused → Option (Option Settings)

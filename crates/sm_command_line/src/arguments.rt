@@ -6,7 +6,7 @@ ghost use Rattle.sm_command_line.specs.Command.{option_rule, people_rule, rotato
 
 use clap::builder::ValueParser;
 use clap::{Arg, ArgAction};
-use sm_base::limits::{CONNECTION_WORKERS_LIMIT, TURNERS_LIMIT};
+use sm_base::limits::{CONNECTION_WORKERS_LIMIT, ROTATION_WORKERS_LIMIT};
 use std::alloc::Global;
 
 /// The address of the server without `--listen`.
@@ -150,7 +150,7 @@ pub fn workers<'a>(alloc: Global) -> Arg<'a>
          further.\n\
          Example: --workers 1",
     )
-    .value_parser(ValueParser::unsigned(0, TURNERS_LIMIT as u64))
+    .value_parser(ValueParser::unsigned(0, ROTATION_WORKERS_LIMIT as u64))
     .default_value("2")
 }
 

@@ -5,7 +5,7 @@ use Rattle.sm_lock.proofs.Stories.{grows-same, grows-trans}
 use Rattle.sm_session.specs.Sessions.{Standing}
 use Rattle.sm_seat_traces.proofs.SpellLaws.{Joins}
 use Rattle.sm_workers.specs.Chains.{Chain, Waits}
-use Rattle.sm_workers.specs.Turners.{Post, WaitsAt}
+use Rattle.sm_workers.specs.RotationWorkers.{Post, WaitsAt}
 
 module _ {P T : Type 0} (waiting : P → P → Type 0) (start end : T → P)
     (both : (a b c : P) → waiting a b → waiting b c → waiting a c) where

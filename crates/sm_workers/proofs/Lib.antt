@@ -1,7 +1,7 @@
 pub mod KnownLemmas
 pub mod ChainLemmas
 pub mod ConnectionWorkerLemmas
-pub mod TurnerLemmas
+pub mod RotationWorkerLemmas
 pub mod WorkerLemmas
 pub mod GivenLemmas
 pub mod SendLemmas

@@ -17,7 +17,7 @@ use Rattle.sm_workers.specs.declared.worker.Task.{Task}
 use Rattle.sm_workers.specs.declared.worker.Task.TheVariants.{Door, Turner}
 use Rattle.sm_workers.specs.declared.worker.WorkerBy.{WorkerBy}
 use Rattle.sm_workers.specs.Chains.{Waits}
-use Rattle.sm_workers.specs.Turners.{Turn, WaitsAt, holds_in}
+use Rattle.sm_workers.specs.RotationWorkers.{Turn, WaitsAt, holds_in}
 use Rattle.sm_workers.specs.Views.{Views}
 use Rattle.sm_workers.specs.Visits.{Visit, turns_in}
 use Rattle.sm_workers.specs.Workers.{Did, EndsAs, HasWorked, Works, WorksWithItsPass, marks_by, marks_of, standing_of}

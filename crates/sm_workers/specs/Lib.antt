@@ -2,7 +2,7 @@ pub mod Known
 pub mod Chains
 pub mod Visits
 pub mod ConnectionWorkers
-pub mod Turners
+pub mod RotationWorkers
 pub mod Views
 pub mod Workers
 pub mod Given

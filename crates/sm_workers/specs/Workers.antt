@@ -15,7 +15,7 @@ use Rattle.sm_workers.specs.declared.worker.Task.{Task}
 use Rattle.sm_workers.specs.declared.worker.Task.TheVariants.{Door, Turner}
 use Rattle.sm_workers.specs.declared.worker.WorkerBy.{WorkerBy}
 use Rattle.sm_workers.specs.ConnectionWorkers.{ConnectionWorkerDid, EndsConnectionWorker}
-use Rattle.sm_workers.specs.Turners.{Post, TurnerDid, holds_in}
+use Rattle.sm_workers.specs.RotationWorkers.{Post, RotationWorkerDid, holds_in}
 use Rattle.sm_workers.specs.Views.{Views}
 use Rattle.sm_workers.specs.Visits.{turns_in}
 
@@ -51,7 +51,8 @@ module _ {E K C W R : Type 0} (views : Views E K C W R) where
   abbrev pub post : R → Standing → Post
   post rotator own = record { own = own; rotator = views.rotator rotator }
 
-  -- A connection worker fails only where its edge's count rose, and else no connection is left. A turner does not fail.
+  -- A connection worker fails only where its edge's count rose, and else no connection is left. A rotation worker does
+  -- not fail.
   abbrev pub EndsAs : Bool → Task E R → Task E R → Type 0
   EndsAs failed (Door old) (Door new) = EndsConnectionWorker failed (views.edge old) (views.edge new)
   EndsAs failed (Turner old) (Turner new) = failed ≡ false
@@ -59,11 +60,11 @@ module _ {E K C W R : Type 0} (views : Views E K C W R) where
   EndsAs failed (Turner old) (Door new) = ⊥
 
   module _ (people : People) (place : Place) where
-    -- what came of a task: a connection worker's visits, or a turner's turns
+    -- what came of a task: a connection worker's visits, or a rotation worker's turns
     abbrev pub Did : Task E R → Task E R → Standing → Standing → Type 0
     Did (Door old) (Door new) from to =
         ConnectionWorkerDid views.sides people place (views.edge old) (views.edge new) from to
-    Did (Turner old) (Turner new) from to = TurnerDid views.replies place (post old from) (post new to)
+    Did (Turner old) (Turner new) from to = RotationWorkerDid views.replies place (post old from) (post new to)
     Did (Door old) (Turner new) from to = ⊥
     Did (Turner old) (Door new) from to = ⊥
 

@@ -1,12 +1,12 @@
 //! What runs the workers of a server in threads over one account behind a lock: connection workers, whose connections
-//! are served, and turners, which take rotation turns.
+//! are served, and rotation workers, which take rotation turns.
 #![tactic(auto)]
 
 mod connection_workers;
 mod jobs;
 mod passes;
 pub mod running;
-mod turners;
+mod rotation_workers;
 pub mod worker;
 mod working;
 

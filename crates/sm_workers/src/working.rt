@@ -7,7 +7,7 @@ ghost use Rattle.sm_workers.specs.Views.{views_by};
 ghost use Rattle.sm_workers.specs.Workers.{Did, EndsAs, IsReady, WorksWithItsPass};
 
 use crate::connection_workers::{Left, serve_connections};
-use crate::turners::keep_turning;
+use crate::rotation_workers::take_turns;
 use crate::worker::{ConnEnd, Task, WorkerBy};
 use sm_account::Account;
 use sm_disk::Disk;
@@ -42,7 +42,7 @@ fn do_task<E: Edge<ConnEnd>, C: Clock, W: Words, D: Disk, R: Rotator, H: Wait>(
     match task {
         Task::Door(edge) => serve_connections(rt, alloc, gate, pass, edge, clock, words, people),
         Task::Turner(rotator) => Left {
-            pass: keep_turning(rt, gate, pass, rotator, clock, words),
+            pass: take_turns(rt, gate, pass, rotator, clock, words),
             failed: false,
         },
     }

@@ -1,6 +1,6 @@
-//! Connection workers and a turner at one account.
+//! Connection workers and a rotation worker at one account.
 use crate::support::{
-    MemoryWorker, add, connection, connection_worker, edge, outcome, ran_server, three, turner,
+    MemoryWorker, add, connection, connection_worker, edge, outcome, ran_server, three, rotation_worker,
 };
 use sm_io::MemoryEdge;
 use sm_rotator::NoRotator;
@@ -51,8 +51,8 @@ fn at_connection_worker(worker: &Over) -> (usize, bool, bool) {
 }
 
 /// What came of two connection workers, whose connections make secrets of these names, and of which the second may fail
-/// at an accept, and of a turner, which ends once both doors are closed; how the server ends, and how many entries the
-/// account has then.
+/// at an accept, and of a rotation worker, which ends once both doors are closed; how the server ends, and how many
+/// entries the account has then.
 fn run<R: Threads + Wait + Sync>(
     rt: &R,
     alloc: Global,
@@ -64,7 +64,7 @@ fn run<R: Threads + Wait + Sync>(
         alloc,
         connection_worker(alloc, makers(alloc, first, None)?),
         connection_worker(alloc, makers(alloc, second, from)?),
-        turner(alloc, NoRotator::new()),
+        rotation_worker(alloc, NoRotator::new()),
     )?;
     let ended = ran_server(rt, alloc, workers.as_mut_slice())?;
     Ok((at_connection_worker(&workers[0]), at_connection_worker(&workers[1]), ended))
@@ -96,15 +96,15 @@ fn a_connection_worker_whose_edge_fails_says_so(rt: HostRuntime) -> Result<(), F
     Ok(())
 }
 
-/// How a server ends that has no door, and one turner, and how many entries its account has then.
+/// How a server ends that has no door, and one rotation worker, and how many entries its account has then.
 fn turn_alone<R: Threads + Wait + Sync>(rt: &R, alloc: Global) -> Result<(Status, u64), Fail> {
     let mut workers: Vec<Over> = Vec::new(alloc);
-    add(&mut workers, turner(alloc, NoRotator::new()))?;
+    add(&mut workers, rotation_worker(alloc, NoRotator::new()))?;
     ran_server(rt, alloc, workers.as_mut_slice())
 }
 
 #[test]
-fn a_turner_ends_where_no_door_is_open(rt: HostRuntime) -> Result<(), Fail> {
+fn a_rotation_worker_ends_where_no_door_is_open(rt: HostRuntime) -> Result<(), Fail> {
     assert_eq!(rt; turn_alone(&rt, rt.alloc())?, (Status::Done, 0));
     Ok(())
 }

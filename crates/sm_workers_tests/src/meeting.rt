@@ -119,7 +119,8 @@ pub enum Part {
     Apart,
     /// It is the second of the two.
     Second,
-    /// It keeps its door open until both have come: a turner that finds no door open ends, and could come no more.
+    /// It keeps its door open until both have come: a rotation worker that finds no door open ends, and could come no
+    /// more.
     Host,
 }
 

@@ -4,8 +4,8 @@ ghost use Rattle.sm_workers.specs.Workers.{IsFresh};
 
 use crate::meeting::{Holding, Meeting, Part, Watched};
 use crate::support::{
-    MemoryWorker, connection, connection_worker, edge, fails, late_turner, outcome, ran_over, ran_server, three,
-    turner,
+    MemoryWorker, connection, connection_worker, edge, fails, late_rotation_worker, outcome, ran_over, ran_server, three,
+    rotation_worker,
 };
 use sm_io::MemoryConn;
 use sm_model::{Fails, List, Stage};
@@ -64,8 +64,8 @@ fn holding<'a>(rt: &'a HostRuntime, meeting: &'a Meeting, stage: Stage) -> Holdi
     }
 }
 
-/// How many connections came back to a connection worker, or how many steps a turner's rotator was asked to do, and
-/// whether all went well.
+/// How many connections came back to a connection worker, or how many steps a rotation worker's rotator was asked to
+/// do, and whether all went well.
 fn came<'a>(worker: &Over<'a>) -> (u64, bool) {
     match &worker.task {
         Task::Door(edge) => {
@@ -79,8 +79,8 @@ fn came<'a>(worker: &Over<'a>) -> (u64, bool) {
     }
 }
 
-/// A connection worker that makes and rotates a secret, one that reads it behind the first of a meeting, and a turner
-/// whose rotator is that first at testSecret.
+/// A connection worker that makes and rotates a secret, one that reads it behind the first of a meeting, and a rotation
+/// worker whose rotator is that first at testSecret.
 fn testers<'a>(rt: &'a HostRuntime, meeting: &'a Meeting) -> Result<Vec<Over<'a>>, Fail>
     ensures fresh { IfOk result (λ workers. All IsFresh workers.items) }
     ensures many { IfOk result (λ workers. vec_len workers ≡ 3) }
@@ -92,13 +92,13 @@ fn testers<'a>(rt: &'a HostRuntime, meeting: &'a Meeting) -> Result<Vec<Over<'a>
         alloc,
         connection_worker(alloc, watched(rt, meeting, Part::Apart, rotates)?),
         connection_worker(alloc, watched(rt, meeting, Part::Second, reads)?),
-        turner(alloc, holding(rt, meeting, Stage::Test)),
+        rotation_worker(alloc, holding(rt, meeting, Stage::Test)),
     )
 }
 
 /// A rotation whose rotator holds its answer at testSecret until a connection of another connection worker got the
 /// value, which that connection worker hands out only once testSecret is asked: what came of both connection workers
-/// and of the turner, how the server ends, and how many entries its account has then.
+/// and of the rotation worker, how the server ends, and how many entries its account has then.
 fn read_while_tested<H: Threads + Wait + Sync>(
     rt: &HostRuntime,
     threads: &H,
@@ -121,8 +121,8 @@ fn a_value_is_read_while_the_rotator_tests_another(rt: HostRuntime) -> Result<()
     Ok(())
 }
 
-/// A connection worker that makes and rotates two secrets, and stays open until both steps were asked, and two turners
-/// whose rotators wait for each other at createSecret.
+/// A connection worker that makes and rotates two secrets, and stays open until both steps were asked, and two rotation
+/// workers whose rotators wait for each other at createSecret.
 fn rotators<'a>(rt: &'a HostRuntime, meeting: &'a Meeting) -> Result<Vec<Over<'a>>, Fail>
     ensures fresh { IfOk result (λ workers. All IsFresh workers.items) }
     ensures many { IfOk result (λ workers. vec_len workers ≡ 3) }
@@ -138,13 +138,14 @@ fn rotators<'a>(rt: &'a HostRuntime, meeting: &'a Meeting) -> Result<Vec<Over<'a
     three(
         alloc,
         connection_worker(alloc, watched(rt, meeting, Part::Host, rotates)?),
-        turner(alloc, holding(rt, meeting, Stage::Create)),
-        turner(alloc, holding(rt, meeting, Stage::Create)),
+        rotation_worker(alloc, holding(rt, meeting, Stage::Create)),
+        rotation_worker(alloc, holding(rt, meeting, Stage::Create)),
     )
 }
 
 /// Two rotations, of which each one's rotator holds its first answer until the first step of the other was asked: what
-/// came of the connection worker and of both turners, how the server ends, and how many entries its account has then.
+/// came of the connection worker and of both rotation workers, how the server ends, and how many entries its account
+/// has then.
 fn both_at_their_first_step<H: Threads + Wait + Sync>(
     rt: &HostRuntime,
     threads: &H,
@@ -172,8 +173,8 @@ fn two_secrets_are_rotated_at_once(rt: HostRuntime) -> Result<(), Fail> {
 const CALLS_OF_THE_START: [u64; 2] = [21, 26];
 
 /// A connection worker that makes a secret and has it rotated each day, one that reads it behind the first of a
-/// meeting, and a turner of a day later, whose rotator is that first at setSecret. Until then the second door is open,
-/// and the turner goes on.
+/// meeting, and a rotation worker of a day later, whose rotator is that first at setSecret. Until then the second door
+/// is open, and the rotation worker goes on.
 fn daily<'a>(rt: &'a HostRuntime, meeting: &'a Meeting) -> Result<Vec<Over<'a>>, Fail>
     ensures fresh { IfOk result (λ workers. All IsFresh workers.items) }
     ensures many { IfOk result (λ workers. vec_len workers ≡ 3) }
@@ -185,12 +186,12 @@ fn daily<'a>(rt: &'a HostRuntime, meeting: &'a Meeting) -> Result<Vec<Over<'a>>,
         alloc,
         connection_worker(alloc, watched(rt, meeting, Part::Apart, rotates)?),
         connection_worker(alloc, watched(rt, meeting, Part::Second, reads)?),
-        late_turner(alloc, holding(rt, meeting, Stage::Set)),
+        late_rotation_worker(alloc, holding(rt, meeting, Stage::Set)),
     )
 }
 
-/// A due rotation whose start fails at this call of the disk: what came of both connection workers and of the turner,
-/// how the server ends, and how many entries its account has then.
+/// A due rotation whose start fails at this call of the disk: what came of both connection workers and of the rotation
+/// worker, how the server ends, and how many entries its account has then.
 fn started_behind_a_fault<H: Threads + Wait + Sync>(
     rt: &HostRuntime,
     threads: &H,
@@ -210,7 +211,7 @@ fn started_behind_a_fault<H: Threads + Wait + Sync>(
 }
 
 #[test]
-fn a_turner_goes_on_behind_a_fault_of_the_disk(rt: HostRuntime) -> Result<(), Fail> {
+fn a_rotation_worker_goes_on_behind_a_fault_of_the_disk(rt: HostRuntime) -> Result<(), Fail> {
     for call in CALLS_OF_THE_START {
         let out = started_behind_a_fault(&rt, &rt, call)?;
         assert_eq!(rt;

@@ -59,7 +59,7 @@ pub fn connection_worker<E, R: Rotator>(alloc: Global, edge: E) -> MemoryWorker<
 }
 
 /// A worker that takes rotation turns.
-pub fn turner<E, R: Rotator>(alloc: Global, rotator: R) -> MemoryWorker<E, R>
+pub fn rotation_worker<E, R: Rotator>(alloc: Global, rotator: R) -> MemoryWorker<E, R>
     ensures { IsFresh result }
 {
     Worker::turner(
@@ -71,7 +71,7 @@ pub fn turner<E, R: Rotator>(alloc: Global, rotator: R) -> MemoryWorker<E, R>
 
 /// The same a day later than all others. The tokens that it draws end in `5e5f`, `6e6f` and so on, so that a rotator of
 /// scripts says yes to each of their steps.
-pub fn late_turner<E, R: Rotator>(alloc: Global, rotator: R) -> MemoryWorker<E, R>
+pub fn late_rotation_worker<E, R: Rotator>(alloc: Global, rotator: R) -> MemoryWorker<E, R>
     ensures { IsFresh result }
 {
     Worker::turner(

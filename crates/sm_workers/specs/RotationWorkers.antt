@@ -57,7 +57,7 @@ module _ (replies : Replies) (place : Place) where
   ComeToRest (turn ∷ next ∷ turns) = ComeToRest (next ∷ turns)
 
   -- The turns, one after the other, of which the last came to rest. Their holds are one spell of the seat.
-  pub record TurnerDid (from to : Post) : Type 0 where
+  pub record RotationWorkerDid (from to : Post) : Type 0 where
     pub turns : List Turn
     pub rests : ComeToRest turns
     pub chain : Chain (WaitsAt place.seat) (λ turn. turn.from) (λ turn. turn.to) from turns to

@@ -4,7 +4,7 @@ ghost use Rattle.sm_account.specs.Accounts.{base};
 ghost use Rattle.sm_lock.specs.Handles.{built_with, number, seen, IsIn};
 ghost use Rattle.sm_lock.specs.Story.{Grows};
 ghost use Rattle.sm_pool.specs.Rounds.{ComesToRest};
-ghost use Rattle.sm_workers.specs.Turners.{TurnerDid};
+ghost use Rattle.sm_workers.specs.RotationWorkers.{RotationWorkerDid};
 ghost use Rattle.sm_session.specs.Views.{standing_by};
 
 use sm_account::Account;
@@ -16,7 +16,7 @@ use sm_rotator::Rotator;
 use std::sync::Wait;
 
 /// Takes rotation turns one after the other, until there is nothing to do, or one cannot go on, and no door is open.
-pub(crate) fn keep_turning<C: Clock, W: Words, D: Disk, R: Rotator, H: Wait>(
+pub(crate) fn take_turns<C: Clock, W: Words, D: Disk, R: Rotator, H: Wait>(
     rt: &H,
     gate: &Gate<Account<D, R>>,
     pass: Pass<Account<D, R>>,
@@ -27,7 +27,7 @@ pub(crate) fn keep_turning<C: Clock, W: Words, D: Disk, R: Rotator, H: Wait>(
     requires { IsIn gate.now pass }
     ensures gate { IsIn gate.now result }
     ensures number { number result ≡ number pass }
-    ensures did { TurnerDid R.replies (record { base = base (built_with gate.now); seat = number pass })
+    ensures did { RotationWorkerDid R.replies (record { base = base (built_with gate.now); seat = number pass })
         (record {
           own = standing_by C.Clock W.Words (seen pass) clock.old words.old;
           rotator = R.faults rotator.old;
@@ -49,7 +49,7 @@ pub(crate) fn keep_turning<C: Clock, W: Words, D: Disk, R: Rotator, H: Wait>(
     unreachable!()
 }
 
-/// What a turner does behind a turn leaves: the pass again, and whether the turner ends.
+/// What a rotation worker does behind a turn leaves: the pass again, and whether the rotation worker ends.
 struct Behind<A: Storied> {
     pass: Pass<A>,
     ends: bool,

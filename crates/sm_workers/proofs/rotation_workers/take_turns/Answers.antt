@@ -2,8 +2,8 @@ use Rattle.std.proofs.Common.{refl, ◌∙◌}
 use Rattle.sm_account.specs.Accounts.{base}
 use Rattle.sm_lock.specs.Handles.{built_with, number, seen}
 use Rattle.sm_session.specs.Views.{standing_by}
-use Rattle.sm_workers.proofs.TurnerLemmas.{so_far_first, turned_last, turned_on}
-use Rattle.sm_workers.proofs.turners.keep_turning.Goals as goal
+use Rattle.sm_workers.proofs.RotationWorkerLemmas.{so_far_first, turned_last, turned_on}
+use Rattle.sm_workers.proofs.rotation_workers.take_turns.Goals as goal
 
 pub loop-init : goal.loop-init
 loop-init g c = record {

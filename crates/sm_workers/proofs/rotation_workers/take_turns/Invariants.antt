@@ -2,8 +2,8 @@ use Rattle.std.proofs.Common.{◌≡◌}
 use Rattle.sm_account.specs.Accounts.{base}
 use Rattle.sm_lock.specs.Handles.{built_with, number, seen, IsIn}
 use Rattle.sm_session.specs.Views.{standing_by}
-use Rattle.sm_workers.proofs.TurnerLemmas.{SoFar}
-use Rattle.sm_workers.proofs.turners.keep_turning.Given as goal
+use Rattle.sm_workers.proofs.RotationWorkerLemmas.{SoFar}
+use Rattle.sm_workers.proofs.rotation_workers.take_turns.Given as goal
 
 -- the turns so far were taken under the seat that the pass has had all along
 abbrev pub invariant-loop : goal.invariant-loop

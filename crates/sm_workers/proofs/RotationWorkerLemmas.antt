@@ -1,4 +1,4 @@
--- The turns of a turner, one after the other.
+-- The turns of a rotation worker, one after the other.
 use Rattle.std.proofs.Common.{◌≡◌, ℕ, List, [], ◌∷◌, ◌++◌, ◌∙◌, subst, arith}
 use Rattle.std.specs.Prelude.{⊤}
 use Rattle.sm_account.specs.States.{Base}
@@ -12,7 +12,7 @@ use Rattle.sm_session.specs.Sessions.{Place}
 use Rattle.sm_seat_traces.specs.Spells.{Spell}
 use Rattle.sm_seat_traces.proofs.SpellLaws.{spells_join}
 use Rattle.sm_workers.specs.Chains.{Chain}
-use Rattle.sm_workers.specs.Turners.{ComeToRest, NoneFell, Post, Turn, TurnerDid, WaitsAt, holds_in, passing}
+use Rattle.sm_workers.specs.RotationWorkers.{ComeToRest, NoneFell, Post, Turn, RotationWorkerDid, WaitsAt, holds_in, passing}
 use Rattle.sm_workers.proofs.ChainLemmas.{chain_more, chain_on, joins, waits_at_both, waits_at_still}
 
 module _ (replies : Replies) (place : Place) where
@@ -88,8 +88,8 @@ module _ (replies : Replies) (place : Place) where
       so_far_more = record { turns = so_far.turns ++ turned ∷ []; chain = longer }
 
       -- one that came to rest, and was the last
-      pub turner_did : ComesToRest done → TurnerDid replies place from to
-      turner_did rests = record {
+      pub rotation_worker_did : ComesToRest done → RotationWorkerDid replies place from to
+      rotation_worker_did rests = record {
         turns = so_far.turns ++ turned ∷ [];
         rests = rests_more so_far.turns turned rests;
         chain = longer;
@@ -126,6 +126,6 @@ module _ (replies : Replies) (base : Base) (own seat : ℕ) (same : own ≡ seat
         waits_there
 
     -- the last of them
-    pub turned_last : ComesToRest done → TurnerDid replies (record { base = base; seat = seat }) from to
-    turned_last = turner_did replies (record { base = base; seat = seat }) from mid so_far at done turn_there later to
-        waits_there
+    pub turned_last : ComesToRest done → RotationWorkerDid replies (record { base = base; seat = seat }) from to
+    turned_last = rotation_worker_did replies (record { base = base; seat = seat }) from mid so_far at done turn_there
+        later to waits_there

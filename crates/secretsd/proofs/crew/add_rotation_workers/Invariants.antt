@@ -1,7 +1,7 @@
 use Rattle.std.proofs.Common.{◌≡◌, ◌+◌}
 use Rattle.std.specs.Prelude.{All, vec_len}
 use Rattle.sm_workers.specs.Workers.{IsFresh}
-use Rattle.secretsd.proofs.crew.add_turners.Given as goal
+use Rattle.secretsd.proofs.crew.add_rotation_workers.Given as goal
 
 -- as many workers were added as the number says, and all have still to begin
 abbrev pub invariant-loop-number : goal.invariant-loop-number
