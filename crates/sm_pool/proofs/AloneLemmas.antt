@@ -15,7 +15,7 @@ use Rattle.sm_account.specs.Efforts.{Due, Effort, Over, Undue}
 use Rattle.sm_account.specs.Report.{ReportsAs, reported_by}
 use Rattle.sm_account.specs.StartDue.{StartsAs, started_by}
 use Rattle.sm_account.specs.States.{Base}
-use Rattle.sm_seat_traces.specs.Spells.{History, Spell, NoGap}
+use Rattle.sm_seat_traces.specs.SeatTraces.{History, SeatTrace, NoGap}
 use Rattle.sm_pool.specs.declared.done.Done.{Done}
 use Rattle.sm_pool.specs.Alone.{IsStale, OnDisk}
 use Rattle.sm_pool.specs.Ends.{due_ends, report_ends}
@@ -70,16 +70,16 @@ start_stale starts.Memory is = is
 
 module _ (seat : ℕ) (from to : History) where
   course_stale : (course : Course) → LateApart seat course
-      → Spell hold_shape NoGap seat (λ hold. Unit {0}) from (holds_of course) to → IsStale (done_of course) → ⊥
-  course_stale (Wants hold) late spell is = is
-  course_stale (Rests hold) late spell is = is
-  course_stale (Starts hold (Undrawn trouble)) late spell is = is
-  course_stale (Starts hold (Begins drawn next started)) late spell is = start_stale started is
-  course_stale (Works hold work Unasked) late spell is = is
-  course_stale (Works hold work (Asked answer next reported)) late spell is =
-      late (report_stale work reported is) spell.2.0
+      → SeatTrace hold_shape NoGap seat (λ hold. Unit {0}) from (holds_of course) to → IsStale (done_of course) → ⊥
+  course_stale (Wants hold) late seat_trace is = is
+  course_stale (Rests hold) late seat_trace is = is
+  course_stale (Starts hold (Undrawn trouble)) late seat_trace is = is
+  course_stale (Starts hold (Begins drawn next started)) late seat_trace is = start_stale started is
+  course_stale (Works hold work Unasked) late seat_trace is = is
+  course_stale (Works hold work (Asked answer next reported)) late seat_trace is =
+      late (report_stale work reported is) seat_trace.2.0
 
   pub never_stale : (replies : Replies) (base : Base) (passing : Passing) (done : Done)
       → TurnDone replies base NoGap seat passing from to done → IsStale done → ⊥
   never_stale replies base passing done turn is =
-      course_stale turn.course turn.late turn.spell (subst IsStale turn.takes.done_is is)
+      course_stale turn.course turn.late turn.seat_trace (subst IsStale turn.takes.done_is is)

@@ -19,8 +19,8 @@ use Rattle.sm_lock.specs.Story.{Grows, entries_of}
 use Rattle.sm_lock.specs.declared.gate.Gate.{Gate}
 use Rattle.sm_lock.specs.declared.pass.Pass.{Pass}
 use Rattle.sm_lock.specs.declared.storied.Storied.{Ghosts}
-use Rattle.sm_seat_traces.specs.Spells.{History, Spell, marks_in, NoGap}
-use Rattle.sm_seat_traces.proofs.SpellLaws.{spell_mine}
+use Rattle.sm_seat_traces.specs.SeatTraces.{History, SeatTrace, marks_in, NoGap}
+use Rattle.sm_seat_traces.proofs.SeatTraceLaws.{trace_mine}
 use Rattle.sm_pool.specs.declared.holds.Found.{Found}
 use Rattle.sm_pool.specs.Found.{found_by}
 use Rattle.sm_pool.specs.Holds.{HeldAt, Hold, LookHeld, ReportHeld, StartHeld, hold_of, hold_shape}
@@ -108,10 +108,10 @@ module _ (gap : History → History → Type 0) (seat own : ℕ) (same_seat : se
 -- what a seat's own marks are after holds
 module _ {T O : Type 0} {g : Ghosts T O Mark} (gate : Gate T O Mark) (pass after : Pass T O Mark g) where
   pub holds_mine : (holds : List Hold) → IsIn gate pass → IsIn gate after → number after ≡ number pass
-      → Spell hold_shape (Grows (number pass ∷ [])) (number pass) (λ hold. Unit {0}) (seen pass) holds (seen after)
+      → SeatTrace hold_shape (Grows (number pass ∷ [])) (number pass) (λ hold. Unit {0}) (seen pass) holds (seen after)
       → mine after ≡ mine pass ++ marks_in hold_shape holds
-  holds_mine holds in_gate after_in same spell =
+  holds_mine holds in_gate after_in same seat_trace =
       ap (λ (b : History). entries_of (number after) (drop (length b) (seen after))) (after_in.2 ∙ sym in_gate.2)
       ∙ ap (λ n. entries_of n (drop (length (built pass)) (seen after))) same
-      ∙ spell_mine hold_shape (number pass) (λ hold. Unit {0}) (built pass) (seen pass) (seen after) holds pass.begins
-      spell
+      ∙ trace_mine hold_shape (number pass) (λ hold. Unit {0}) (built pass) (seen pass) (seen after) holds pass.begins
+      seat_trace

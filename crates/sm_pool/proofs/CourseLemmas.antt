@@ -11,7 +11,7 @@ use Rattle.sm_account.specs.declared.start_due.StartedDue.{StartedDue}
 use Rattle.sm_account.specs.Report.{report_at, reported_by}
 use Rattle.sm_account.specs.StartDue.{start_at, started_by}
 use Rattle.sm_account.specs.States.{Base, state_at}
-use Rattle.sm_seat_traces.specs.Spells.{History}
+use Rattle.sm_seat_traces.specs.SeatTraces.{History}
 use Rattle.sm_pool.specs.declared.done.Done.{Done}
 use Rattle.sm_pool.specs.declared.done.Done.TheVariants as ends
 use Rattle.sm_pool.specs.declared.done.Trouble.{Trouble}
@@ -21,7 +21,7 @@ use Rattle.sm_pool.specs.Ends.{due_ends, report_ends}
 use Rattle.sm_pool.specs.Holds.{ReportHeld, StartHeld, hold_of}
 use Rattle.sm_pool.specs.Turns.{Asked, Begins, Count, HasRisen, IsOfDraw, OnRandom, StartDone, Telling, Tells, Unasked, Undrawn, WorkDone}
 use Rattle.sm_pool.proofs.AskingLemmas.{unasked_none}
-use Rattle.sm_pool.proofs.HoldLemmas.{spell_one}
+use Rattle.sm_pool.proofs.HoldLemmas.{trace_of_one}
 use Rattle.sm_seat_traces.proofs.KnownLemmas.{append_known-nil}
 
 module _ (base : Base) (gap : History → History → Type 0) (still : (h : History) → gap h h) (seat : ℕ) where
@@ -46,7 +46,7 @@ module _ (base : Base) (gap : History → History → Type 0) (still : (h : Hist
             asks = asks;
             failed = fails;
           };
-          spell = spell_one gap seat still from to hold held.held;
+          seat_trace = trace_of_one gap seat still from to hold held.held;
         })
 
     -- it was not asked
@@ -63,7 +63,7 @@ module _ (base : Base) (gap : History → History → Type 0) (still : (h : Hist
         asks = unasked_none asking unasked;
         failed = tt;
       };
-      spell = still from;
+      seat_trace = still from;
     }
 
   -- random bytes were drawn, and a start tried
@@ -82,7 +82,7 @@ module _ (base : Base) (gap : History → History → Type 0) (still : (h : Hist
           drawn = random;
           failed = tt;
         };
-        spell = spell_one gap seat still from to hold held.held;
+        seat_trace = trace_of_one gap seat still from to hold held.held;
       }
 
   -- none were drawn
@@ -99,5 +99,5 @@ module _ (base : Base) (gap : History → History → Type 0) (still : (h : Hist
       drawn = random;
       failed = failed;
     };
-    spell = still from;
+    seat_trace = still from;
   }

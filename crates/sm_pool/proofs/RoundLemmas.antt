@@ -9,7 +9,7 @@ use Rattle.sm_rotator.specs.declared.told.Told.{Told}
 use Rattle.sm_rotator.specs.Told.{append_told}
 use Rattle.sm_account.specs.History.{by_seat}
 use Rattle.sm_account.specs.States.{Base}
-use Rattle.sm_seat_traces.specs.Spells.{History, Spell, marks_in, NoGap}
+use Rattle.sm_seat_traces.specs.SeatTraces.{History, SeatTrace, marks_in, NoGap}
 use Rattle.sm_pool.specs.declared.done.Done.{Done}
 use Rattle.sm_pool.specs.declared.done.Done.TheVariants as ends
 use Rattle.sm_pool.specs.Alone.{IsStale, OnDisk}
@@ -71,7 +71,7 @@ module _ (replies : Replies) (base : Base) (seat : ℕ) where
       → NoneFell from.counts to.counts → Turned replies base seat from turn.course to
   turned_by from to passing done turn failed words rotator later = record {
     is = turn.takes.is;
-    spell = turn.spell;
+    seat_trace = turn.seat_trace;
     disk = subst (λ d. OnDisk d (Rose from.counts.disk to.counts.disk)) turn.takes.done_is failed;
     words = subst (λ count. RandomSourceFailed turn.course (HasRisen count)) words turn.takes.words;
     rotator = subst (λ count. RotatorFailed turn.course (HasRisen count)) rotator turn.takes.rotator;
@@ -184,19 +184,19 @@ marked_more seat history a b =
     ∙ ap (λ (h : History). history ++ h) (sym (by_seat-append seat a b))
 
 module _ (seat : ℕ) (right : Hold → Type 0) where
-  spell_marks : (from to : History) (holds : List Hold) → Spell hold_shape NoGap seat right from holds to
+  trace_marks : (from to : History) (holds : List Hold) → SeatTrace hold_shape NoGap seat right from holds to
       → to ≡ from ++ by_seat seat (marks_in hold_shape holds)
-  spell_marks from to [] spell = spell ∙ sym (append-nil from)
-  spell_marks from to (hold ∷ holds) spell =
-      spell_marks (hold.before ++ by_seat seat hold.marks) to holds spell.2
-      ∙ ap (λ (h : History). (h ++ by_seat seat hold.marks) ++ by_seat seat (marks_in hold_shape holds)) spell.0
+  trace_marks from to [] seat_trace = seat_trace ∙ sym (append-nil from)
+  trace_marks from to (hold ∷ holds) seat_trace =
+      trace_marks (hold.before ++ by_seat seat hold.marks) to holds seat_trace.2
+      ∙ ap (λ (h : History). (h ++ by_seat seat hold.marks) ++ by_seat seat (marks_in hold_shape holds)) seat_trace.0
       ∙ marked_more seat from hold.marks (marks_in hold_shape holds)
 
 module _ (replies : Replies) (base : Base) (seat : ℕ) where
   turned_marks : (from : Point) (course : Course) (to : Point) → Turned replies base seat from course to
       → to.history ≡ from.history ++ by_seat seat (marks_in hold_shape (holds_of course))
   turned_marks from course to turned =
-      spell_marks seat (λ hold. Unit {0}) from.history to.history (holds_of course) turned.spell
+      trace_marks seat (λ hold. Unit {0}) from.history to.history (holds_of course) turned.seat_trace
 
   turns_marks : (from : Point) (on : List Course) (at : Point) → TurnedOn replies base seat from on at
       → at.history ≡ from.history ++ by_seat seat (marks_in hold_shape (holds_in on))

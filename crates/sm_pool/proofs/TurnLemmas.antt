@@ -10,7 +10,7 @@ use Rattle.sm_rotator.specs.declared.work.Work.{Work}
 use Rattle.sm_table.specs.Sound.{Sound}
 use Rattle.sm_account.specs.Claims.{ready_at}
 use Rattle.sm_account.specs.States.{Base, state_at}
-use Rattle.sm_seat_traces.specs.Spells.{History}
+use Rattle.sm_seat_traces.specs.SeatTraces.{History}
 use Rattle.sm_pool.specs.declared.done.Done.{Done}
 use Rattle.sm_pool.specs.declared.done.Done.TheVariants as ends
 use Rattle.sm_pool.specs.declared.done.Trouble.TheVariants as troubles
@@ -20,7 +20,7 @@ use Rattle.sm_pool.specs.Asking.{Asking, Asks}
 use Rattle.sm_pool.specs.Found.{found_by}
 use Rattle.sm_pool.specs.Holds.{Hold, LookHeld, hold_of}
 use Rattle.sm_pool.specs.Turns.{Asked, IsWorkCourse, LateApart, Passing, Rests, Starts, StartDone, Tells, TurnAsks, Unasked, Wants, WorkCourse, WorkDone, Works, readings_of, start_holds, work_holds}
-use Rattle.sm_pool.proofs.HoldLemmas.{spell_one, spell_then}
+use Rattle.sm_pool.proofs.HoldLemmas.{trace_of_one, one_then_trace}
 use Rattle.sm_seat_traces.proofs.KnownLemmas.{told_more}
 use Rattle.sm_pool.proofs.LateLemmas.{late_apart}
 
@@ -51,7 +51,7 @@ module _ (replies : Replies) (base : Base) (gap : History → History → Type 0
             rotator = tt;
             words = tt;
           };
-          spell = spell_one gap seat still from to hold look.held;
+          seat_trace = trace_of_one gap seat still from to hold look.held;
           late = tt;
         },
         unasked,
@@ -66,7 +66,7 @@ module _ (replies : Replies) (base : Base) (gap : History → History → Type 0
         record {
           course = Wants hold;
           takes = record { is = refl; done_is = refl; readings = told; drawn = random; rotator = tt; words = tt };
-          spell = spell_one gap seat still from to hold look.held;
+          seat_trace = trace_of_one gap seat still from to hold look.held;
           late = tt;
         },
         unasked,
@@ -93,7 +93,7 @@ module _ (replies : Replies) (base : Base) (gap : History → History → Type 0
               rotator = tt;
               words = start.starts.failed;
             };
-            spell = spell_then gap seat from mid to hold (start_holds start.course) look.held start.spell;
+            seat_trace = one_then_trace gap seat from mid to hold (start_holds start.course) look.held start.seat_trace;
             late = tt;
           },
           unasked,
@@ -126,7 +126,7 @@ module _ (replies : Replies) (base : Base) (gap : History → History → Type 0
               rotator = does.does.failed;
               words = tt;
             };
-            spell = spell_then gap seat from mid to hold (work_holds does.course) look.held does.spell;
+            seat_trace = one_then_trace gap seat from mid to hold (work_holds does.course) look.held does.seat_trace;
             late = late_work look.before work look.sound look.finds does.course does.does.is;
           },
           does.does.asks,

@@ -7,7 +7,7 @@ use Rattle.sm_model.specs.declared.entry.Mark.{Mark}
 use Rattle.sm_rotation.specs.Vouched.{Replies}
 use Rattle.sm_rotator.specs.declared.told.Told.{Told}
 use Rattle.sm_account.specs.States.{Base}
-use Rattle.sm_seat_traces.specs.Spells.{History, Spell, marks_in, NoGap}
+use Rattle.sm_seat_traces.specs.SeatTraces.{History, SeatTrace, marks_in, NoGap}
 use Rattle.sm_pool.specs.declared.done.Done.{Done}
 use Rattle.sm_pool.specs.declared.done.Done.TheVariants as ends
 use Rattle.sm_pool.specs.Alone.{OnDisk}
@@ -70,7 +70,7 @@ module _ (replies : Replies) (base : Base) (seat : ℕ) where
   -- One turn of a seat from one point to another. Each fault comes only where its count rose.
   pub record Turned (from : Point) (course : Course) (to : Point) : Type 0 where
     pub is : IsCourse replies base course
-    pub spell : Spell hold_shape NoGap seat (λ hold. ⊤) from.history (holds_of course) to.history
+    pub seat_trace : SeatTrace hold_shape NoGap seat (λ hold. ⊤) from.history (holds_of course) to.history
     pub disk : OnDisk (done_of course) (Rose from.counts.disk to.counts.disk)
     pub words : RandomSourceFailed course (Rose from.counts.words to.counts.words)
     pub rotator : RotatorFailed course (Rose from.counts.rotator to.counts.rotator)

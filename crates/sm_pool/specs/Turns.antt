@@ -17,7 +17,7 @@ use Rattle.sm_pool.specs.declared.done.Done.{Done}
 use Rattle.sm_pool.specs.declared.done.Done.TheVariants as ends
 use Rattle.sm_pool.specs.declared.done.Trouble.{Trouble}
 use Rattle.sm_pool.specs.declared.done.Trouble.TheVariants as troubles
-use Rattle.sm_seat_traces.specs.Spells.{History, Spell}
+use Rattle.sm_seat_traces.specs.SeatTraces.{History, SeatTrace}
 use Rattle.sm_pool.specs.Asking.{Asking, Asks}
 use Rattle.sm_pool.specs.Ends.{due_ends, report_ends}
 use Rattle.sm_pool.specs.Holds.{Hold, FindsNothing, FindsWork, ReportsIn, StartsIn, hold_shape, is_due_in}
@@ -89,7 +89,7 @@ pub record WorkDone (replies : Replies) (base : Base) (gap : History → History
     (clock : Telling) (asking : Asking) (rotator : Count) (from to : History) (done : Done) : Type 0 where
   pub course : WorkCourse
   pub does : DoesWork replies base work clock asking rotator course done
-  pub spell : Spell hold_shape gap seat (λ hold. ⊤) from (work_holds course) to
+  pub seat_trace : SeatTrace hold_shape gap seat (λ hold. ⊤) from (work_holds course) to
 
 -- ---- a due rotation
 
@@ -147,7 +147,7 @@ pub record StartDone (base : Base) (gap : History → History → Type 0) (seat 
     (failures : Count) (from to : History) (done : Done) : Type 0 where
   pub course : StartCourse
   pub starts : StartsOne base clock words failures course done
-  pub spell : Spell hold_shape gap seat (λ hold. ⊤) from (start_holds course) to
+  pub seat_trace : SeatTrace hold_shape gap seat (λ hold. ⊤) from (start_holds course) to
 
 -- ---- a turn
 
@@ -248,7 +248,7 @@ pub record TurnDone (replies : Replies) (base : Base) (gap : History → History
     (from to : History) (done : Done) : Type 0 where
   pub course : Course
   pub takes : TakesTurn replies base passing course done
-  pub spell : Spell hold_shape gap seat (λ hold. ⊤) from (holds_of course) to
+  pub seat_trace : SeatTrace hold_shape gap seat (λ hold. ⊤) from (holds_of course) to
   pub late : LateApart seat course
 
 -- a turn, and what its rotator was asked for: the work of the step that it claimed, once, or nothing

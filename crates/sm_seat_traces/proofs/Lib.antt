@@ -1,3 +1,3 @@
-pub mod SpellLaws
+pub mod SeatTraceLaws
 pub mod KnownLemmas
 pub mod OriginLemmas

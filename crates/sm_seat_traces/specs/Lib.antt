@@ -1,1 +1,1 @@
-pub mod Spells
+pub mod SeatTraces

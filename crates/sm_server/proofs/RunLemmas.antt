@@ -19,7 +19,7 @@ use Rattle.sm_http.specs.Reading.{ReaderState, content, stopped, Reads}
 use Rattle.sm_pool.specs.Rounds.{Counts, NoneFell}
 use Rattle.sm_principal.specs.declared.people.People.{People}
 use Rattle.sm_reply.specs.Shown.{Answered}
-use Rattle.sm_seat_traces.specs.Spells.{History}
+use Rattle.sm_seat_traces.specs.SeatTraces.{History}
 use Rattle.sm_session.specs.declared.ended.Ended.{Ended}
 use Rattle.sm_session.specs.declared.ended.Ended.TheVariants as ended
 use Rattle.sm_session.specs.Answer.{heard}

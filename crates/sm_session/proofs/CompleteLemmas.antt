@@ -11,7 +11,7 @@ use Rattle.sm_http.specs.Messages.{Message, End, Closing, Bad, Rest, Messages}
 use Rattle.sm_http.proofs.OneReadingLemmas.{one_reading}
 use Rattle.sm_principal.specs.declared.people.People.{People}
 use Rattle.sm_reply.specs.Shown.{Answered}
-use Rattle.sm_seat_traces.specs.Spells.{History, Spell}
+use Rattle.sm_seat_traces.specs.SeatTraces.{History, SeatTrace}
 use Rattle.sm_lock.specs.Story.{Grows}
 use Rattle.sm_session.specs.declared.ended.Ended.{Ended}
 use Rattle.sm_session.specs.declared.ended.Ended.TheVariants as ended
@@ -58,15 +58,15 @@ counts_grow from (turn ∷ turns) to counts =
     omega (arith, counts.1, counts_grow turn.random.after turns to counts.2)
 
 models : (people : People) (place : Place) (from to : History) (turns : List MessageTurn) (first before after last : ℕ)
-    → Spell turn_shape (Grows (place.seat ∷ [])) place.seat (IsRight people place.base) from turns to
+    → SeatTrace turn_shape (Grows (place.seat ∷ [])) place.seat (IsRight people place.base) from turns to
     → CountsOn before turns after → first ≤ before → after ≤ last → Steady first last → NoFaults turns
     → AreModels people place.base turns
-models people place from to [] first before after last spell counts lower upper steady none = tt
-models people place from to (turn ∷ turns) first before after last spell counts lower upper steady none =
+models people place from to [] first before after last seat_trace counts lower upper steady none = tt
+models people place from to (turn ∷ turns) first before after last seat_trace counts lower upper steady none =
     let later = counts_grow turn.random.after turns after counts.2 in (
-      model_turn _ _ place.base turn.before (heard people turn.message) (brought turn) spell.1 none.0
+      model_turn _ _ place.base turn.before (heard people turn.message) (brought turn) seat_trace.1 none.0
           (λ rose. steady (omega (arith, rose, counts.0, lower, later, upper))),
-      models people place (after_turn place.seat turn) to turns first turn.random.after after last spell.2 counts.2
+      models people place (after_turn place.seat turn) to turns first turn.random.after after last seat_trace.2 counts.2
           (omega (arith, lower, counts.1)) upper steady none.1,
     )
 
@@ -116,6 +116,6 @@ module _ {people : People} {place : Place} {old new : Around} {e : Ended} {items
   pub completes : (session : Serves people place old new e items) → Completes session
   completes session none other faultless = (
     models people place old.own.seen new.own.seen session.turns old.own.random old.own.random new.own.random
-        new.own.random session.spell session.random (omega arith) (omega arith) none.random faultless,
+        new.own.random session.seat_trace session.random (omega arith) (omega arith) none.random faultless,
     first_messages e _ session.stream.ends none.source none.sink other,
   )

@@ -18,8 +18,8 @@ use Rattle.sm_lock.specs.declared.pass.Pass.{Pass}
 use Rattle.sm_lock.specs.declared.storied.Storied.{Ghosts}
 use Rattle.sm_lock.proofs.Stories.{grows-same}
 use Rattle.sm_reply.specs.Shown.{Answered}
-use Rattle.sm_seat_traces.specs.Spells.{History, Spell, marks_in}
-use Rattle.sm_seat_traces.proofs.SpellLaws.{spell_mine}
+use Rattle.sm_seat_traces.specs.SeatTraces.{History, SeatTrace, marks_in}
+use Rattle.sm_seat_traces.proofs.SeatTraceLaws.{trace_mine}
 use Rattle.sm_session.specs.declared.said.Said.{Said}
 use Rattle.sm_session.specs.declared.trace.TraceItem.{TraceItem}
 use Rattle.sm_session.specs.Answer.{Asked}
@@ -112,9 +112,9 @@ passed_behind place wanted old new said said' item seen readings drawn later sam
 module _ {T O : Type 0} {g : Ghosts T O Mark} (gate : Gate T O Mark) (pass after : Pass T O Mark g) where
   pub session_mine : (right : MessageTurn → Type 0) (turns : List MessageTurn) → IsIn gate pass → IsIn gate after
       → number after ≡ number pass
-      → Spell turn_shape (Grows (number pass ∷ [])) (number pass) right (seen pass) turns (seen after)
+      → SeatTrace turn_shape (Grows (number pass ∷ [])) (number pass) right (seen pass) turns (seen after)
       → mine after ≡ mine pass ++ marks_in turn_shape turns
-  session_mine right turns in_gate after_in same spell =
+  session_mine right turns in_gate after_in same seat_trace =
       ap (λ (b : History). entries_of (number after) (drop (length b) (seen after))) (after_in.2 ∙ sym in_gate.2)
       ∙ ap (λ n. entries_of n (drop (length (built pass)) (seen after))) same
-      ∙ spell_mine turn_shape (number pass) right (built pass) (seen pass) (seen after) turns pass.begins spell
+      ∙ trace_mine turn_shape (number pass) right (built pass) (seen pass) (seen after) turns pass.begins seat_trace

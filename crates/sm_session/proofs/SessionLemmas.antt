@@ -17,8 +17,8 @@ use Rattle.sm_lock.specs.Story.{Grows}
 use Rattle.sm_lock.proofs.Stories.{grows-same, grows-trans}
 use Rattle.sm_principal.specs.declared.people.People.{People}
 use Rattle.sm_reply.specs.Shown.{Answered}
-use Rattle.sm_seat_traces.specs.Spells.{History, Spell}
-use Rattle.sm_seat_traces.proofs.SpellLaws.{Joins, spell_more}
+use Rattle.sm_seat_traces.specs.SeatTraces.{History, SeatTrace}
+use Rattle.sm_seat_traces.proofs.SeatTraceLaws.{Joins, trace_with_one}
 use Rattle.sm_session.specs.declared.ended.Ended.{Ended}
 use Rattle.sm_session.specs.declared.ended.Ended.TheVariants as ended
 use Rattle.sm_session.specs.declared.trace.TraceItem.{TraceItem}
@@ -79,7 +79,8 @@ replies_of turns = map (λ turn. turn.reply) turns
 -- What was done for some messages: the turns, all but their stream.
 pub record Done (people : People) (place : Place) (old now : Standing) (turns : List MessageTurn)
     (items : List TraceItem) : Type 0 where
-  pub spell : Spell turn_shape (Grows (place.seat ∷ [])) place.seat (IsRight people place.base) old.seen turns now.seen
+  pub seat_trace : SeatTrace turn_shape (Grows (place.seat ∷ [])) place.seat (IsRight people place.base) old.seen turns
+      now.seen
   pub last : now.seen ≡ seen_after place.seat old.seen turns
   pub still : StandStill place.seat old.seen turns
   pub readings : now.readings ≡ append_known old.readings (told_of turns).readings
@@ -109,7 +110,7 @@ module _ (people : People) (place : Place) where
     turns = [];
     size = refl;
     done = record {
-      spell = grows-same (place.seat ∷ []) old.own.seen;
+      seat_trace = grows-same (place.seat ∷ []) old.own.seen;
       last = refl;
       still = tt;
       readings = sym (append_known-nil old.own.readings);
@@ -136,10 +137,10 @@ module _ (people : People) (place : Place) where
 
     pub done_more : Done people place old new (turns ++ turn_taken ∷ []) (items ++ item ∷ [])
     done_more = record {
-      spell = subst (Spell turn_shape (Grows (place.seat ∷ [])) place.seat (IsRight people place.base) old.seen
+      seat_trace = subst (SeatTrace turn_shape (Grows (place.seat ∷ [])) place.seat (IsRight people place.base) old.seen
           (turns ++ turn_taken ∷ [])) (sym t.taken.stands)
-          (spell_more turn_shape (Grows (place.seat ∷ [])) place.seat (IsRight people place.base)
-          (grows_join place.seat) old.seen now.seen turns turn_taken done.spell t.taken.gap t.taken.right);
+          (trace_with_one turn_shape (Grows (place.seat ∷ [])) place.seat (IsRight people place.base)
+          (grows_join place.seat) old.seen now.seen turns turn_taken done.seat_trace t.taken.gap t.taken.right);
       last = t.taken.stands ∙ sym (seen_more place.seat old.seen turns turn_taken);
       still = still_more place.seat old.seen turns turn_taken done.still (λ none. t.taken.still none ∙ done.last);
       readings = told_more old.readings now.readings new.readings (told_of turns).readings t.taken.told.readings
@@ -158,7 +159,7 @@ module _ (people : People) (place : Place) where
       → Serves people place old new e items
   serves_by old new e turns items done stream = record {
     turns = turns;
-    spell = done.spell;
+    seat_trace = done.seat_trace;
     still = done.still;
     readings = done.readings;
     drawn = done.drawn;

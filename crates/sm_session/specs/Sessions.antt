@@ -14,7 +14,7 @@ use Rattle.sm_http.specs.Messages.{Message}
 use Rattle.sm_lock.specs.Story.{Grows}
 use Rattle.sm_principal.specs.declared.people.People.{People}
 use Rattle.sm_reply.specs.Shown.{Answered}
-use Rattle.sm_seat_traces.specs.Spells.{History, NoGap, Shape, Spell}
+use Rattle.sm_seat_traces.specs.SeatTraces.{History, NoGap, Shape, SeatTrace}
 use Rattle.sm_session.specs.declared.ended.Ended.{Ended}
 use Rattle.sm_session.specs.declared.trace.TraceItem.{TraceItem}
 use Rattle.sm_session.specs.Answer.{Asked, heard}
@@ -110,8 +110,8 @@ item_of turn = item_at (length turn.before) turn.told turn.reply.status
 pub record Serves (people : People) (place : Place) (old new : Around) (ended : Ended) (items : List TraceItem)
     : Type 0 where
   pub turns : List MessageTurn
-  pub spell : Spell turn_shape (Grows (place.seat ∷ [])) place.seat (IsRight people place.base) old.own.seen turns
-      new.own.seen
+  pub seat_trace : SeatTrace turn_shape (Grows (place.seat ∷ [])) place.seat (IsRight people place.base) old.own.seen
+      turns new.own.seen
   pub still : StandStill place.seat old.own.seen turns
   pub readings : new.own.readings ≡ append_known old.own.readings (told_of turns).readings
   pub drawn : new.own.drawn ≡ append_known old.own.drawn (told_of turns).drawn

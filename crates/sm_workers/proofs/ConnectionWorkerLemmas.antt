@@ -8,8 +8,8 @@ use Rattle.sm_lock.specs.Story.{Grows}
 use Rattle.sm_principal.specs.declared.people.People.{People}
 use Rattle.sm_session.specs.Endings.{Sides}
 use Rattle.sm_session.specs.Sessions.{Place, Standing, IsRight, turn_shape}
-use Rattle.sm_seat_traces.specs.Spells.{Spell}
-use Rattle.sm_seat_traces.proofs.SpellLaws.{spells_join}
+use Rattle.sm_seat_traces.specs.SeatTraces.{SeatTrace}
+use Rattle.sm_seat_traces.proofs.SeatTraceLaws.{traces_join}
 use Rattle.sm_workers.specs.declared.worker.ConnEnd.{ConnEnd}
 use Rattle.sm_workers.specs.Chains.{Chain, Waits}
 use Rattle.sm_workers.specs.ConnectionWorkers.{ConnectionWorkerDid, EdgeState}
@@ -25,19 +25,19 @@ module _ {K : Type 0} (sides : K → Sides) (people : People) (place : Place) wh
   abbrev Follow : Standing → Visits → Standing → Type 0
   Follow = Chain (Waits place.seat) (λ (visit : Visit sides people place). visit.from) (λ visit. visit.to)
 
-  -- the turns of visits are one spell
-  pub visits_spell : (from to : Standing) (visits : Visits) → Follow from visits to
-      → Spell turn_shape (Grows (place.seat ∷ [])) place.seat (IsRight people place.base) from.seen
+  -- the turns of visits are one trace
+  pub visits_trace : (from to : Standing) (visits : Visits) → Follow from visits to
+      → SeatTrace turn_shape (Grows (place.seat ∷ [])) place.seat (IsRight people place.base) from.seen
       (turns_in sides people place visits) to.seen
-  visits_spell from to [] chain = chain.seen
-  visits_spell from to (visit ∷ visits) chain =
+  visits_trace from to [] chain = chain.seen
+  visits_trace from to (visit ∷ visits) chain =
       let right = IsRight people place.base in
       let gap = Grows (place.seat ∷ []) in
-      spells_join turn_shape gap place.seat right (joins place.seat) from.seen visit.from.seen to.seen []
+      traces_join turn_shape gap place.seat right (joins place.seat) from.seen visit.from.seen to.seen []
       (visit.session.turns ++ turns_in sides people place visits) chain.0.seen
-      (spells_join turn_shape gap place.seat right (joins place.seat) visit.from.seen visit.to.seen to.seen
-      visit.session.turns (turns_in sides people place visits) visit.session.spell
-      (visits_spell visit.to to visits chain.1))
+      (traces_join turn_shape gap place.seat right (joins place.seat) visit.from.seen visit.to.seen to.seen
+      visit.session.turns (turns_in sides people place visits) visit.session.seat_trace
+      (visits_trace visit.to to visits chain.1))
 
   -- the count of the random source does not fall
   pub visits_random : (from to : Standing) (visits : Visits) → Follow from visits to → from.random ≤ to.random
@@ -111,7 +111,7 @@ module _ {K : Type 0} (sides : K → Sides) (people : People) (place : Place) wh
       handed = so_far.handed;
       back = so_far.back;
       chain = so_far.chain;
-      spell = visits_spell from mid so_far.visits so_far.chain;
+      seat_trace = visits_trace from mid so_far.visits so_far.chain;
       later = so_far.later;
       random_later = visits_random from mid so_far.visits so_far.chain;
     }

@@ -9,8 +9,8 @@ use Rattle.sm_pool.specs.Rounds.{ComesToRest}
 use Rattle.sm_pool.specs.Turns.{TurnDone, holds_of}
 use Rattle.sm_rotation.specs.Vouched.{Replies}
 use Rattle.sm_session.specs.Sessions.{Place}
-use Rattle.sm_seat_traces.specs.Spells.{Spell}
-use Rattle.sm_seat_traces.proofs.SpellLaws.{spells_join}
+use Rattle.sm_seat_traces.specs.SeatTraces.{SeatTrace}
+use Rattle.sm_seat_traces.proofs.SeatTraceLaws.{traces_join}
 use Rattle.sm_workers.specs.Chains.{Chain}
 use Rattle.sm_workers.specs.RotationWorkers.{ComeToRest, NoneFell, Post, Turn, RotationWorkerDid, WaitsAt, holds_in, passing}
 use Rattle.sm_workers.proofs.ChainLemmas.{chain_more, chain_on, joins, waits_at_both, waits_at_still}
@@ -22,19 +22,19 @@ module _ (replies : Replies) (place : Place) where
   abbrev Follow : Post → Turns → Post → Type 0
   Follow = Chain (WaitsAt place.seat) (λ (turn : Turn replies place). turn.from) (λ turn. turn.to)
 
-  -- the holds of turns are one spell
-  pub turns_spell : (from to : Post) (turns : Turns) → Follow from turns to
-      → Spell hold_shape (Grows (place.seat ∷ [])) place.seat (λ hold. ⊤) from.own.seen (holds_in replies place turns)
-      to.own.seen
-  turns_spell from to [] chain = chain.own.seen
-  turns_spell from to (turn ∷ turns) chain =
+  -- the holds of turns are one trace
+  pub turns_trace : (from to : Post) (turns : Turns) → Follow from turns to
+      → SeatTrace hold_shape (Grows (place.seat ∷ [])) place.seat (λ hold. ⊤) from.own.seen
+      (holds_in replies place turns) to.own.seen
+  turns_trace from to [] chain = chain.own.seen
+  turns_trace from to (turn ∷ turns) chain =
       let gap = Grows (place.seat ∷ []) in
       let own = holds_of turn.turn.course in
       let more = holds_in replies place turns in
-      spells_join hold_shape gap place.seat (λ hold. ⊤) (joins place.seat) from.own.seen turn.from.own.seen to.own.seen
+      traces_join hold_shape gap place.seat (λ hold. ⊤) (joins place.seat) from.own.seen turn.from.own.seen to.own.seen
       [] (own ++ more) chain.0.own.seen
-      (spells_join hold_shape gap place.seat (λ hold. ⊤) (joins place.seat) turn.from.own.seen turn.to.own.seen
-      to.own.seen own more turn.turn.spell (turns_spell turn.to to turns chain.1))
+      (traces_join hold_shape gap place.seat (λ hold. ⊤) (joins place.seat) turn.from.own.seen turn.to.own.seen
+      to.own.seen own more turn.turn.seat_trace (turns_trace turn.to to turns chain.1))
 
   -- no count falls
   pub turns_later : (from to : Post) (turns : Turns) → Follow from turns to → NoneFell from to
@@ -93,7 +93,7 @@ module _ (replies : Replies) (place : Place) where
         turns = so_far.turns ++ turned ∷ [];
         rests = rests_more so_far.turns turned rests;
         chain = longer;
-        spell = turns_spell from to (so_far.turns ++ turned ∷ []) longer;
+        seat_trace = turns_trace from to (so_far.turns ++ turned ∷ []) longer;
         later = turns_later from to (so_far.turns ++ turned ∷ []) longer;
       }
 

@@ -11,8 +11,8 @@ use Rattle.sm_model.specs.declared.entry.Mark.{Mark}
 use Rattle.sm_pool.specs.Holds.{hold_shape}
 use Rattle.sm_principal.specs.declared.people.People.{People}
 use Rattle.sm_session.specs.Sessions.{IsRight, Place, Standing, turn_shape}
-use Rattle.sm_seat_traces.specs.Spells.{History}
-use Rattle.sm_seat_traces.proofs.SpellLaws.{spell_mine, spell_on}
+use Rattle.sm_seat_traces.specs.SeatTraces.{History}
+use Rattle.sm_seat_traces.proofs.SeatTraceLaws.{trace_mine, trace_goes_on}
 use Rattle.sm_workers.specs.declared.worker.Task.{Task}
 use Rattle.sm_workers.specs.declared.worker.Task.TheVariants.{Door, Turner}
 use Rattle.sm_workers.specs.declared.worker.WorkerBy.{WorkerBy}
@@ -30,11 +30,11 @@ module _ {E K C W R : Type 0} (views : Views E K C W R) (people : People) (place
       → entries_of place.seat (drop (length built) to.seen)
       ≡ entries_of place.seat (drop (length built) from.seen) ++ marks_by views people place old new from to did
   did_mine built (Door old) (Door new) from to did begins =
-      spell_mine turn_shape place.seat (IsRight people place.base) built from.seen to.seen
-      (turns_in views.sides people place did.visits) begins did.spell
+      trace_mine turn_shape place.seat (IsRight people place.base) built from.seen to.seen
+      (turns_in views.sides people place did.visits) begins did.seat_trace
   did_mine built (Turner old) (Turner new) from to did begins =
-      spell_mine hold_shape place.seat (λ hold. ⊤) built from.seen to.seen (holds_in views.replies place did.turns)
-      begins did.spell
+      trace_mine hold_shape place.seat (λ hold. ⊤) built from.seen to.seen (holds_in views.replies place did.turns)
+      begins did.seat_trace
   did_mine built (Door old) (Turner new) from to did begins = absurd did
   did_mine built (Turner old) (Door new) from to did begins = absurd did
 
@@ -48,8 +48,9 @@ module _ {E K C W R : Type 0} (views : Views E K C W R) (people : People) (place
     back = did.back;
     chain = chain_on (Waits place.seat) (λ (v : Visit views.sides people place). v.from) (λ v. v.to)
         (waits_both place.seat) from to later did.visits did.chain waits;
-    spell = spell_on turn_shape (Grows (place.seat ∷ [])) place.seat (IsRight people place.base) (joins place.seat)
-        from.seen to.seen later.seen (turns_in views.sides people place did.visits) did.spell waits.seen;
+    seat_trace = trace_goes_on turn_shape (Grows (place.seat ∷ [])) place.seat (IsRight people place.base)
+        (joins place.seat)
+        from.seen to.seen later.seen (turns_in views.sides people place did.visits) did.seat_trace waits.seen;
     later = did.later;
     random_later = omega (arith, did.random_later, waits.random);
   }
@@ -60,8 +61,8 @@ module _ {E K C W R : Type 0} (views : Views E K C W R) (people : People) (place
         (waits_at_both place.seat) (record { own = from; rotator = views.rotator old })
         (record { own = to; rotator = views.rotator new }) (record { own = later; rotator = views.rotator new })
         did.turns did.chain (record { own = waits; rotator = refl });
-    spell = spell_on hold_shape (Grows (place.seat ∷ [])) place.seat (λ hold. ⊤) (joins place.seat) from.seen to.seen
-        later.seen (holds_in views.replies place did.turns) did.spell waits.seen;
+    seat_trace = trace_goes_on hold_shape (Grows (place.seat ∷ [])) place.seat (λ hold. ⊤) (joins place.seat) from.seen
+        to.seen later.seen (holds_in views.replies place did.turns) did.seat_trace waits.seen;
     later = record {
       random = omega (arith, did.later.random, waits.random);
       rotator = did.later.rotator;

@@ -6,7 +6,7 @@ use Rattle.sm_lock.specs.Story.{Grows}
 use Rattle.sm_principal.specs.declared.people.People.{People}
 use Rattle.sm_session.specs.Endings.{Sides}
 use Rattle.sm_session.specs.Sessions.{Place, Standing, IsRight, turn_shape}
-use Rattle.sm_seat_traces.specs.Spells.{Spell}
+use Rattle.sm_seat_traces.specs.SeatTraces.{SeatTrace}
 use Rattle.sm_workers.specs.declared.worker.ConnEnd.{ConnEnd}
 use Rattle.sm_workers.specs.Chains.{Chain, Waits}
 use Rattle.sm_workers.specs.Known.{told_ahead, told_behind}
@@ -26,14 +26,14 @@ EndsConnectionWorker false old new = NoneLeft new.left
 
 module _ {K : Type 0} (sides : K → Sides) (people : People) (place : Place) where
   -- The visits of a connection worker, one after the other. They are of the first connections that were left, in their
-  -- order; each of these was handed out and came back. The turns of all visits are one spell of the seat.
+  -- order; each of these was handed out and came back. The turns of all visits are one trace of the seat.
   pub record ConnectionWorkerDid (old new : EdgeState K) (from to : Standing) : Type 0 where
     pub visits : List (Visit sides people place)
     pub left : old.left ≡ told_ahead (map (λ visit. visit.conn) visits) new.left
     pub handed : new.handed ≡ told_behind old.handed (map (λ visit. visit.conn) visits)
     pub back : new.back ≡ told_behind old.back (map (λ visit. (visit.came, visit.note)) visits)
     pub chain : Chain (Waits place.seat) (λ visit. visit.from) (λ visit. visit.to) from visits to
-    pub spell : Spell turn_shape (Grows (place.seat ∷ [])) place.seat (IsRight people place.base) from.seen
+    pub seat_trace : SeatTrace turn_shape (Grows (place.seat ∷ [])) place.seat (IsRight people place.base) from.seen
         (turns_in sides people place visits) to.seen
     pub later : old.faults ≤ new.faults
     pub random_later : from.random ≤ to.random

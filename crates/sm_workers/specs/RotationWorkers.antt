@@ -8,7 +8,7 @@ use Rattle.sm_pool.specs.Rounds.{ComesToRest}
 use Rattle.sm_pool.specs.Turns.{Passing, TurnDone, holds_of}
 use Rattle.sm_rotation.specs.Vouched.{Replies}
 use Rattle.sm_session.specs.Sessions.{Place, Standing}
-use Rattle.sm_seat_traces.specs.Spells.{Spell}
+use Rattle.sm_seat_traces.specs.SeatTraces.{SeatTrace}
 use Rattle.sm_workers.specs.Chains.{Chain, Waits}
 
 -- a standing, and how often the rotator has failed
@@ -56,11 +56,11 @@ module _ (replies : Replies) (place : Place) where
   ComeToRest (turn ∷ []) = ComesToRest turn.done
   ComeToRest (turn ∷ next ∷ turns) = ComeToRest (next ∷ turns)
 
-  -- The turns, one after the other, of which the last came to rest. Their holds are one spell of the seat.
+  -- The turns, one after the other, of which the last came to rest. Their holds are one trace of the seat.
   pub record RotationWorkerDid (from to : Post) : Type 0 where
     pub turns : List Turn
     pub rests : ComeToRest turns
     pub chain : Chain (WaitsAt place.seat) (λ turn. turn.from) (λ turn. turn.to) from turns to
-    pub spell : Spell hold_shape (Grows (place.seat ∷ [])) place.seat (λ hold. ⊤) from.own.seen (holds_in turns)
-        to.own.seen
+    pub seat_trace : SeatTrace hold_shape (Grows (place.seat ∷ [])) place.seat (λ hold. ⊤) from.own.seen
+        (holds_in turns) to.own.seen
     pub later : NoneFell from to

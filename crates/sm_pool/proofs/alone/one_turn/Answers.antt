@@ -1,7 +1,7 @@
 use Rattle.std.proofs.Common.{refl, sym, subst, inl}
 use Rattle.sm_account.specs.Accounts.{base, history}
 use Rattle.sm_account.specs.States.{Base}
-use Rattle.sm_seat_traces.specs.Spells.{NoGap}
+use Rattle.sm_seat_traces.specs.SeatTraces.{NoGap}
 use Rattle.sm_pool.specs.Asking.{Asking}
 use Rattle.sm_pool.specs.Turns.{Passing, StartDone, WorkDone}
 use Rattle.sm_pool.proofs.AloneLemmas.{never_stale}

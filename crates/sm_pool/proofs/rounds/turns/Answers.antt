@@ -2,7 +2,7 @@ use Rattle.std.proofs.Common.{◌≡◌, true, false, refl, sym, subst, ◌∙�
 use Rattle.sm_account.specs.Accounts.{history, base, disk}
 use Rattle.sm_account.specs.States.{Base}
 use Rattle.sm_rotation.specs.Vouched.{Replies}
-use Rattle.sm_seat_traces.specs.Spells.{NoGap}
+use Rattle.sm_seat_traces.specs.SeatTraces.{NoGap}
 use Rattle.sm_pool.specs.declared.done.Done.{Done}
 use Rattle.sm_pool.specs.Alone.{IsStale}
 use Rattle.sm_pool.specs.Rounds.{Point, Turned, goes_on}

@@ -45,7 +45,7 @@ returns-in-Work-clause-turn g c =
     (rw c.in-Work.work-is at c.work_behind.ensures.does)) in (
       told.0,
       holds_mine c.args.gate.now pass c.work_behind.result.pass (holds_of told.0.course) c.requires
-          c.work_behind.ensures.gate (c.work_behind.ensures.number ∙ looked.ensures.number) told.0.spell,
+          c.work_behind.ensures.gate (c.work_behind.ensures.number ∙ looked.ensures.number) told.0.seat_trace,
       told.1,
     )
 
@@ -89,7 +89,7 @@ returns-in-Due-clause-turn g c =
     looked.ensures.number c.draw_behind.ensures.starts) (asks_none (g.R.Rotator.told c.args.rotator.now)) in (
       told.0,
       holds_mine c.args.gate.now pass c.draw_behind.result.pass (holds_of told.0.course) c.requires
-          c.draw_behind.ensures.gate (c.draw_behind.ensures.number ∙ looked.ensures.number) told.0.spell,
+          c.draw_behind.ensures.gate (c.draw_behind.ensures.number ∙ looked.ensures.number) told.0.seat_trace,
       told.1,
     )
 
@@ -126,7 +126,7 @@ returns-in-Nothing-clause-turn g c =
     (sym (append_known-nil (g.W.Words.drawn c.args.words.now))) (asks_none (g.R.Rotator.told c.args.rotator.now)) in (
       told.0,
       holds_mine c.args.gate.now pass c.look_behind-pass.result.pass (holds_of told.0.course) c.requires
-          looked.ensures.gate looked.ensures.number told.0.spell,
+          looked.ensures.gate looked.ensures.number told.0.seat_trace,
       told.1,
     )
 
@@ -158,7 +158,7 @@ returns-in-Memory-clause-turn g c =
     (sym (append_known-nil (g.W.Words.drawn c.args.words.now))) (asks_none (g.R.Rotator.told c.args.rotator.now)) in (
       told.0,
       holds_mine c.args.gate.now pass c.look_behind-pass.result.pass (holds_of told.0.course) c.requires
-          looked.ensures.gate looked.ensures.number told.0.spell,
+          looked.ensures.gate looked.ensures.number told.0.seat_trace,
       told.1,
     )
 

@@ -12,6 +12,6 @@ returns-clause-served g c =
       session,
       session_mine c.args.gate.now c.args.pass left.result.pass
           (IsRight c.args.people.now (base (built_with c.args.gate.now))) session.turns c.requires left.ensures.gate
-          left.ensures.number session.spell,
+          left.ensures.number session.seat_trace,
       completes session,
     )

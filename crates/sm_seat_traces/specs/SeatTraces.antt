@@ -25,9 +25,9 @@ module _ {T : Type 0} (shape : Shape T) (gap : History → History → Type 0) (
 
   -- The things, from one history to another: each is right, stands where a gap lies behind the thing before it, and
   -- leaves its marks there.
-  abbrev pub Spell : History → List T → History → Type 0
-  Spell from [] to = gap from to
-  Spell from (x ∷ xs) to = gap from (shape.before x) × right x × Spell (behind x) xs to
+  abbrev pub SeatTrace : History → List T → History → Type 0
+  SeatTrace from [] to = gap from to
+  SeatTrace from (x ∷ xs) to = gap from (shape.before x) × right x × SeatTrace (behind x) xs to
 
 -- the marks of things
 abbrev pub marks_in : {T : Type 0} → Shape T → List T → List Mark
