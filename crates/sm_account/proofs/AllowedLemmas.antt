@@ -10,9 +10,9 @@ use Rattle.sm_core.specs.Vouching.{EachAllowed}
 use Rattle.sm_opening.specs.Lawful.{made_of}
 use Rattle.sm_rotation.specs.Vouched.{Replies}
 use Rattle.sm_store.specs.Held.{Held}
-use Rattle.sm_account.specs.declared.books.Books.{Books}
+use Rattle.sm_account.specs.declared.account_state.AccountState.{AccountState}
 use Rattle.sm_account.specs.Allowed.{DeedAllowed, EntriesAllowed, IsAllowedAt}
-use Rattle.sm_account.specs.Books.{Kept, base_in, history_in, state_in}
+use Rattle.sm_account.specs.AccountState.{Kept, base_in, history_in, state_in}
 use Rattle.sm_account.specs.Deeds.{Deed, Nothing, Claimed, Made, Failed, FailedBy, Leaves, StaysBy, marks_by}
 use Rattle.sm_account.specs.History.{by_seat, entries_in}
 use Rattle.sm_account.specs.States.{State}
@@ -24,7 +24,7 @@ each_more replies rows [] entry each allowed = (allowed, tt)
 each_more replies rows (e ∷ made) entry each allowed =
     (each.0, each_more replies (effect rows e) made entry each.1 allowed)
 
-module _ {D : Type 0} {G : Ghosts D} (replies : Replies) (old new : Books D G) (seat : ℕ) (kept : Kept G old)
+module _ {D : Type 0} {G : Ghosts D} (replies : Replies) (old new : AccountState D G) (seat : ℕ) (kept : Kept G old)
     (allowed : EntriesAllowed replies old) where
   -- the entries of the history after a deed
   made_by : (deed : Deed) → DeedAllowed replies old.table deed

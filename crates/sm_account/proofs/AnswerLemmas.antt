@@ -8,11 +8,11 @@ use Rattle.sm_model.specs.declared.reply.Reply.{Reply}
 use Rattle.sm_model.specs.declared.rows.Rows.{Rows}
 use Rattle.sm_model.specs.declared.why.Why.{Why}
 use Rattle.sm_rotation.specs.Vouched.{Replies as Relation}
-use Rattle.sm_account.specs.declared.books.Books.{Books}
+use Rattle.sm_account.specs.declared.account_state.AccountState.{AccountState}
 use Rattle.sm_account.specs.declared.handled.Handled.{Handled}
 use Rattle.sm_account.specs.declared.handled.Handled.TheVariants as handled
 use Rattle.sm_account.specs.Allowed.{DeedAllowed, EntriesAllowed, IsAllowedAt}
-use Rattle.sm_account.specs.Books.{Kept, base_in, history_in, state_in}
+use Rattle.sm_account.specs.AccountState.{Kept, base_in, history_in, state_in}
 use Rattle.sm_account.specs.Deeds.{Leaves}
 use Rattle.sm_account.specs.Handled.{HandledAs, marks_of}
 use Rattle.sm_account.specs.Handling.{Handles, handled_by}
@@ -60,7 +60,7 @@ module _ (replies : Relation) (rows : Rows) where
       deed_allowed result (outcome state q)
       (judged_asked state q (considered state.rows q.person (moment_at state q) q.drawn q.request))
 
-module _ {D : Type 0} {G : Ghosts D} (old new : Books D G) (seat : ℕ) (q : Question) (result : Handled)
+module _ {D : Type 0} {G : Ghosts D} (old new : AccountState D G) (seat : ℕ) (q : Question) (result : Handled)
     (kept : Kept G old) (h : Handles G old new seat result (outcome (state_in old) q)) where
   wanted : Outcome
   wanted = outcome (state_at (base_in old) (history_in old)) q

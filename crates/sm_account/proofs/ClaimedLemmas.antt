@@ -1,4 +1,4 @@
--- The books once a step of a rotation was claimed.
+-- The account's state once a step of a rotation was claimed.
 use Rattle.std.proofs.Common.{◌≡◌, ℕ, ◌+◌, ◌≤◌, List, ◌++◌, ◌∷◌, [], Option, Some, None, IsSomeAnd, option_map, length, sym, ap, ◌∙◌, subst, append-nil, arith}
 use Rattle.std.proofs.Math.Logic.{∥∥₁_map}
 use Rattle.sm_base.specs.declared.moment.Moment.{Moment}
@@ -17,9 +17,9 @@ use Rattle.sm_rotator.specs.declared.work.Work.{Work}
 use Rattle.sm_opening.specs.Lawful.{IsLawful, MayFollowIf}
 use Rattle.sm_store.specs.BaseStores as stores
 use Rattle.sm_store.specs.Held.{Held}
-use Rattle.sm_account.specs.declared.books.Books.{Books}
+use Rattle.sm_account.specs.declared.account_state.AccountState.{AccountState}
 use Rattle.sm_account.specs.declared.next_work.NextWork.TheVariants as works
-use Rattle.sm_account.specs.Books.{FaultsBound, Kept, all_held, base_in, disk_in, history_in, with_entries}
+use Rattle.sm_account.specs.AccountState.{FaultsBound, Kept, all_held, base_in, disk_in, history_in, with_entries}
 use Rattle.sm_account.specs.Claims.{ClaimsReady, ClaimsReadyStep, ClaimsStand, IsAtStep}
 use Rattle.sm_account.specs.History.{entries_in, faults_in}
 use Rattle.sm_account.specs.NextWork.{NextAs, claim_by}
@@ -63,16 +63,16 @@ none_is found ready none are = of found (subst (AreWorkOf found) none are)
     of (Some row) are = absurd are
 
 -- what is ready by the claims that stand is ready by the history
-pub ready_same : {D : Type 0} {G : Ghosts D} (books : Books D G) (kept : Kept G books) (moment : Moment)
-    (claims : List standing) → claims ≡ books.claims.items → books.last.0 ≤ moment.0
-    → first_ready (claim_marks claims) moment books.table.secrets
-    ≡ first_ready (history_in books) moment books.table.secrets
-ready_same books kept moment claims are later =
-    ap (λ cs. first_ready (claim_marks cs) moment books.table.secrets) are
-    ∙ sym (ready_alike (history_in books) (claim_marks books.claims.items) moment
-    (λ arn job. kept.stand arn job moment later) books.table.secrets)
+pub ready_same : {D : Type 0} {G : Ghosts D} (inner : AccountState D G) (kept : Kept G inner) (moment : Moment)
+    (claims : List standing) → claims ≡ inner.claims.items → inner.last.0 ≤ moment.0
+    → first_ready (claim_marks claims) moment inner.table.secrets
+    ≡ first_ready (history_in inner) moment inner.table.secrets
+ready_same inner kept moment claims are later =
+    ap (λ cs. first_ready (claim_marks cs) moment inner.table.secrets) are
+    ∙ sym (ready_alike (history_in inner) (claim_marks inner.claims.items) moment
+    (λ arn job. kept.stand arn job moment later) inner.table.secrets)
 
-module _ {D : Type 0} {G : Ghosts D} (old new : Books D G) (seat : ℕ) (work : Work) (moment : Moment)
+module _ {D : Type 0} {G : Ghosts D} (old new : AccountState D G) (seat : ℕ) (work : Work) (moment : Moment)
     (rest : new ≡ record old { claims = new.claims; told = new.told; marks = new.marks })
     (history : history_in new ≡ history_in old ++ (seat, Claim work.arn work.at moment) ∷ [])
     (counted : new.marks ≡ old.marks + 1)

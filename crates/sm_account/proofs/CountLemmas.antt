@@ -10,8 +10,8 @@ use Rattle.sm_replay.specs.Following.{entries_limit}
 use Rattle.sm_replay.proofs.FollowLemmas.{after_count}
 use Rattle.sm_sound.specs.Bases.{IsSound}
 use Rattle.sm_table.proofs.PropLemmas.{Sound-prop}
-use Rattle.sm_account.specs.declared.books.Books.{Books}
-use Rattle.sm_account.specs.Books.{Kept, history_in, state_in}
+use Rattle.sm_account.specs.declared.account_state.AccountState.{AccountState}
+use Rattle.sm_account.specs.AccountState.{Kept, history_in, state_in}
 use Rattle.sm_account.specs.History.{entries_in}
 use Rattle.sm_account.specs.States.{State}
 
@@ -19,21 +19,21 @@ use Rattle.sm_account.specs.States.{State}
 sound_prop : (base : Base) → IsProp (IsSound base)
 sound_prop base = Prim.hlevel (Sound-prop, props)
 
-module _ {D : Type 0} {G : Ghosts D} (books : Books D G) (kept : Kept G books) where
+module _ {D : Type 0} {G : Ghosts D} (inner : AccountState D G) (kept : Kept G inner) where
   -- the entries behind the base, and those before it
-  pub counted_in : books.base.entries + length books.entries.items ≡ (state_in books).before + books.made
+  pub counted_in : inner.base.entries + length inner.entries.items ≡ (state_in inner).before + inner.made
   counted_in =
       omega (
         arith,
         ap (λ (b : Base). b.entries) kept.based,
         ap length kept.whole,
-        length-append books.taken.value.entries (entries_in (history_in books)),
-        after_count (base_under books.taken.value.base) books.taken.value.entries,
+        length-append inner.taken.value.entries (entries_in (history_in inner)),
+        after_count (base_under inner.taken.value.base) inner.taken.value.entries,
         ap (λ (s : State). s.made) kept.state,
       )
 
   -- they can be counted
-  pub count_fits : books.base.entries + length books.entries.items ≤ entries_limit
+  pub count_fits : inner.base.entries + length inner.entries.items ≤ entries_limit
   count_fits = ∥∥₁_elim kept.lawful le_prop
       (λ lawful. omega (
         arith,
@@ -42,6 +42,6 @@ module _ {D : Type 0} {G : Ghosts D} (books : Books D G) (kept : Kept G books) w
         lawful.come.counted,
       ))
 
-  pub kept_base : IsSound books.base
+  pub kept_base : IsSound inner.base
   kept_base = subst IsSound (sym kept.based)
-      (∥∥₁_elim kept.lawful (sound_prop (base_under books.taken.value.base)) (λ lawful. lawful.sound))
+      (∥∥₁_elim kept.lawful (sound_prop (base_under inner.taken.value.base)) (λ lawful. lawful.sound))

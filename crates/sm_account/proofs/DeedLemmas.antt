@@ -1,4 +1,4 @@
--- What calls leave of the books.
+-- What calls leave of the account's state.
 use Rattle.std.proofs.Common.{◌≡◌, ◌⊎◌, ℕ, ◌≤◌, [], ◌∷◌, ◌++◌, List, Option, Some, None, is_some, IsSome, false, inl, inr, refl, sym, ap, ◌∙◌, subst, append-nil, arith}
 use Rattle.sm_base.specs.Faults.{Rose}
 use Rattle.sm_base.specs.declared.moment.Moment.{Moment}
@@ -6,16 +6,16 @@ use Rattle.sm_disk.specs.declared.disk.Disk.{Ghosts}
 use Rattle.sm_model.specs.declared.entry.At.{At}
 use Rattle.sm_model.specs.declared.entry.Entry.{Entry as entries}
 use Rattle.sm_model.specs.declared.entry.Mark.TheVariants.{Entry, Claim, Fault}
-use Rattle.sm_account.specs.declared.books.Books.{Books}
-use Rattle.sm_account.specs.Books.{SameOrigin, all_held, disk_in, history_in, state_in}
+use Rattle.sm_account.specs.declared.account_state.AccountState.{AccountState}
+use Rattle.sm_account.specs.AccountState.{SameOrigin, all_held, disk_in, history_in, state_in}
 use Rattle.sm_account.specs.Crashes.{Throughout}
 use Rattle.sm_account.specs.Deeds.{Deed, Nothing, Claimed, Made, Failed, FailedBy, IfFailed, Leaves, LeavesTried, StaysBy, tried_by}
 use Rattle.sm_account.specs.Growing.{SameButRoom}
 
 -- nothing was done
-pub nothing_done : {D : Type 0} {G : Ghosts D} (books : Books D G) (seat : ℕ) → Leaves G books books seat Nothing
-nothing_done books seat = record {
-  history = sym (append-nil (history_in books));
+pub nothing_done : {D : Type 0} {G : Ghosts D} (inner : AccountState D G) (seat : ℕ) → Leaves G inner inner seat Nothing
+nothing_done inner seat = record {
+  history = sym (append-nil (history_in inner));
   origin = record { taken = refl; began = refl; limit = refl };
   stays = (refl, refl);
   failed = refl;
@@ -25,25 +25,25 @@ nothing_done books seat = record {
 }
 
 -- only room was taken
-module _ {D : Type 0} {G : Ghosts D} (old new : Books D G) (seat : ℕ)
+module _ {D : Type 0} {G : Ghosts D} (old new : AccountState D G) (seat : ℕ)
     (rest : new ≡ record old { entries = new.entries; claims = new.claims }) where
   pub room_taken : Leaves G old new seat Nothing
   room_taken = record {
     history = ap history_in rest ∙ sym (append-nil (history_in old));
     origin = record {
-      taken = ap (λ (b : Books D G). b.taken.value) rest;
-      began = ap (λ (b : Books D G). b.began.value) rest;
-      limit = ap (λ (b : Books D G). b.limit) rest;
+      taken = ap (λ (b : AccountState D G). b.taken.value) rest;
+      began = ap (λ (b : AccountState D G). b.began.value) rest;
+      limit = ap (λ (b : AccountState D G). b.limit) rest;
     };
-    stays = (ap state_in rest, ap (λ (b : Books D G). b.store) rest);
-    failed = ap (λ (b : Books D G). b.failed.value) rest;
-    any_moment = ap (λ (b : Books D G). b.store) rest;
-    later = omega (arith, ap (λ (b : Books D G). G.faults (disk_in b)) rest);
+    stays = (ap state_in rest, ap (λ (b : AccountState D G). b.store) rest);
+    failed = ap (λ (b : AccountState D G). b.failed.value) rest;
+    any_moment = ap (λ (b : AccountState D G). b.store) rest;
+    later = omega (arith, ap (λ (b : AccountState D G). G.faults (disk_in b)) rest);
     fault = tt;
   }
 
 -- a claim was added
-module _ {D : Type 0} {G : Ghosts D} (old new : Books D G) (seat : ℕ)
+module _ {D : Type 0} {G : Ghosts D} (old new : AccountState D G) (seat : ℕ)
     (rest : new ≡ record old { claims = new.claims; told = new.told; marks = new.marks }) where
   pub claim_added : (arn : List ℕ) (at : At) (moment : Moment)
       → history_in new ≡ history_in old ++ (seat, Claim arn at moment) ∷ []
@@ -51,19 +51,19 @@ module _ {D : Type 0} {G : Ghosts D} (old new : Books D G) (seat : ℕ)
   claim_added arn at moment history = record {
     history = history;
     origin = record {
-      taken = ap (λ (b : Books D G). b.taken.value) rest;
-      began = ap (λ (b : Books D G). b.began.value) rest;
-      limit = ap (λ (b : Books D G). b.limit) rest;
+      taken = ap (λ (b : AccountState D G). b.taken.value) rest;
+      began = ap (λ (b : AccountState D G). b.began.value) rest;
+      limit = ap (λ (b : AccountState D G). b.limit) rest;
     };
-    stays = (ap state_in rest, ap (λ (b : Books D G). b.store) rest);
-    failed = ap (λ (b : Books D G). b.failed.value) rest;
-    any_moment = ap (λ (b : Books D G). b.store) rest;
-    later = omega (arith, ap (λ (b : Books D G). G.faults (disk_in b)) rest);
+    stays = (ap state_in rest, ap (λ (b : AccountState D G). b.store) rest);
+    failed = ap (λ (b : AccountState D G). b.failed.value) rest;
+    any_moment = ap (λ (b : AccountState D G). b.store) rest;
+    later = omega (arith, ap (λ (b : AccountState D G). G.faults (disk_in b)) rest);
     fault = tt;
   }
 
 -- room for an entry changes nothing that is told
-module _ {D : Type 0} {G : Ghosts D} (old mid new : Books D G) (seat : ℕ) (room : SameButRoom old mid) where
+module _ {D : Type 0} {G : Ghosts D} (old mid new : AccountState D G) (seat : ℕ) (room : SameButRoom old mid) where
   stays_at : (deed : Deed) → StaysBy deed (record old { entries = mid.entries; claims = mid.claims }) new
       → StaysBy deed old new
   stays_at Nothing stays = stays
@@ -99,7 +99,8 @@ module _ {D : Type 0} {G : Ghosts D} (old mid new : Books D G) (seat : ℕ) (roo
       }
 
 -- an entry was made, or the disk failed at it
-module _ {D : Type 0} {G : Ghosts D} (old new : Books D G) (seat : ℕ) (entry : entries) (origin : SameOrigin old new)
+module _ {D : Type 0} {G : Ghosts D} (old new : AccountState D G) (seat : ℕ) (entry : entries)
+    (origin : SameOrigin old new)
     (any_moment : Throughout G (all_held old) old.failed.value entry (disk_in old) (disk_in new))
     (later : G.faults (disk_in old) ≤ G.faults (disk_in new)) where
   pub entry_made : history_in new ≡ history_in old ++ (seat, Entry entry) ∷ [] → new.failed.value ≡ None
@@ -128,7 +129,7 @@ module _ {D : Type 0} {G : Ghosts D} (old new : Books D G) (seat : ℕ) (entry :
   }
 
 -- an entry whose write failed is there after a deed only where one was before, or where the disk failed
-module _ {D : Type 0} {G : Ghosts D} (old new : Books D G) (seat : ℕ) where
+module _ {D : Type 0} {G : Ghosts D} (old new : AccountState D G) (seat : ℕ) where
   abbrev HasRisen : Type 0
   HasRisen = Rose (G.faults (disk_in old)) (G.faults (disk_in new))
 

@@ -16,7 +16,7 @@ use Rattle.sm_model.specs.declared.rows.SecretRow.{SecretRow}
 use Rattle.sm_replay.specs.Following.{entries_limit}
 use Rattle.sm_rotator.specs.declared.work.Work.{Work}
 use Rattle.sm_table.specs.Found.{found_arn}
-use Rattle.sm_account.specs.declared.books.Books.{Books}
+use Rattle.sm_account.specs.declared.account_state.AccountState.{AccountState}
 use Rattle.sm_account.specs.declared.entering.Entered.{Entered}
 use Rattle.sm_account.specs.declared.entering.Entered.TheVariants as ends
 use Rattle.sm_account.specs.declared.entering.Passed.{Passed}
@@ -25,7 +25,7 @@ use Rattle.sm_account.specs.declared.report.Reported.TheVariants as reported
 use Rattle.sm_account.specs.declared.start_due.DueStart.{DueStart}
 use Rattle.sm_account.specs.declared.start_due.StartedDue.{StartedDue}
 use Rattle.sm_account.specs.declared.start_due.StartedDue.TheVariants as started
-use Rattle.sm_account.specs.Books.{state_in}
+use Rattle.sm_account.specs.AccountState.{state_in}
 use Rattle.sm_account.specs.Deeds.{Leaves, Nothing, Made, Failed}
 use Rattle.sm_account.specs.Efforts.{Undue, effort_within}
 use Rattle.sm_account.specs.Growing.{SameButRoom}
@@ -36,7 +36,7 @@ use Rattle.sm_account.specs.States.{State, size_of}
 use Rattle.sm_account.proofs.DeedLemmas.{behind_room}
 use Rattle.sm_account.proofs.RoomLemmas.{same_state}
 
-module _ {D : Type 0} {G : Ghosts D} (old new : Books D G) (seat : ℕ) (entry : entries) where
+module _ {D : Type 0} {G : Ghosts D} (old new : AccountState D G) (seat : ℕ) (entry : entries) where
   -- the start of a rotation
   pub start_made : (passed : Option Passed) (arn : List ℕ) → Starts arn entry → EntersAs ends.Made passed
       → Leaves G old new seat (Made entry)
@@ -106,7 +106,7 @@ pub fault_so : (passed : Option Passed) → passed ≡ None → EntersAs ends.Di
 fault_so passed is = subst (EntersAs ends.DiskFault) (sym is) tt
 
 -- an entry for whose mark there is room
-module _ {D : Type 0} {G : Ghosts D} (old mid new : Books D G) (seat : ℕ) (room : SameButRoom old mid)
+module _ {D : Type 0} {G : Ghosts D} (old mid new : AccountState D G) (seat : ℕ) (room : SameButRoom old mid)
     (entry : entries) (due : entries) (is : due ≡ entry) (entered : Entered) where
   pub enters_behind : EntersAs entered (passed_at (state_in mid) due)
       → EntersAs entered (passed_at (state_in old) entry)
@@ -132,7 +132,7 @@ none_due moment drawn None e = refl
 none_due moment drawn (Some row) e = absurd (cc)
 
 -- from the start of the secret that is due to what the call comes to
-module _ {D : Type 0} {G : Ghosts D} (old new : Books D G) (seat : ℕ) (now : Moment) (drawn : List ℕ)
+module _ {D : Type 0} {G : Ghosts D} (old new : AccountState D G) (seat : ℕ) (now : Moment) (drawn : List ℕ)
     (moment : Moment) (at : moment ≡ later old.last now) (start : DueStart) (row : SecretRow)
     (first : first_due old.table.secrets moment (drawn_token drawn) ≡ Some row)
     (is : start ≡ start_for moment drawn row) (result : StartedDue) where
@@ -160,8 +160,8 @@ starts_none state now drawn moment at none =
     (subst (λ found. StartsAs started.None (start_of state moment drawn found)) (sym none) tt)
 
 -- from the entry of an answer that holds to what the call comes to, and from one that does not
-module _ {D : Type 0} {G : Ghosts D} (old new : Books D G) (seat : ℕ) (now : Moment) (work : Work) (answer : Answer)
-    (moment : Moment) (at : moment ≡ later old.last now) (result : Reported) where
+module _ {D : Type 0} {G : Ghosts D} (old new : AccountState D G) (seat : ℕ) (now : Moment) (work : Work)
+    (answer : Answer) (moment : Moment) (at : moment ≡ later old.last now) (result : Reported) where
   fresh_effort : is_fresh (found_arn old.table moment work.arn) work ≡ true
       → effort_within (passed_at (state_in old) (reported_entry moment work answer)) (reported_entry moment work answer)
       ≡ report_at (state_in old) now work answer

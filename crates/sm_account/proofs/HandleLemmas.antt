@@ -1,4 +1,4 @@
--- How the books go on when a request is handled.
+-- How the account's state goes on when a request is handled.
 use Rattle.std.proofs.Common.{◌≡◌, ℕ, Bool, true, false, Option, Some, None, refl, sym, ap, subst}
 use Rattle.std.specs.Prelude.{◌+◌, nat_lt, if◌then◌else◌}
 use Rattle.sm_base.specs.Outcomes.{OrMemory}
@@ -13,12 +13,12 @@ use Rattle.sm_model.specs.declared.why.Why.TheVariants.{Limit}
 use Rattle.sm_judging.specs.declared.judged.Judged.{Judged}
 use Rattle.sm_judging.specs.declared.judged.Judged.TheVariants as judged
 use Rattle.sm_judging.specs.Judged.{judged_told}
-use Rattle.sm_account.specs.declared.books.Books.{Books}
+use Rattle.sm_account.specs.declared.account_state.AccountState.{AccountState}
 use Rattle.sm_account.specs.declared.entering.Entered.TheVariants as ends
 use Rattle.sm_account.specs.declared.entering.Passed.{Passed}
 use Rattle.sm_account.specs.declared.handled.Handled.{Handled}
 use Rattle.sm_account.specs.declared.handled.Handled.TheVariants.{Answered, Refused, DiskFault, Memory}
-use Rattle.sm_account.specs.Books.{state_in}
+use Rattle.sm_account.specs.AccountState.{state_in}
 use Rattle.sm_account.specs.Deeds.{Leaves, Nothing, Made, Failed}
 use Rattle.sm_account.specs.Growing.{SameButRoom}
 use Rattle.sm_account.specs.Handling.{Handles, handled_by}
@@ -27,16 +27,16 @@ use Rattle.sm_account.specs.Outcome.{Outcome, Refuses, Replies, Question, consid
 use Rattle.sm_account.specs.States.{State, size_of}
 use Rattle.sm_account.proofs.DeedLemmas.{nothing_done, behind_room}
 
-module _ {D : Type 0} {G : Ghosts D} (books : Books D G) (seat : ℕ) where
+module _ {D : Type 0} {G : Ghosts D} (inner : AccountState D G) (seat : ℕ) where
   -- nothing was done
-  pub refused_as : (why : Why) → Handles G books books seat (Refused why) (Refuses why)
-  refused_as why = record { answer = refl; leaves = nothing_done books seat }
+  pub refused_as : (why : Why) → Handles G inner inner seat (Refused why) (Refuses why)
+  refused_as why = record { answer = refl; leaves = nothing_done inner seat }
 
-  pub read_as : (reply : Reply) → Handles G books books seat (Answered reply) (Replies reply None)
-  read_as reply = record { answer = refl; leaves = nothing_done books seat }
+  pub read_as : (reply : Reply) → Handles G inner inner seat (Answered reply) (Replies reply None)
+  read_as reply = record { answer = refl; leaves = nothing_done inner seat }
 
-  pub wanted_memory : (wanted : Outcome) → Handles G books books seat Memory wanted
-  wanted_memory wanted = record { answer = tt; leaves = nothing_done books seat }
+  pub wanted_memory : (wanted : Outcome) → Handles G inner inner seat Memory wanted
+  wanted_memory wanted = record { answer = tt; leaves = nothing_done inner seat }
 
 -- the limit that is passed is the cause of the refusal
 limits_same : (state : State) (entry : entries) → limit_passed state entry ≡ why_passed (passed_at state entry)
@@ -52,7 +52,7 @@ limits_same state entry = by (is_full state) (nat_lt state.limit (state.bytes + 
     by false false = refl
 
 -- an entry was made, or met a fault, or would have passed a limit
-module _ {D : Type 0} {G : Ghosts D} (old new : Books D G) (seat : ℕ) (reply : Reply) (entry : entries) where
+module _ {D : Type 0} {G : Ghosts D} (old new : AccountState D G) (seat : ℕ) (reply : Reply) (entry : entries) where
   there : (result : Handled)
       → Handles G old new seat result (outcome_within (why_passed (passed_at (state_in old) entry)) reply entry)
       → Handles G old new seat result (outcome_within (limit_passed (state_in old) entry) reply entry)
@@ -107,16 +107,16 @@ module _ (state : State) (q : Question) where
   so judged.Memory is P memory h = memory refl
 
 -- the same of a judgement at the question's moment
-pub judged_as : {D : Type 0} {G : Ghosts D} (books : Books D G) (q : Question) (moment : Moment)
-    → moment ≡ moment_at (state_in books) q → (j : Judged)
-    → OrMemory (judged_told j) (considered books.table q.person moment q.drawn q.request) → (P : Outcome → Type 0)
-    → (j ≡ judged.Memory → P (outcome (state_in books) q))
-    → P (outcome_judged (state_in books) (entry_at (state_in books) q) j) → P (outcome (state_in books) q)
-judged_as books q moment is j told P memory h =
-    so (state_in books) q j
-    (subst (λ m. OrMemory (judged_told j) (considered books.table q.person m q.drawn q.request)) is told) P memory h
+pub judged_as : {D : Type 0} {G : Ghosts D} (inner : AccountState D G) (q : Question) (moment : Moment)
+    → moment ≡ moment_at (state_in inner) q → (j : Judged)
+    → OrMemory (judged_told j) (considered inner.table q.person moment q.drawn q.request) → (P : Outcome → Type 0)
+    → (j ≡ judged.Memory → P (outcome (state_in inner) q))
+    → P (outcome_judged (state_in inner) (entry_at (state_in inner) q) j) → P (outcome (state_in inner) q)
+judged_as inner q moment is j told P memory h =
+    so (state_in inner) q j
+    (subst (λ m. OrMemory (judged_told j) (considered inner.table q.person m q.drawn q.request)) is told) P memory h
 
-module _ {D : Type 0} {G : Ghosts D} (old mid new : Books D G) (seat : ℕ) (room : SameButRoom old mid) where
+module _ {D : Type 0} {G : Ghosts D} (old mid new : AccountState D G) (seat : ℕ) (room : SameButRoom old mid) where
   -- room for a mark changes nothing that is told
   pub after_room : (result : Handled) (wanted : Outcome) → Handles G mid new seat result wanted
       → Handles G old new seat result wanted

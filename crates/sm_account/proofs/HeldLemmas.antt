@@ -8,7 +8,7 @@ use Rattle.sm_record.specs.declared.base.Base.{Base}
 use Rattle.sm_replay.specs.Following.{after_all, after_entry}
 use Rattle.sm_replay.proofs.FollowLemmas.{after_count, after_joined, after_last, after_rows, come_more}
 use Rattle.sm_store.specs.Held.{Held, with_entry}
-use Rattle.sm_account.specs.Books.{with_entries}
+use Rattle.sm_account.specs.AccountState.{with_entries}
 
 module _ (h : Held) (own : List Entry) where
   made_on : made_of (with_entries h own) ≡ after_all (made_of h) own

@@ -1,4 +1,4 @@
--- What always holds of the books goes on to hold.
+-- What always holds of the account's state goes on to hold.
 use Rattle.std.proofs.Common.{◌≡◌, ℕ, ◌+◌, ◌<◌, ◌≤◌, min, List, [], ◌∷◌, ◌++◌, length, Option, None, Some, is_some, sym, ap, ◌∙◌, subst, append_assoc, append-nil, arith}
 use Rattle.std.proofs.Math.Logic.{∥∥₁_map}
 use Rattle.sm_base.specs.Faults.{Rose}
@@ -21,9 +21,9 @@ use Rattle.sm_replay.proofs.FollowLemmas.{one_comes}
 use Rattle.sm_store.specs.BaseAppends.{SamePlace}
 use Rattle.sm_store.specs.BaseStores as stores
 use Rattle.sm_store.specs.Held.{Held, with_entry}
-use Rattle.sm_account.specs.declared.books.Books.{Books}
+use Rattle.sm_account.specs.declared.account_state.AccountState.{AccountState}
 use Rattle.sm_account.specs.declared.writing.Written.TheVariants as written
-use Rattle.sm_account.specs.Books.{count_limit, with_entries, history_in, disk_in, all_held, base_in, state_in, faults_of, Kept, IsDueAt}
+use Rattle.sm_account.specs.AccountState.{count_limit, with_entries, history_in, disk_in, all_held, base_in, state_in, faults_of, Kept, IsDueAt}
 use Rattle.sm_account.specs.Claims.{ClaimsReady, ClaimsReadyStep, ClaimsStand}
 use Rattle.sm_account.specs.History.{entries_in, faults_in}
 use Rattle.sm_account.specs.States.{base_of, State, state_at, state_with}
@@ -33,29 +33,29 @@ use Rattle.sm_account.proofs.HeldLemmas.{lawful_more, made_count, made_last, mad
 use Rattle.sm_account.proofs.StandLemmas.{counted_more, stand_entered, stand_failed}
 use Rattle.sm_account.proofs.StateLaws.{entries_more, faults_more, state_more, state_faulted}
 
-module _ {D : Type 0} {G : Ghosts D} (books : Books D G) (kept : Kept G books) where
+module _ {D : Type 0} {G : Ghosts D} (inner : AccountState D G) (kept : Kept G inner) where
   -- the rows are those that all entries make
-  pub rows_of_all : books.table ≡ (made_of (all_held books)).rows
+  pub rows_of_all : inner.table ≡ (made_of (all_held inner)).rows
   rows_of_all = ap (λ (s : State). s.rows) kept.state
-      ∙ sym (made_rows books.taken.value (entries_in (history_in books)))
+      ∙ sym (made_rows inner.taken.value (entries_in (history_in inner)))
 
-  pub last_of_all : books.last ≡ (made_of (all_held books)).last
+  pub last_of_all : inner.last ≡ (made_of (all_held inner)).last
   last_of_all = ap (λ (s : State). s.last) kept.state
-      ∙ sym (made_last books.taken.value (entries_in (history_in books)))
+      ∙ sym (made_last inner.taken.value (entries_in (history_in inner)))
 
-  pub count_of_all : (made_of (all_held books)).entries ≡ (state_in books).before + books.made
+  pub count_of_all : (made_of (all_held inner)).entries ≡ (state_in inner).before + inner.made
   count_of_all =
       omega (
         arith,
-        made_count books.taken.value (entries_in (history_in books)),
+        made_count inner.taken.value (entries_in (history_in inner)),
         ap (λ (s : State). s.made) kept.state,
       )
 
   -- an entry that is legal at the rows may follow all entries, where it can be counted
-  pub may_follow : (entry : entries) → books.last.0 ≤ entry.moment.0 → LegalEntry books.table entry
-      → (state_in books).before + books.made < entries_limit → MayFollow (all_held books) entry
+  pub may_follow : (entry : entries) → inner.last.0 ≤ entry.moment.0 → LegalEntry inner.table entry
+      → (state_in inner).before + inner.made < entries_limit → MayFollow (all_held inner) entry
   may_follow entry later legal countable =
-      one_comes (made_of (all_held books)) entry
+      one_comes (made_of (all_held inner)) entry
       (subst (λ (m : Moment). m.0 ≤ entry.moment.0) last_of_all later)
       (subst (λ rows. LegalEntry rows entry) rows_of_all legal)
       (omega (arith, countable, count_of_all))
@@ -66,7 +66,7 @@ at_most_one None = omega arith
 at_most_one (Some entry) = omega arith
 
 -- what stays when the history grows by one mark of an entry that was tried
-pub record Continues {D : Type 0} {G : Ghosts D} (old new : Books D G) (seat : ℕ) (mark : Mark) : Type 0 where
+pub record Continues {D : Type 0} {G : Ghosts D} (old new : AccountState D G) (seat : ℕ) (mark : Mark) : Type 0 where
   pub taken : new.taken.value ≡ old.taken.value
   pub began : new.began.value ≡ old.began.value
   pub limit : new.limit ≡ old.limit
@@ -76,7 +76,7 @@ pub record Continues {D : Type 0} {G : Ghosts D} (old new : Books D G) (seat : �
   pub counted : new.marks ≡ old.marks + 1
   pub claims : new.claims.items ≡ old.claims.items
 
-module _ {D : Type 0} {G : Ghosts D} (old new : Books D G) (seat : ℕ) (kept : Kept G old) where
+module _ {D : Type 0} {G : Ghosts D} (old new : AccountState D G) (seat : ℕ) (kept : Kept G old) where
   -- each claim is still of the step that was ready
   claims_go_on : (mark : Mark) → Continues old new seat mark → ClaimsReadyStep (base_in old) (history_in old) mark
       → ∥ ClaimsReady (base_in new) (history_in new) ∥₁

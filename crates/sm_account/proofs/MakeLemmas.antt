@@ -1,4 +1,4 @@
--- The books once an entry was written, or was not: from what each step leaves to what always holds.
+-- The account's state once an entry was written, or was not: from what each step leaves to what always holds.
 use Rattle.std.proofs.Common.{◌≡◌, ℕ, ◌+◌, ◌≤◌, List, [], ◌∷◌, ◌++◌, Some, None, is_some, sym, ap, ◌∙◌, subst}
 use Rattle.sm_base.specs.Faults.{Rose}
 use Rattle.sm_disk.specs.declared.disk.Disk.{Ghosts}
@@ -12,13 +12,13 @@ use Rattle.sm_opening.specs.Lawful.{MayFollowIf}
 use Rattle.sm_store.specs.BaseAppends.{SamePlace}
 use Rattle.sm_store.specs.BaseStores as stores
 use Rattle.sm_store.specs.declared.base_store.BaseStore.{BaseStore}
-use Rattle.sm_account.specs.declared.books.Books.{Books}
+use Rattle.sm_account.specs.declared.account_state.AccountState.{AccountState}
 use Rattle.sm_account.specs.declared.writing.Written.TheVariants as written
-use Rattle.sm_account.specs.Books.{history_in, disk_in, all_held, state_in, Kept, IsDueAt, SameOrigin}
+use Rattle.sm_account.specs.AccountState.{history_in, disk_in, all_held, state_in, Kept, IsDueAt, SameOrigin}
 use Rattle.sm_account.specs.Writing.{WritesAs}
 use Rattle.sm_account.proofs.KeptLemmas.{Continues, kept_made, kept_faulted, state_stays, may_follow}
 
-module _ {D : Type 0} {G : Ghosts D} (old new : Books D G) (store : BaseStore D G) (seat : ℕ) (kept : Kept G old)
+module _ {D : Type 0} {G : Ghosts D} (old new : AccountState D G) (store : BaseStore D G) (seat : ℕ) (kept : Kept G old)
     (place : SamePlace old.store store) where
   -- the entry was written, its change made, and the mark added
   module _ (entry : entries) (ready : List ℕ) (change : Change) (due : IsDueAt old entry ready change)
@@ -34,33 +34,33 @@ module _ {D : Type 0} {G : Ghosts D} (old new : Books D G) (store : BaseStore D 
       })
       (history : history_in new ≡ history_in old ++ (seat, Entry entry) ∷ []) where
     stored : new.store ≡ store
-    stored = ap (λ (b : Books D G). b.store) rest
+    stored = ap (λ (b : AccountState D G). b.store) rest
 
     pub entered_origin : SameOrigin old new
     entered_origin = record {
-      taken = ap (λ (b : Books D G). b.taken.value) rest;
-      began = ap (λ (b : Books D G). b.began.value) rest;
-      limit = ap (λ (b : Books D G). b.limit) rest;
+      taken = ap (λ (b : AccountState D G). b.taken.value) rest;
+      began = ap (λ (b : AccountState D G). b.began.value) rest;
+      limit = ap (λ (b : AccountState D G). b.limit) rest;
     }
 
     goes : Continues old new seat (Entry entry)
     goes = record {
-      taken = ap (λ (b : Books D G). b.taken.value) rest;
-      began = ap (λ (b : Books D G). b.began.value) rest;
-      limit = ap (λ (b : Books D G). b.limit) rest;
-      base = ap (λ (b : Books D G). b.base) rest;
+      taken = ap (λ (b : AccountState D G). b.taken.value) rest;
+      began = ap (λ (b : AccountState D G). b.began.value) rest;
+      limit = ap (λ (b : AccountState D G). b.limit) rest;
+      base = ap (λ (b : AccountState D G). b.base) rest;
       place = subst (SamePlace old.store) (sym stored) place;
       history = history;
-      counted = ap (λ (b : Books D G). b.marks) rest;
-      claims = ap (λ (b : Books D G). b.claims.items) rest;
+      counted = ap (λ (b : AccountState D G). b.marks) rest;
+      claims = ap (λ (b : AccountState D G). b.claims.items) rest;
     }
 
     pub entered_kept : new.failed.value ≡ None → Sound new.table
         → new.entries.items ≡ old.entries.items ++ entry ∷ [] → WritesAs old.store entry store written.Ok
         → G.faults (disk_in old) ≤ G.faults (stores.disk_of store) → Kept G new
     entered_kept none sound added wrote count =
-        kept_made old new seat kept entry ready change due goes (ap (λ (b : Books D G). b.table) rest)
-        (ap (λ (b : Books D G). b.last) rest) (ap (λ (b : Books D G). b.made) rest) none sound added
+        kept_made old new seat kept entry ready change due goes (ap (λ (b : AccountState D G). b.table) rest)
+        (ap (λ (b : AccountState D G). b.last) rest) (ap (λ (b : AccountState D G). b.made) rest) none sound added
         (subst (λ s. WritesAs old.store entry s written.Ok) (sym stored) wrote)
         (subst (λ s. G.faults (disk_in old) ≤ G.faults (stores.disk_of s)) (sym stored) count)
 
@@ -69,7 +69,7 @@ module _ {D : Type 0} {G : Ghosts D} (old new : Books D G) (store : BaseStore D 
       → (new.failed ≡ old.failed)
       × (new ≡ record old { store = store; failed = new.failed; told = new.told; marks = old.marks + 1 })
   failed_stays rest =
-      let same : new.failed ≡ old.failed = ap (λ (b : Books D G). b.failed) rest in (
+      let same : new.failed ≡ old.failed = ap (λ (b : AccountState D G). b.failed) rest in (
         same,
         rest ∙ ap (λ f. record old { store = store; failed = f; told = new.told; marks = old.marks + 1 }) (sym same),
       )
@@ -79,25 +79,25 @@ module _ {D : Type 0} {G : Ghosts D} (old new : Books D G) (store : BaseStore D 
       (history : history_in new ≡ history_in old ++ (seat, Fault) ∷ [])
       (length : stores.length_of store ≡ stores.length_of old.store) where
     stored_still : new.store ≡ store
-    stored_still = ap (λ (b : Books D G). b.store) rest
+    stored_still = ap (λ (b : AccountState D G). b.store) rest
 
     pub faulted_origin : SameOrigin old new
     faulted_origin = record {
-      taken = ap (λ (b : Books D G). b.taken.value) rest;
-      began = ap (λ (b : Books D G). b.began.value) rest;
-      limit = ap (λ (b : Books D G). b.limit) rest;
+      taken = ap (λ (b : AccountState D G). b.taken.value) rest;
+      began = ap (λ (b : AccountState D G). b.began.value) rest;
+      limit = ap (λ (b : AccountState D G). b.limit) rest;
     }
 
     goes_still : Continues old new seat Fault
     goes_still = record {
-      taken = ap (λ (b : Books D G). b.taken.value) rest;
-      began = ap (λ (b : Books D G). b.began.value) rest;
-      limit = ap (λ (b : Books D G). b.limit) rest;
-      base = ap (λ (b : Books D G). b.base) rest;
+      taken = ap (λ (b : AccountState D G). b.taken.value) rest;
+      began = ap (λ (b : AccountState D G). b.began.value) rest;
+      limit = ap (λ (b : AccountState D G). b.limit) rest;
+      base = ap (λ (b : AccountState D G). b.base) rest;
       place = subst (SamePlace old.store) (sym stored_still) place;
       history = history;
-      counted = ap (λ (b : Books D G). b.marks) rest;
-      claims = ap (λ (b : Books D G). b.claims.items) rest;
+      counted = ap (λ (b : AccountState D G). b.marks) rest;
+      claims = ap (λ (b : AccountState D G). b.claims.items) rest;
     }
 
     bytes : stores.length_of new.store ≡ stores.length_of old.store
@@ -105,18 +105,18 @@ module _ {D : Type 0} {G : Ghosts D} (old new : Books D G) (store : BaseStore D 
 
     pub faulted_state : state_in new ≡ state_in old
     faulted_state =
-        state_stays old new seat kept goes_still (ap (λ (b : Books D G). b.table) rest)
-        (ap (λ (b : Books D G). b.last) rest) (ap (λ (b : Books D G). b.made) rest) bytes
+        state_stays old new seat kept goes_still (ap (λ (b : AccountState D G). b.table) rest)
+        (ap (λ (b : AccountState D G). b.last) rest) (ap (λ (b : AccountState D G). b.made) rest) bytes
 
     faulted_kept : stores.is_unsure store ≡ is_some new.failed.value
         → stores.Holds store (all_held old) new.failed.value
         → ∥ MayFollowIf (all_held old) new.failed.value ∥₁
         → Rose (G.faults (disk_in old)) (G.faults (stores.disk_of store)) → Kept G new
     faulted_kept sure holds next rose =
-        kept_faulted old new seat kept goes_still (ap (λ (b : Books D G). b.table) rest)
-        (ap (λ (b : Books D G). b.last) rest) (ap (λ (b : Books D G). b.made) rest) bytes
+        kept_faulted old new seat kept goes_still (ap (λ (b : AccountState D G). b.table) rest)
+        (ap (λ (b : AccountState D G). b.last) rest) (ap (λ (b : AccountState D G). b.made) rest) bytes
         (subst (λ s. Rose (G.faults (disk_in old)) (G.faults (stores.disk_of s))) (sym stored_still) rose)
-        (ap (λ (b : Books D G). b.entries.items) rest)
+        (ap (λ (b : AccountState D G). b.entries.items) rest)
         (ap stores.is_unsure stored_still ∙ sure)
         (subst (λ s. stores.Holds s (all_held old) new.failed.value) (sym stored_still) holds) next
 
@@ -142,9 +142,10 @@ module _ {D : Type 0} {G : Ghosts D} (old new : Books D G) (store : BaseStore D 
         ∣ may_follow old kept entry due.later due.legal due.countable ∣₁) rose
 
 -- what a step leaves behind one that changed the store alone
-module _ {D : Type 0} {G : Ghosts D} (old mid new : Books D G) (wrote : mid ≡ record old { store = mid.store }) where
+module _ {D : Type 0} {G : Ghosts D} (old mid new : AccountState D G)
+    (wrote : mid ≡ record old { store = mid.store }) where
   pub behind_history : history_in mid ≡ history_in old
-  behind_history = ap (λ (b : Books D G). history_in b) wrote
+  behind_history = ap (λ (b : AccountState D G). history_in b) wrote
 
   pub behind_enter : (entry : entries) (change : Change)
       → new ≡ record mid {
@@ -167,7 +168,7 @@ module _ {D : Type 0} {G : Ghosts D} (old mid new : Books D G) (wrote : mid ≡ 
         marks = old.marks + 1;
       }
   behind_enter entry change rest =
-      rest ∙ ap (λ (b : Books D G). record b {
+      rest ∙ ap (λ (b : AccountState D G). record b {
         table = changed (sweep b.table entry.moment) change;
         last = entry.moment;
         made = b.made + 1;
@@ -179,14 +180,14 @@ module _ {D : Type 0} {G : Ghosts D} (old mid new : Books D G) (wrote : mid ≡ 
 
   pub behind_fault : new ≡ record mid { told = new.told; marks = mid.marks + 1 }
       → new ≡ record old { store = mid.store; told = new.told; marks = old.marks + 1 }
-  behind_fault rest = rest ∙ ap (λ (b : Books D G). record b { told = new.told; marks = b.marks + 1 }) wrote
+  behind_fault rest = rest ∙ ap (λ (b : AccountState D G). record b { told = new.told; marks = b.marks + 1 }) wrote
 
   pub behind_tear : new ≡ record mid { failed = new.failed; told = new.told; marks = mid.marks + 1 }
       → new ≡ record old { store = mid.store; failed = new.failed; told = new.told; marks = old.marks + 1 }
   behind_tear rest =
-      rest ∙ ap (λ (b : Books D G). record b { failed = new.failed; told = new.told; marks = b.marks + 1 }) wrote
+      rest ∙ ap (λ (b : AccountState D G). record b { failed = new.failed; told = new.told; marks = b.marks + 1 }) wrote
 
   pub behind_entries : (entry : entries) → new.entries.items ≡ mid.entries.items ++ entry ∷ []
       → new.entries.items ≡ old.entries.items ++ entry ∷ []
   behind_entries entry added =
-      added ∙ ap (λ (b : Books D G). b.entries.items ++ entry ∷ []) wrote
+      added ∙ ap (λ (b : AccountState D G). b.entries.items ++ entry ∷ []) wrote

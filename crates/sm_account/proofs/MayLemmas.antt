@@ -22,8 +22,8 @@ use Rattle.sm_table.specs.Sound.{Sound}
 use Rattle.sm_table.proofs.SoundLaws.{found_arn_sound}
 use Rattle.sm_versions.specs.Due.{is_due_for}
 use Rattle.sm_versions.specs.Sound.{RowSound}
-use Rattle.sm_account.specs.declared.books.Books.{Books}
-use Rattle.sm_account.specs.Books.{Kept}
+use Rattle.sm_account.specs.declared.account_state.AccountState.{AccountState}
+use Rattle.sm_account.specs.AccountState.{Kept}
 use Rattle.sm_account.specs.Handling.{MayEnter}
 use Rattle.sm_account.specs.Report.{entered_answer, reported_entry}
 use Rattle.sm_account.specs.StartDue.{begun_entry}
@@ -56,16 +56,16 @@ step_of rows moment work answer (Some row) is fresh sound =
     let row_sound : RowSound row = found_arn_sound rows moment work.arn (Some row) (sym is) sound in
     record { none = refl; attempt = fresh_attempt row work fresh row_sound; small = small_so answer }
 
-module _ {D : Type 0} {G : Ghosts D} (books : Books D G) (kept : Kept G books) (moment : Moment)
-    (later : books.last.0 ≤ moment.0) (bound : moment.0 ≤ LAST_READING) where
+module _ {D : Type 0} {G : Ghosts D} (inner : AccountState D G) (kept : Kept G inner) (moment : Moment)
+    (later : inner.last.0 ≤ moment.0) (bound : moment.0 ≤ LAST_READING) where
   -- the start of the first rotation that is due
   pub start_may : (drawn : List ℕ) (row : SecretRow) → length drawn ≡ 16
-      → first_due books.table.secrets moment (drawn_token drawn) ≡ Some row
-      → MayEnter books (begun_entry moment drawn row.arn)
+      → first_due inner.table.secrets moment (drawn_token drawn) ≡ Some row
+      → MayEnter inner (begun_entry moment drawn row.arn)
   start_may drawn row sixteen first =
-      let due = (due_in books.table.secrets moment (drawn_token drawn) row first).0 in
-      let found : found_arn books.table moment row.arn ≡ Some row =
-      due_found books.table moment (drawn_token drawn) row kept.sound first in
+      let due = (due_in inner.table.secrets moment (drawn_token drawn) row first).0 in
+      let found : found_arn inner.table moment row.arn ≡ Some row =
+      due_found inner.table moment (drawn_token drawn) row kept.sound first in
       record {
         legal = (
           refl,
@@ -81,14 +81,14 @@ module _ {D : Type 0} {G : Ghosts D} (books : Books D G) (kept : Kept G books) (
       }
 
   -- an answer that holds
-  pub report_may : (work : Work) (answer : Answer) → is_fresh (found_arn books.table moment work.arn) work ≡ true
-      → MayEnter books (reported_entry moment work answer)
+  pub report_may : (work : Work) (answer : Answer) → is_fresh (found_arn inner.table moment work.arn) work ≡ true
+      → MayEnter inner (reported_entry moment work answer)
   report_may work answer fresh = record {
-    legal = (refl, (refl, may_report books.table moment work (found_arn books.table moment work.arn) refl fresh));
+    legal = (refl, (refl, may_report inner.table moment work (found_arn inner.table moment work.arn) refl fresh));
     later = later;
     bound = bound;
     act = record {
-      act = step_of books.table moment work answer (found_arn books.table moment work.arn) refl fresh kept.sound;
+      act = step_of inner.table moment work answer (found_arn inner.table moment work.arn) refl fresh kept.sound;
       whose = refl;
       caller = omega arith;
       by = omega arith;

@@ -1,4 +1,4 @@
--- Books that have room for an entry more, and an entry that is due at them.
+-- The state of an account that has room for an entry more, and an entry that is due at it.
 use Rattle.std.proofs.Common.{◌≡◌, ◌≤◌, sym, ap, ◌∙◌, subst}
 use Rattle.sm_base.specs.declared.moment.Moment.{Moment}
 use Rattle.sm_base.specs.declared.moment.TheConstants.{LAST_READING}
@@ -12,16 +12,16 @@ use Rattle.sm_table.specs.Sweep.{sweep}
 use Rattle.sm_core.specs.Effects.{Makes}
 use Rattle.sm_core.specs.Histories.{LegalEntry}
 use Rattle.sm_store.specs.BaseAppends.{IsReady}
-use Rattle.sm_account.specs.declared.books.Books.{Books}
+use Rattle.sm_account.specs.declared.account_state.AccountState.{AccountState}
 use Rattle.sm_account.specs.declared.due.Due.{Due}
-use Rattle.sm_account.specs.Books.{Kept, history_in, state_in}
+use Rattle.sm_account.specs.AccountState.{Kept, history_in, state_in}
 use Rattle.sm_account.specs.Claims.{ClaimsStand}
 use Rattle.sm_account.specs.Growing.{IsGrown, SameButRoom}
 use Rattle.sm_account.specs.Handling.{LimitsAside}
 
-module _ {D : Type 0} {G : Ghosts D} (old mid : Books D G) (room : SameButRoom old mid) where
+module _ {D : Type 0} {G : Ghosts D} (old mid : AccountState D G) (room : SameButRoom old mid) where
   table_is : mid.table ≡ old.table
-  table_is = ap (λ (b : Books D G). b.table) room.rest
+  table_is = ap (λ (b : AccountState D G). b.table) room.rest
 
   pub same_state : state_in mid ≡ state_in old
   same_state = ap state_in room.rest
@@ -73,7 +73,7 @@ module _ {D : Type 0} {G : Ghosts D} (old mid : Books D G) (room : SameButRoom o
       sound = at (λ t e c. ChangeSound (sweep t e.moment) c) sound;
       legal = at (λ t e c. LegalEntry t e) legal;
       later =
-          subst (λ (m : Moment). m.0 ≤ due.entry.moment.0) (sym (ap (λ (b : Books D G). b.last) room.rest))
+          subst (λ (m : Moment). m.0 ≤ due.entry.moment.0) (sym (ap (λ (b : AccountState D G). b.last) room.rest))
           (subst (λ (e : Entry). old.last.0 ≤ e.moment.0) (sym grown.entry_is) later);
       bound = subst (λ (e : Entry). e.moment.0 ≤ LAST_READING) (sym grown.entry_is) bound;
     }

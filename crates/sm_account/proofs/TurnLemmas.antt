@@ -20,7 +20,7 @@ use Rattle.sm_rotation.specs.Vouched.{AcceptsOnly, Replies}
 use Rattle.sm_rotator.specs.declared.work.Work.{Work}
 use Rattle.sm_table.specs.Found.{found_arn}
 use Rattle.sm_table.proofs.FoundLaws.{found_arn_is_exact}
-use Rattle.sm_account.specs.declared.books.Books.{Books}
+use Rattle.sm_account.specs.declared.account_state.AccountState.{AccountState}
 use Rattle.sm_account.specs.declared.entering.Passed.{Passed}
 use Rattle.sm_account.specs.declared.next_work.NextWork.{NextWork}
 use Rattle.sm_account.specs.declared.next_work.NextWork.TheVariants as works
@@ -29,7 +29,7 @@ use Rattle.sm_account.specs.declared.report.Reported.TheVariants as reports
 use Rattle.sm_account.specs.declared.start_due.StartedDue.{StartedDue}
 use Rattle.sm_account.specs.declared.start_due.StartedDue.TheVariants as starts
 use Rattle.sm_account.specs.Allowed.{DeedAllowed, EntriesAllowed, IsAllowedAt}
-use Rattle.sm_account.specs.Books.{Kept, base_in, history_in, state_in}
+use Rattle.sm_account.specs.AccountState.{Kept, base_in, history_in, state_in}
 use Rattle.sm_account.specs.Claims.{ready_at}
 use Rattle.sm_account.specs.Deeds.{Deed, Leaves}
 use Rattle.sm_account.specs.Efforts.{Effort, Undue, Over, Due, effort_within}
@@ -40,7 +40,7 @@ use Rattle.sm_account.specs.NextWork.{NextAs, next_by}
 use Rattle.sm_account.specs.States.{State, state_at}
 use Rattle.sm_account.proofs.AllowedLemmas.{allowed_after}
 
-pub deed_kept : {D : Type 0} {G : Ghosts D} (replies : Replies) (old new : Books D G) (seat : ℕ) (deed : Deed)
+pub deed_kept : {D : Type 0} {G : Ghosts D} (replies : Replies) (old new : AccountState D G) (seat : ℕ) (deed : Deed)
     → Kept G old → Leaves G old new seat deed → DeedAllowed replies old.table deed → ∥ EntriesAllowed replies old ∥₁
     → ∥ EntriesAllowed replies new ∥₁
 deed_kept replies old new seat deed kept leaves is allowed =
@@ -148,7 +148,7 @@ module _ (replies : Replies) (rows : Rows) where
       (report_due_is state moment work answer allowed)
 
 -- the calls, told of the history
-module _ {D : Type 0} {G : Ghosts D} (old new : Books D G) (seat : ℕ) (now : Moment) (kept : Kept G old) where
+module _ {D : Type 0} {G : Ghosts D} (old new : AccountState D G) (seat : ℕ) (now : Moment) (kept : Kept G old) where
   module _ (result : NextWork) where
     pub next_told : NextAs result (first_ready (history_in old) (later old.last now) old.table.secrets)
         → NextAs result (ready_at (base_in old) (history_in old)

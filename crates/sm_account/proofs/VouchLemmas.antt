@@ -13,9 +13,9 @@ use Rattle.sm_record.specs.declared.base.Base.{Base}
 use Rattle.sm_replay.proofs.FollowLemmas.{come_front}
 use Rattle.sm_replay.proofs.SoundLaws.{come_sound}
 use Rattle.sm_sound.specs.Bases.{IsSound}
-use Rattle.sm_account.specs.declared.books.Books.{Books}
+use Rattle.sm_account.specs.declared.account_state.AccountState.{AccountState}
 use Rattle.sm_account.specs.Allowed.{EntriesAllowed, IsAllowedAt, StayVouched}
-use Rattle.sm_account.specs.Books.{Kept, all_held, base_in, history_in}
+use Rattle.sm_account.specs.AccountState.{Kept, all_held, base_in, history_in}
 use Rattle.sm_account.specs.History.{entries_in}
 use Rattle.sm_account.specs.Prefixes.{PrefixesStand}
 use Rattle.sm_account.specs.States.{State}
@@ -28,47 +28,47 @@ prefixes_stand base before more sound come timely =
     let front = come_front base before more come in
     (front, come_sound base before sound front (timely_front before more timely))
 
-module _ {D : Type 0} {G : Ghosts D} (replies : Replies) (books : Books D G) (kept : Kept G books) where
+module _ {D : Type 0} {G : Ghosts D} (replies : Replies) (inner : AccountState D G) (kept : Kept G inner) where
   abbrev under : Base
-  under = base_under books.taken.value.base
+  under = base_under inner.taken.value.base
 
   abbrev taken : List Entry
-  taken = books.taken.value.entries
+  taken = inner.taken.value.entries
 
   abbrev made : List Entry
-  made = entries_in (history_in books)
+  made = entries_in (history_in inner)
 
-  module _ (lawful : IsLawful (all_held books)) where
-    base_sound : IsSound (made_of books.taken.value)
+  module _ (lawful : IsLawful (all_held inner)) where
+    base_sound : IsSound (made_of inner.taken.value)
     base_sound =
         come_sound under taken lawful.sound (come_front under taken made lawful.come)
         (timely_front taken made lawful.timely)
 
-    rows_vouched : EachAllowed replies (base_in books).rows made → Vouched replies (base_in books).rows
-        → Vouched replies books.table
+    rows_vouched : EachAllowed replies (base_in inner).rows made → Vouched replies (base_in inner).rows
+        → Vouched replies inner.table
     rows_vouched allowed vouched =
         subst (Vouched replies) (sym (ap (λ (s : State). s.rows) kept.state))
-        (legal_vouched replies (base_in books).rows (base_in books).last made base_sound.rows
+        (legal_vouched replies (base_in inner).rows (base_in inner).last made base_sound.rows
         (legal_behind under taken made lawful.come.legal) (timely_back taken made lawful.timely) allowed vouched)
 
-    next_vouched : (failed : Option Entry) → MayFollowIf (all_held books) failed
-        → IfSome failed (IsAllowedAt replies books.table) → Vouched replies books.table
-        → IfSome failed (λ entry. Vouched replies (effect books.table entry))
+    next_vouched : (failed : Option Entry) → MayFollowIf (all_held inner) failed
+        → IfSome failed (IsAllowedAt replies inner.table) → Vouched replies inner.table
+        → IfSome failed (λ entry. Vouched replies (effect inner.table entry))
     next_vouched None follows allowed vouched = tt
     next_vouched (Some entry) follows allowed vouched =
-        let legal : LegalEntry books.table entry =
-        subst (λ rows. LegalEntry rows entry) (sym (rows_of_all books kept)) follows.legal.1 in
-        act_vouched replies books.table (when_of entry) entry.drawn entry.act kept.sound legal.1 allowed vouched
+        let legal : LegalEntry inner.table entry =
+        subst (λ rows. LegalEntry rows entry) (sym (rows_of_all inner kept)) follows.legal.1 in
+        act_vouched replies inner.table (when_of entry) entry.drawn entry.act kept.sound legal.1 allowed vouched
 
-    stay_vouched : MayFollowIf (all_held books) books.failed.value → EntriesAllowed replies books
-        → StayVouched replies books
+    stay_vouched : MayFollowIf (all_held inner) inner.failed.value → EntriesAllowed replies inner
+        → StayVouched replies inner
     stay_vouched follows allowed = record {
       now = λ vouched. rows_vouched allowed.made vouched;
-      next = λ vouched. next_vouched books.failed.value follows allowed.next (rows_vouched allowed.made vouched);
+      next = λ vouched. next_vouched inner.failed.value follows allowed.next (rows_vouched allowed.made vouched);
     }
 
-  pub kept_vouched : ∥ EntriesAllowed replies books ∥₁ → ∥ StayVouched replies books ∥₁
+  pub kept_vouched : ∥ EntriesAllowed replies inner ∥₁ → ∥ StayVouched replies inner ∥₁
   kept_vouched allowed =
-      let both : ∥ IsLawful (all_held books) × MayFollowIf (all_held books) books.failed.value ∥₁ =
+      let both : ∥ IsLawful (all_held inner) × MayFollowIf (all_held inner) inner.failed.value ∥₁ =
       ∥∥₁_map₂ kept.lawful kept.next (λ lawful follows. (lawful, follows)) in
       ∥∥₁_map₂ both allowed (λ b a. stay_vouched b.0 b.1 a)

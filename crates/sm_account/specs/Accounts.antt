@@ -7,18 +7,18 @@ use Rattle.sm_model.specs.declared.rows.Rows.{Rows}
 use Rattle.sm_rotator.specs.declared.rotator.Rotator.{Ghosts as RotatorGhosts}
 use Rattle.sm_store.specs.BaseStores as stores
 use Rattle.sm_store.specs.Held.{Held}
-use Rattle.sm_account.specs.Books as books
+use Rattle.sm_account.specs.AccountState as inner
 use Rattle.sm_account.specs.States.{Base, State, state_at}
 use Rattle.sm_account.specs.declared.account.Account.{Account}
 
 module _ {D R : Type 0} {G : DiskGhosts D} {V : RotatorGhosts R} where
   -- the history since the opening: each mark beside the seat that made it
   abbrev pub history : Account D R G V → List (ℕ × Mark)
-  history account = books.history_in account.books
+  history account = inner.history_in account.inner
 
   -- what it was opened over
   abbrev pub base : Account D R G V → Base
-  base account = books.base_in account.books
+  base account = inner.base_in account.inner
 
   -- the state at its history
   abbrev pub state : Account D R G V → State
@@ -26,29 +26,29 @@ module _ {D R : Type 0} {G : DiskGhosts D} {V : RotatorGhosts R} where
 
   -- the secrets
   abbrev pub rows : Account D R G V → Rows
-  rows account = account.books.table
+  rows account = account.inner.table
 
   -- the disk now, and as it was before the opening
   abbrev pub disk : Account D R G V → D
-  disk account = books.disk_in account.books
+  disk account = inner.disk_in account.inner
 
   abbrev pub began : Account D R G V → D
-  began account = account.books.began.value
+  began account = account.inner.began.value
 
   -- the base and the entries that were taken from the disk, and these with the entries that were made since
   abbrev pub taken : Account D R G V → Held
-  taken account = account.books.taken.value
+  taken account = account.inner.taken.value
 
   abbrev pub all_of : Account D R G V → Held
-  all_of account = books.all_held account.books
+  all_of account = inner.all_held account.inner
 
   -- the entry whose write failed last, while the journal's tail is unsure
   abbrev pub failed : Account D R G V → Option Entry
-  failed account = account.books.failed.value
+  failed account = account.inner.failed.value
 
   -- whether the last write may have failed in part
   abbrev pub is_unsure : Account D R G V → Bool
-  is_unsure account = stores.is_unsure account.books.store
+  is_unsure account = stores.is_unsure account.inner.store
 
   abbrev pub doors : Account D R G V → ℕ
   doors account = account.doors

@@ -7,8 +7,8 @@ use Rattle.sm_model.specs.declared.entry.At.{At}
 use Rattle.sm_model.specs.declared.entry.Entry.{Entry as entries}
 use Rattle.sm_model.specs.declared.entry.Mark.{Mark}
 use Rattle.sm_model.specs.declared.entry.Mark.TheVariants.{Entry, Claim, Fault}
-use Rattle.sm_account.specs.declared.books.Books.{Books}
-use Rattle.sm_account.specs.Books.{all_held, disk_in, history_in, state_in, SameOrigin}
+use Rattle.sm_account.specs.declared.account_state.AccountState.{AccountState}
+use Rattle.sm_account.specs.AccountState.{all_held, disk_in, history_in, state_in, SameOrigin}
 use Rattle.sm_account.specs.Crashes.{Throughout}
 use Rattle.sm_account.specs.History.{by_seat}
 
@@ -42,7 +42,7 @@ IfFailed (Failed entry) P = P
 
 module _ {D : Type 0} {G : Ghosts D} where
   -- where no entry was tried the state and the store stay, and where the disk failed the state does
-  abbrev pub StaysBy : Deed → Books D G → Books D G → Type 0
+  abbrev pub StaysBy : Deed → AccountState D G → AccountState D G → Type 0
   StaysBy Nothing old new = (state_in new ≡ state_in old) × (new.store ≡ old.store)
   StaysBy (Claimed arn at moment) old new = (state_in new ≡ state_in old) × (new.store ≡ old.store)
   StaysBy (Made entry) old new = ⊤
@@ -50,7 +50,7 @@ module _ {D : Type 0} {G : Ghosts D} where
 
   -- The entry whose write failed last: none once an entry was made. Where the disk fails there is one, so that the tail
   -- is unsure: that of before, or this one.
-  abbrev pub FailedBy : Deed → Books D G → Books D G → Type 0
+  abbrev pub FailedBy : Deed → AccountState D G → AccountState D G → Type 0
   FailedBy Nothing old new = new.failed.value ≡ old.failed.value
   FailedBy (Claimed arn at moment) old new = new.failed.value ≡ old.failed.value
   FailedBy (Made entry) old new = new.failed.value ≡ None
@@ -59,13 +59,13 @@ module _ {D : Type 0} {G : Ghosts D} where
 
 -- What a crash at any moment of the call leaves: where an entry was tried, what `Throughout` says of it, and else the
 -- store was not touched.
-abbrev pub LeavesTried : {D : Type 0} (G : Ghosts D) → Option entries → Books D G → Books D G → Type 0
+abbrev pub LeavesTried : {D : Type 0} (G : Ghosts D) → Option entries → AccountState D G → AccountState D G → Type 0
 LeavesTried G None old new = new.store ≡ old.store
 LeavesTried G (Some own) old new = Throughout G (all_held old) old.failed.value own (disk_in old) (disk_in new)
 
--- How the books go on by a deed of a seat: the history grows by its mark, what the books began with stays, and so does
--- the rest where it is to stay; and what a crash at any moment leaves.
-pub record Leaves {D : Type 0} (G : Ghosts D) (old new : Books D G) (seat : ℕ) (deed : Deed) : Type 0 where
+-- How the account's state goes on by a deed of a seat: the history grows by its mark, what the account began with
+-- stays, and so does the rest where it is to stay; and what a crash at any moment leaves.
+pub record Leaves {D : Type 0} (G : Ghosts D) (old new : AccountState D G) (seat : ℕ) (deed : Deed) : Type 0 where
   pub history : history_in new ≡ history_in old ++ by_seat seat (marks_by deed)
   pub origin : SameOrigin old new
   pub stays : StaysBy deed old new

@@ -1,4 +1,4 @@
--- How the books go on when a request is handled.
+-- How the account's state goes on when a request is handled.
 use Rattle.std.specs.Prelude.{◌≡◌, ℕ, ◌≤◌, length, Some}
 use Rattle.sm_base.specs.declared.moment.TheConstants.{LAST_READING}
 use Rattle.sm_disk.specs.declared.disk.Disk.{Ghosts}
@@ -13,7 +13,7 @@ use Rattle.sm_core.specs.Effects.{Makes}
 use Rattle.sm_core.specs.Histories.{LegalEntry}
 use Rattle.sm_sizes.specs.Spellable.{IsSpellable}
 use Rattle.sm_store.specs.BaseAppends.{IsReady}
-use Rattle.sm_account.specs.declared.books.Books.{Books}
+use Rattle.sm_account.specs.declared.account_state.AccountState.{AccountState}
 use Rattle.sm_account.specs.declared.due.Due.{Due}
 use Rattle.sm_account.specs.declared.handled.Handled.{Handled}
 use Rattle.sm_account.specs.declared.handled.Handled.TheVariants.{Answered, DiskFault}
@@ -26,24 +26,24 @@ pub record HasShortTexts (person : Person) : Type 0 where
   pub key : length person.key ≤ CALLER_LIMIT
   pub arn : length person.arn ≤ CALLER_LIMIT
 
--- An entry that is legal at the books' rows and has a spelling that is not too long for a record.
-pub record MayEnter {D : Type 0} {G : Ghosts D} (books : Books D G) (entry : Entry) : Type 0 where
-  pub legal : LegalEntry books.table entry
-  pub later : books.last.0 ≤ entry.moment.0
+-- An entry that is legal at the account's rows and has a spelling that is not too long for a record.
+pub record MayEnter {D : Type 0} {G : Ghosts D} (inner : AccountState D G) (entry : Entry) : Type 0 where
+  pub legal : LegalEntry inner.table entry
+  pub later : inner.last.0 ≤ entry.moment.0
   pub bound : entry.moment.0 ≤ LAST_READING
   pub act : IsSpellable entry
 
--- An entry is due at the books, limits aside, and all its memory is there.
-pub record LimitsAside {D : Type 0} {G : Ghosts D} (books : Books D G) (due : Due) : Type 0 where
+-- An entry is due at the account, limits aside, and all its memory is there.
+pub record LimitsAside {D : Type 0} {G : Ghosts D} (inner : AccountState D G) (due : Due) : Type 0 where
   pub spells : IsReady due.entry due.ready
   pub short : length due.ready ≤ body_limit
-  pub before : due.prepared.before ≡ books.table
-  pub can : CanMake books.table due.prepared.change
-  pub stands : StandsAt books.table due.entry.moment due.prepared.change
-  pub makes : Makes books.table due.entry due.prepared.change
-  pub sound : ChangeSound (sweep books.table due.entry.moment) due.prepared.change
-  pub legal : LegalEntry books.table due.entry
-  pub later : books.last.0 ≤ due.entry.moment.0
+  pub before : due.prepared.before ≡ inner.table
+  pub can : CanMake inner.table due.prepared.change
+  pub stands : StandsAt inner.table due.entry.moment due.prepared.change
+  pub makes : Makes inner.table due.entry due.prepared.change
+  pub sound : ChangeSound (sweep inner.table due.entry.moment) due.prepared.change
+  pub legal : LegalEntry inner.table due.entry
+  pub later : inner.last.0 ≤ due.entry.moment.0
   pub bound : due.entry.moment.0 ≤ LAST_READING
 
 -- what an answer did with the entry of the outcome
@@ -52,8 +52,8 @@ handled_by (Answered reply) (Replies wanted (Some entry)) = Made entry
 handled_by DiskFault (Replies reply (Some entry)) = Failed entry
 handled_by answer outcome = Nothing
 
--- The answer is the outcome's, and the books go on by what it did.
-pub record Handles {D : Type 0} (G : Ghosts D) (old new : Books D G) (seat : ℕ) (result : Handled) (wanted : Outcome)
-    : Type 0 where
+-- The answer is the outcome's, and the account's state goes on by what it did.
+pub record Handles {D : Type 0} (G : Ghosts D) (old new : AccountState D G) (seat : ℕ) (result : Handled)
+    (wanted : Outcome) : Type 0 where
   pub answer : HandledAs result wanted
   pub leaves : Leaves G old new seat (handled_by result wanted)

@@ -4,7 +4,7 @@ pub mod Claims
 pub mod Outcome
 pub mod Handled
 pub mod Crashes
-pub mod Books
+pub mod AccountState
 pub mod KeptOnce
 pub mod Writing
 pub mod Making

@@ -9,9 +9,9 @@ use Rattle.sm_opening.specs.declared.opened.Opened.{Opened}
 use Rattle.sm_rotator.specs.declared.rotator.Rotator.{Ghosts as RotatorGhosts}
 use Rattle.sm_store.specs.Held.{Held}
 use Rattle.sm_account.specs.declared.account.Account.{Account}
-use Rattle.sm_account.specs.declared.books.Books.{Books}
+use Rattle.sm_account.specs.declared.account_state.AccountState.{AccountState}
 use Rattle.sm_account.specs.Accounts as accounts
-use Rattle.sm_account.specs.Books.{Kept, history_in}
+use Rattle.sm_account.specs.AccountState.{Kept, history_in}
 use Rattle.sm_account.specs.States.{base_of}
 
 -- An account that was opened over a disk: its history is empty, its base is what the base and the entries make that
@@ -34,13 +34,13 @@ pub record TakenFrom {D : Type 0} (G : Ghosts D) (old : D) (limit : ℕ) (taken 
   pub stays : StateStays (G.sight old) (G.sight now)
   pub later : G.faults old ≤ G.faults now
 
--- the books of a disk that was opened
-pub record AreBooksOver {D : Type 0} (G : Ghosts D) (opened : Opened D G) (began : D) (limit : ℕ) (books : Books D G)
-    : Type 0 where
-  pub kept : Kept G books
-  pub history_is : history_in books ≡ []
-  pub taken_is : books.taken.value ≡ opened.taken
-  pub limit_is : books.limit ≡ limit
-  pub began_is : books.began.value ≡ began
-  pub store_is : books.store ≡ opened.store
-  pub sure : books.failed.value ≡ None
+-- the account's state over a disk that was opened
+pub record IsAccountStateOver {D : Type 0} (G : Ghosts D) (opened : Opened D G) (began : D) (limit : ℕ)
+    (inner : AccountState D G) : Type 0 where
+  pub kept : Kept G inner
+  pub history_is : history_in inner ≡ []
+  pub taken_is : inner.taken.value ≡ opened.taken
+  pub limit_is : inner.limit ≡ limit
+  pub began_is : inner.began.value ≡ began
+  pub store_is : inner.store ≡ opened.store
+  pub sure : inner.failed.value ≡ None

@@ -1,10 +1,10 @@
 //! The account.
 ghost use Rattle.std.specs.Prelude.{◌≡◌, slice_get, option_copied};
 ghost use Rattle.sm_account.specs.Allowed.{EntriesAllowed, StayVouched};
-ghost use Rattle.sm_account.specs.Books.{Kept};
+ghost use Rattle.sm_account.specs.AccountState.{Kept};
 ghost use Rattle.sm_account.specs.KeptOnce.{Kept-prop};
 
-use crate::books::Books;
+use crate::account_state::AccountState;
 use crate::counting::entries_count;
 use crate::handled::Handled;
 use crate::handling::handle;
@@ -21,20 +21,20 @@ use sm_versions::Found;
 use std::marker::PhantomData;
 
 /// All secrets of an account, its entries on a disk, and the history since it was opened. Between any two calls its
-/// books keep what `Kept` says, and each answer that was entered is one that its rotator may give.
+/// state keeps what `Kept` says, and each answer that was entered is one that its rotator may give.
 pub struct Account<D: Disk, R: Rotator> {
-    books: Books<D>,
+    inner: AccountState<D>,
     doors: u32,
     rotator: PhantomData<R>,
-    ghost kept: { Kept D.Disk books } by { Kept-prop books },
-    ghost allowed: { ∥ EntriesAllowed R.replies books ∥₁ },
+    ghost kept: { Kept D.Disk inner } by { Kept-prop inner },
+    ghost allowed: { ∥ EntriesAllowed R.replies inner ∥₁ },
 }
 
 /// Who lets an account go makes one call.
 impl<D: Disk + Drop, R: Rotator> Drop for Account<D, R> {
     fn drop(self) {
         let Account {
-            books: _,
+            inner: _,
             doors: _,
             rotator: _,
         } = self;
@@ -49,7 +49,7 @@ impl<D: Disk, R: Rotator> Account<D, R> {
     ghost use Rattle.sm_sound.specs.Bases.{IsSound};
     ghost use Rattle.sm_table.specs.Sound.{Sound};
     ghost use Rattle.sm_account.specs.Accounts.{history, base, state, rows, disk, began, taken, all_of, failed, is_unsure, doors, SameOrigin};
-    ghost use Rattle.sm_account.specs.Books.{FaultsBound, faults_of};
+    ghost use Rattle.sm_account.specs.AccountState.{FaultsBound, faults_of};
     ghost use Rattle.sm_account.specs.Claims.{ClaimsReady, ready_at};
     ghost use Rattle.sm_account.specs.Crashes.{HoldsOnDisk};
     ghost use Rattle.sm_account.specs.Deeds.{Leaves};
@@ -64,15 +64,15 @@ impl<D: Disk, R: Rotator> Account<D, R> {
     ghost use Rattle.sm_claims.specs.Due.{has_due};
     ghost use Rattle.sm_core.specs.Histories.{later, replay};
 
-    /// An account over books of which all holds that is kept.
-    pub(crate) fn over(books: Books<D>, doors: u32) -> Account<D, R>
-        requires kept { Kept D.Disk books }
-        requires allowed { ∥ EntriesAllowed R.replies books ∥₁ }
-        ensures books { result.books ≡ books }
+    /// An account over a state of which all holds that is kept.
+    pub(crate) fn over(inner: AccountState<D>, doors: u32) -> Account<D, R>
+        requires kept { Kept D.Disk inner }
+        requires allowed { ∥ EntriesAllowed R.replies inner ∥₁ }
+        ensures inner { result.inner ≡ inner }
         ensures doors { result.doors ≡ doors }
     {
         Account {
-            books,
+            inner,
             doors,
             rotator: PhantomData,
         }
@@ -82,7 +82,7 @@ impl<D: Disk, R: Rotator> Account<D, R> {
     pub(crate) fn marks_count(&self) -> u64
         ensures { result ≡ length (history self.now) }
     {
-        self.books.marks
+        self.inner.marks
     }
 
     /// Answers a request of a person at a reading of the clock, with the random bytes that were drawn for it. An entry
@@ -108,12 +108,12 @@ impl<D: Disk, R: Rotator> Account<D, R> {
 
         // A refusal and want of memory leave rows, journal and disk. Once an entry is acknowledged the tail is sure; a
         // fault of the disk leaves the rows, and the tail is unsure.
-        ensures leaves { Leaves D.Disk self.old.books self.new.books seat (handled_by result
+        ensures leaves { Leaves D.Disk self.old.inner self.new.inner seat (handled_by result
             (outcome (state self.old)
             (record { person = person.now; now = now; drawn = drawn.now; request = request.now }))) }
         ensures origin { SameOrigin self.old self.new }
     {
-        handle(&mut self.books, seat, person, now, drawn, request)
+        handle(&mut self.inner, seat, person, now, drawn, request)
     }
 
     /// Claims the first step of a rotation that is ready at a reading of the clock, in order of the secrets' creation:
@@ -124,11 +124,11 @@ impl<D: Disk, R: Rotator> Account<D, R> {
 
         // There is a work exactly where a step is ready, and it is of that step; its claim is added to the history.
         ensures next { NextAs result (ready_at (base self.old) (history self.old) (later (state self.old).last now)) }
-        ensures leaves { Leaves D.Disk self.old.books self.new.books seat
+        ensures leaves { Leaves D.Disk self.old.inner self.new.inner seat
             (next_by result (later (state self.old).last now)) }
         ensures origin { SameOrigin self.old self.new }
     {
-        next_work(&mut self.books, seat, now)
+        next_work(&mut self.inner, seat, now)
     }
 
     /// Whether some rotation is due at a reading of the clock, for a token that no version of its secret has. It takes
@@ -137,8 +137,8 @@ impl<D: Disk, R: Rotator> Account<D, R> {
         requires { now.0 ≤ LAST_READING }
         ensures { result ≡ has_due (rows self.now).secrets (later (state self.now).last now) }
     {
-        let moment = Moment(self.books.last.0.max(now.0));
-        has_due(&self.books.table, moment)
+        let moment = Moment(self.inner.last.0.max(now.0));
+        has_due(&self.inner.table, moment)
     }
 
     /// Starts the first rotation that is due at a reading of the clock for the token of these random bytes, in order of
@@ -146,11 +146,11 @@ impl<D: Disk, R: Rotator> Account<D, R> {
     pub fn start_due(&mut self, seat: u32, now: Moment, drawn: &[u8; 16]) -> StartedDue
         requires { now.0 ≤ LAST_READING }
         ensures starts { StartsAs result (start_at (state self.old) now drawn.now) }
-        ensures leaves { Leaves D.Disk self.old.books self.new.books seat
+        ensures leaves { Leaves D.Disk self.old.inner self.new.inner seat
             (started_by result (start_at (state self.old) now drawn.now)) }
         ensures origin { SameOrigin self.old self.new }
     {
-        start_due(&mut self.books, seat, now, drawn)
+        start_due(&mut self.inner, seat, now, drawn)
     }
 
     /// Enters what a rotator answered to its work, at a reading of the clock. A verdict on a step that is past is
@@ -159,11 +159,11 @@ impl<D: Disk, R: Rotator> Account<D, R> {
     pub fn report(&mut self, seat: u32, now: Moment, verdict: &Verdict<R>) -> Reported
         requires { now.0 ≤ LAST_READING }
         ensures reports { ReportsAs result (report_at (state self.old) now verdict.now.work verdict.now.answer) }
-        ensures leaves { Leaves D.Disk self.old.books self.new.books seat
+        ensures leaves { Leaves D.Disk self.old.inner self.new.inner seat
             (reported_by result (report_at (state self.old) now verdict.now.work verdict.now.answer)) }
         ensures origin { SameOrigin self.old self.new }
     {
-        report(&mut self.books, seat, now, verdict.work(), verdict.answer())
+        report(&mut self.inner, seat, now, verdict.work(), verdict.answer())
     }
 
     /// What always holds of an account. It takes no memory, and does nothing.
@@ -185,8 +185,8 @@ impl<D: Disk, R: Rotator> Account<D, R> {
 
         // Each answer that was entered is one that the rotator may give where it accepts a test. So where each attempt
         // that a recovered secret remembers is one at which its rotator may have accepted the test, this stays so.
-        ensures allowed { ∥ EntriesAllowed R.replies self.now.books ∥₁ }
-        ensures vouched { ∥ StayVouched R.replies self.now.books ∥₁ }
+        ensures allowed { ∥ EntriesAllowed R.replies self.now.inner ∥₁ }
+        ensures vouched { ∥ StayVouched R.replies self.now.inner ∥₁ }
 
         // A write that failed left its fault in the history.
         ensures told { faults_of (failed self.now) ≤ faults_in (history self.now) }
@@ -194,7 +194,7 @@ impl<D: Disk, R: Rotator> Account<D, R> {
         // There are at most as many faults in the history as the disk's count rose by since the opening.
         ensures faults { FaultsBound (D.faults (began self.now)) (history self.now) (D.faults (disk self.now)) }
     {
-        let _books = &self.books;
+        let _inner = &self.inner;
     }
 
     /// The value of the version that has the label, in the secret that the SecretId names at a reading of the clock. It
@@ -204,9 +204,9 @@ impl<D: Disk, R: Rotator> Account<D, R> {
         ensures { option_copied result ≡
             value_labelled (rows self.now) (later (state self.now).last now) id.now label.now }
     {
-        let moment = Moment(self.books.last.0.max(now.0));
-        let row = self.books.table.find(id, moment)?;
-        match self.books.table.find_version(row.serial, None, Some(label)) {
+        let moment = Moment(self.inner.last.0.max(now.0));
+        let row = self.inner.table.find(id, moment)?;
+        match self.inner.table.find_version(row.serial, None, Some(label)) {
             Some(Found::Version(version)) => version.value.as_ref(),
             Some(Found::None) => None,
             Some(Found::Differ) => None,
@@ -218,14 +218,14 @@ impl<D: Disk, R: Rotator> Account<D, R> {
     pub fn table(&self) -> &Table
         ensures { result.now ≡ rows self.now }
     {
-        &self.books.table
+        &self.inner.table
     }
 
     /// How many entries were made in all: before the base, behind it, and since the opening. It takes no memory.
     pub fn entries(&self) -> u64
         ensures { result ≡ (made_of (all_of self.now)).entries }
     {
-        entries_count(&self.books)
+        entries_count(&self.inner)
     }
 
     /// What its entries are counted from: the base that was taken from the disk, or where there was none what stands
@@ -234,7 +234,7 @@ impl<D: Disk, R: Rotator> Account<D, R> {
         ensures base { result.now ≡ base_under (taken self.now).base }
         ensures sound { IsSound result.now }
     {
-        &self.books.base
+        &self.inner.base
     }
 
     /// The entry at a place, counted from 0, of those behind the base: those that were taken from the disk and then
@@ -242,7 +242,7 @@ impl<D: Disk, R: Rotator> Account<D, R> {
     pub fn entry(&self, place: u64) -> Option<&Entry>
         ensures { option_copied result ≡ slice_get (all_of self.now).entries place }
     {
-        entry_at(self.books.entries.as_slice(), place as usize)
+        entry_at(self.inner.entries.as_slice(), place as usize)
     }
 
     /// How many doors are open. It takes no memory.
@@ -264,11 +264,11 @@ impl<D: Disk, R: Rotator> Account<D, R> {
         ensures { result ≡ disk self }
     {
         let Account {
-            books,
+            inner,
             doors: _,
             rotator: _,
         } = self;
-        let Books { store, .. } = books;
+        let AccountState { store, .. } = inner;
         store.close()
     }
 }

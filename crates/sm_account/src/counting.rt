@@ -1,14 +1,14 @@
 //! How many entries an account has.
 ghost use Rattle.std.specs.Prelude.{◌≡◌, ◌+◌};
-ghost use Rattle.sm_account.specs.Books.{Kept, state_in};
+ghost use Rattle.sm_account.specs.AccountState.{Kept, state_in};
 
-use crate::books::Books;
+use crate::account_state::AccountState;
 use sm_disk::Disk;
 
 /// How many entries were made, before the opening and since.
-pub fn entries_count<D: Disk>(books: &Books<D>) -> u64
-    requires { Kept D.Disk books.now }
-    ensures { result ≡ (state_in books.now).before + books.now.made }
+pub fn entries_count<D: Disk>(inner: &AccountState<D>) -> u64
+    requires { Kept D.Disk inner.now }
+    ensures { result ≡ (state_in inner.now).before + inner.now.made }
 {
-    books.base.entries + books.entries.len() as u64
+    inner.base.entries + inner.entries.len() as u64
 }

@@ -2,14 +2,14 @@
 ghost use Rattle.std.specs.Prelude.{◌≡◌, ◌≤◌, length, IfOk};
 ghost use Rattle.sm_journal.specs.Records.{body_limit};
 ghost use Rattle.sm_store.specs.BaseAppends.{IsReady};
-ghost use Rattle.sm_account.specs.Books.{Kept, state_in};
+ghost use Rattle.sm_account.specs.AccountState.{Kept, state_in};
 ghost use Rattle.sm_account.specs.Deeds.{Leaves};
 ghost use Rattle.sm_account.specs.Growing.{HasRoom};
 ghost use Rattle.sm_account.specs.Handling.{LimitsAside, MayEnter};
 ghost use Rattle.sm_account.specs.Limits.{EntersAs, entered_by, passed_at, tried_entry};
 ghost use Rattle.sm_account.specs.Outcome.{is_full};
 
-use crate::books::Books;
+use crate::account_state::AccountState;
 use crate::counting::entries_count;
 use crate::due::Due;
 use crate::growing::grow;
@@ -37,16 +37,16 @@ pub enum Entered {
 }
 
 /// Makes an entry that is legal at the rows, unless it would pass a limit.
-pub fn enter<D: Disk>(books: &mut Books<D>, seat: u32, entry: Entry) -> Result<Entered, NoMemory>
-    requires kept { Kept D.Disk books.old }
-    requires may { MayEnter books.old entry }
-    ensures kept { Kept D.Disk books.new }
-    ensures enters { IfOk result (λ entered. EntersAs entered (passed_at (state_in books.old) entry)) }
-    ensures leaves { Leaves D.Disk books.old books.new seat (tried_entry result entry) }
+pub fn enter<D: Disk>(inner: &mut AccountState<D>, seat: u32, entry: Entry) -> Result<Entered, NoMemory>
+    requires kept { Kept D.Disk inner.old }
+    requires may { MayEnter inner.old entry }
+    ensures kept { Kept D.Disk inner.new }
+    ensures enters { IfOk result (λ entered. EntersAs entered (passed_at (state_in inner.old) entry)) }
+    ensures leaves { Leaves D.Disk inner.old inner.new seat (tried_entry result entry) }
 {
-    match again(books.alloc, &books.table, &entry) {
-        Replayed::Accept(change) => match grow(books, entry, change) {
-            Ok(due) => Ok(enter_due(books, seat, due)),
+    match again(inner.alloc, &inner.table, &entry) {
+        Replayed::Accept(change) => match grow(inner, entry, change) {
+            Ok(due) => Ok(enter_due(inner, seat, due)),
             Err(NoMemory) => Err(NoMemory),
         },
         Replayed::Refuse => unreachable!(),
@@ -55,17 +55,17 @@ pub fn enter<D: Disk>(books: &mut Books<D>, seat: u32, entry: Entry) -> Result<E
 }
 
 /// Makes an entry for which all memory is there, unless it would pass a limit.
-pub fn enter_due<D: Disk>(books: &mut Books<D>, seat: u32, due: Due) -> Entered
-    requires kept { Kept D.Disk books.old }
-    requires due { LimitsAside books.old due }
-    requires room { HasRoom books.old }
-    ensures kept { Kept D.Disk books.new }
-    ensures enters { EntersAs result (passed_at (state_in books.old) due.entry) }
-    ensures leaves { Leaves D.Disk books.old books.new seat (entered_by result due.entry) }
+pub fn enter_due<D: Disk>(inner: &mut AccountState<D>, seat: u32, due: Due) -> Entered
+    requires kept { Kept D.Disk inner.old }
+    requires due { LimitsAside inner.old due }
+    requires room { HasRoom inner.old }
+    ensures kept { Kept D.Disk inner.new }
+    ensures enters { EntersAs result (passed_at (state_in inner.old) due.entry) }
+    ensures leaves { Leaves D.Disk inner.old inner.new seat (entered_by result due.entry) }
 {
-    match passed_limit(books, &due) {
+    match passed_limit(inner, &due) {
         Some(passed) => Entered::Over(passed),
-        None => match make(books, seat, due) {
+        None => match make(inner, seat, due) {
             Ok(()) => Entered::Made,
             Err(DiskFailed) => Entered::DiskFault,
         },
@@ -73,30 +73,30 @@ pub fn enter_due<D: Disk>(books: &mut Books<D>, seat: u32, due: Due) -> Entered
 }
 
 /// Whether no entry more may be made: so many were made since the opening, or as many as can be counted in all.
-fn is_full<D: Disk>(books: &Books<D>) -> bool
-    requires { Kept D.Disk books.now }
-    ensures { result ≡ is_full (state_in books.now) }
+fn is_full<D: Disk>(inner: &AccountState<D>) -> bool
+    requires { Kept D.Disk inner.now }
+    ensures { result ≡ is_full (state_in inner.now) }
 {
-    books.made >= ENTRIES_LIMIT || entries_count(books) >= u64::MAX
+    inner.made >= ENTRIES_LIMIT || entries_count(inner) >= u64::MAX
 }
 
 /// The limit that an entry would pass.
-fn passed_limit<D: Disk>(books: &Books<D>, due: &Due) -> Option<Passed>
-    requires kept { Kept D.Disk books.now }
+fn passed_limit<D: Disk>(inner: &AccountState<D>, due: &Due) -> Option<Passed>
+    requires kept { Kept D.Disk inner.now }
     requires spells { IsReady due.now.entry due.now.ready }
     requires short { length due.now.ready ≤ body_limit }
-    ensures { result ≡ passed_at (state_in books.now) due.now.entry }
+    ensures { result ≡ passed_at (state_in inner.now) due.now.entry }
 {
-    if is_full(books) {
+    if is_full(inner) {
         return Some(Passed {
             limit: ENTRIES_LIMIT,
             what: What::Entries,
         });
     }
     let size = record_size(due.ready.as_slice());
-    if books.store.length().saturating_add(size) > books.limit {
+    if inner.store.length().saturating_add(size) > inner.limit {
         return Some(Passed {
-            limit: books.limit,
+            limit: inner.limit,
             what: What::JournalBytes,
         });
     }

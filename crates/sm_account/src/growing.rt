@@ -11,7 +11,7 @@ ghost use Rattle.sm_account.specs.Growing.{HasRoom, IsGrown, SameButRoom};
 ghost use Rattle.sm_account.specs.Handling.{HasShortTexts};
 ghost use Rattle.sm_account.specs.Outcome.{asked_entry};
 
-use crate::books::Books;
+use crate::account_state::AccountState;
 use crate::due::Due;
 use sm_disk::Disk;
 use sm_model::{Act, Bytes, Change, Copied, Entry, Moment, NoMemory, Person, Request};
@@ -19,44 +19,44 @@ use sm_sizes::spell;
 use std::alloc::Global;
 
 /// Takes all the memory that the entry of an accepted request needs: a place for it, the entry and its
-/// spelling, and what its change needs. The books stay.
+/// spelling, and what its change needs. The state stays.
 pub fn grow_request<D: Disk>(
-    books: &mut Books<D>,
+    inner: &mut AccountState<D>,
     person: &Person,
     moment: Moment,
     drawn: &[u8],
     request: &Request,
     change: Change,
 ) -> Result<Due, NoMemory>
-    requires can { CanMake books.old.table change }
+    requires can { CanMake inner.old.table change }
     requires bound { moment.0 ≤ LAST_READING }
     requires person { HasShortTexts person.now }
     requires drawn { length drawn.now ≡ needed request.now }
     requires forms { forms_of request.now ≡ None }
     requires changes { is_reading request.now ≡ false }
     requires few { HasFewTags request.now }
-    ensures grown { IfOk result (λ due. IsGrown books.old
+    ensures grown { IfOk result (λ due. IsGrown inner.old
         (asked_entry moment person.now drawn.now request.now) change due) }
-    ensures room { OnOk result (HasRoom books.new) }
-    ensures same { SameButRoom books.old books.new }
+    ensures room { OnOk result (HasRoom inner.new) }
+    ensures same { SameButRoom inner.old inner.new }
 {
-    let entry = make_entry(books.alloc, moment, person, drawn, request)?;
-    let due = grow(books, entry, change)?;
+    let entry = make_entry(inner.alloc, moment, person, drawn, request)?;
+    let due = grow(inner, entry, change)?;
     Ok(due)
 }
 
-/// Takes all the memory that this entry needs. The books stay.
-pub fn grow<D: Disk>(books: &mut Books<D>, entry: Entry, change: Change) -> Result<Due, NoMemory>
-    requires can { CanMake books.old.table change }
+/// Takes all the memory that this entry needs. The state stays.
+pub fn grow<D: Disk>(inner: &mut AccountState<D>, entry: Entry, change: Change) -> Result<Due, NoMemory>
+    requires can { CanMake inner.old.table change }
     requires bound { entry.moment.0 ≤ LAST_READING }
     requires act { IsSpellable entry }
-    ensures grown { IfOk result (λ due. IsGrown books.old entry change due) }
-    ensures room { OnOk result (HasRoom books.new) }
-    ensures same { SameButRoom books.old books.new }
+    ensures grown { IfOk result (λ due. IsGrown inner.old entry change due) }
+    ensures room { OnOk result (HasRoom inner.new) }
+    ensures same { SameButRoom inner.old inner.new }
 {
-    let ready = spell(books.alloc, &entry)?;
-    let prepared = books.table.prepare(change)?;
-    make_room(books)?;
+    let ready = spell(inner.alloc, &entry)?;
+    let prepared = inner.table.prepare(change)?;
+    make_room(inner)?;
     Ok(Due {
         entry,
         ready,
@@ -65,14 +65,14 @@ pub fn grow<D: Disk>(books: &mut Books<D>, entry: Entry, change: Change) -> Resu
 }
 
 /// Takes a place for an entry. A history has no more marks than can be counted: past that memory is wanted.
-fn make_room<D: Disk>(books: &mut Books<D>) -> Result<(), NoMemory>
-    ensures room { OnOk result (HasRoom books.new) }
-    ensures same { SameButRoom books.old books.new }
+fn make_room<D: Disk>(inner: &mut AccountState<D>) -> Result<(), NoMemory>
+    ensures room { OnOk result (HasRoom inner.new) }
+    ensures same { SameButRoom inner.old inner.new }
 {
-    if books.marks == u64::MAX {
+    if inner.marks == u64::MAX {
         return Err(NoMemory);
     }
-    books.entries.reserve(1)?;
+    inner.entries.reserve(1)?;
     Ok(())
 }
 

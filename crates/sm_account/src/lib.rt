@@ -3,7 +3,7 @@
 #![tactic(auto)]
 
 pub mod account;
-mod books;
+mod account_state;
 mod considering;
 mod counting;
 mod due;

@@ -6,12 +6,12 @@ ghost use Rattle.sm_claims.specs.Standing.{standing_with};
 ghost use Rattle.sm_claims.specs.Works.{IsWorkOf};
 ghost use Rattle.sm_core.specs.Histories.{later};
 ghost use Rattle.sm_model.specs.declared.entry.Mark.TheVariants as mark;
-ghost use Rattle.sm_account.specs.Books.{Kept, history_in};
+ghost use Rattle.sm_account.specs.AccountState.{Kept, history_in};
 ghost use Rattle.sm_account.specs.Deeds.{Leaves};
 ghost use Rattle.sm_account.specs.Growing.{SameButRoom};
 ghost use Rattle.sm_account.specs.NextWork.{NextAs, claim_by, next_by};
 
-use crate::books::Books;
+use crate::account_state::AccountState;
 use crate::told::Told;
 use sm_claims::{Claim, add_claim, ready_work};
 use sm_disk::Disk;
@@ -30,18 +30,18 @@ pub enum NextWork {
 
 /// Claims the first step of a rotation that is ready at a reading of the clock, in order of the secrets' creation, and
 /// gives its work.
-pub fn next_work<D: Disk>(books: &mut Books<D>, seat: u32, now: Moment) -> NextWork
-    requires kept { Kept D.Disk books.old }
+pub fn next_work<D: Disk>(inner: &mut AccountState<D>, seat: u32, now: Moment) -> NextWork
+    requires kept { Kept D.Disk inner.old }
     requires bound { now.0 ≤ LAST_READING }
-    ensures kept { Kept D.Disk books.new }
+    ensures kept { Kept D.Disk inner.new }
     ensures next { NextAs result
-        (first_ready (history_in books.old) (later books.old.last now) books.old.table.secrets) }
-    ensures leaves { Leaves D.Disk books.old books.new seat (next_by result (later books.old.last now)) }
+        (first_ready (history_in inner.old) (later inner.old.last now) inner.old.table.secrets) }
+    ensures leaves { Leaves D.Disk inner.old inner.new seat (next_by result (later inner.old.last now)) }
 {
-    let moment = Moment(books.last.0.max(now.0));
-    match ready_work(books.alloc, &books.table, books.claims.as_slice(), moment) {
+    let moment = Moment(inner.last.0.max(now.0));
+    match ready_work(inner.alloc, &inner.table, inner.claims.as_slice(), moment) {
         Ok(ready) => match ready {
-            Some(work) => take_up(books, seat, work, moment),
+            Some(work) => take_up(inner, seat, work, moment),
             None => NextWork::None,
         },
         Err(NoMemory) => NextWork::Memory,
@@ -49,15 +49,15 @@ pub fn next_work<D: Disk>(books: &mut Books<D>, seat: u32, now: Moment) -> NextW
 }
 
 /// Claims the step of a work that is ready.
-fn take_up<D: Disk>(books: &mut Books<D>, seat: u32, work: Work, moment: Moment) -> NextWork
-    requires kept { Kept D.Disk books.old }
-    requires ready { IsSomeAnd (first_ready (history_in books.old) moment books.old.table.secrets)
+fn take_up<D: Disk>(inner: &mut AccountState<D>, seat: u32, work: Work, moment: Moment) -> NextWork
+    requires kept { Kept D.Disk inner.old }
+    requires ready { IsSomeAnd (first_ready (history_in inner.old) moment inner.old.table.secrets)
         (λ row. IsWorkOf row work) }
-    ensures kept { Kept D.Disk books.new }
-    ensures next { NextAs result (first_ready (history_in books.old) moment books.old.table.secrets) }
-    ensures leaves { Leaves D.Disk books.old books.new seat (next_by result moment) }
+    ensures kept { Kept D.Disk inner.new }
+    ensures next { NextAs result (first_ready (history_in inner.old) moment inner.old.table.secrets) }
+    ensures leaves { Leaves D.Disk inner.old inner.new seat (next_by result moment) }
 {
-    match claim(books, seat, &work, moment) {
+    match claim(inner, seat, &work, moment) {
         Ok(()) => NextWork::Work(work),
         Err(NoMemory) => NextWork::Memory,
     }
@@ -65,32 +65,32 @@ fn take_up<D: Disk>(books: &mut Books<D>, seat: u32, work: Work, moment: Moment)
 
 /// Adds a claim of the work's step to the history, and to the claims that stand.
 fn claim<D: Disk>(
-    books: &mut Books<D>,
+    inner: &mut AccountState<D>,
     seat: u32,
     work: &Work,
     moment: Moment,
 ) -> Result<(), NoMemory>
-    ensures claimed { OnOk result (history_in books.new
-        ≡ history_in books.old ++ (seat, mark.Claim work.now.arn work.now.at moment) ∷ []) }
-    ensures counted { OnOk result (books.new.marks ≡ books.old.marks + 1) }
-    ensures added { OnOk result (books.new.claims.items
-        ≡ standing_with books.old.claims.items (claim_by work.now moment) books.old.last) }
-    ensures same { OnErr result (SameButRoom books.old books.new) }
-    ensures rest { books.new ≡ record books.old {
-      claims = books.new.claims;
-      told = books.new.told;
-      marks = books.new.marks;
+    ensures claimed { OnOk result (history_in inner.new
+        ≡ history_in inner.old ++ (seat, mark.Claim work.now.arn work.now.at moment) ∷ []) }
+    ensures counted { OnOk result (inner.new.marks ≡ inner.old.marks + 1) }
+    ensures added { OnOk result (inner.new.claims.items
+        ≡ standing_with inner.old.claims.items (claim_by work.now moment) inner.old.last) }
+    ensures same { OnErr result (SameButRoom inner.old inner.new) }
+    ensures rest { inner.new ≡ record inner.old {
+      claims = inner.new.claims;
+      told = inner.new.told;
+      marks = inner.new.marks;
     } }
 {
-    let claim = claim_by(books.alloc, work, moment)?;
-    if books.marks == u64::MAX {
+    let claim = claim_by(inner.alloc, work, moment)?;
+    if inner.marks == u64::MAX {
         return Err(NoMemory);
     }
-    books.claims.reserve(1)?;
-    books.told = Told::claimed(&books.told, &seat, &claim);
-    books.marks += 1;
-    let from = books.last;
-    add_claim(&mut books.claims, claim, from);
+    inner.claims.reserve(1)?;
+    inner.told = Told::claimed(&inner.told, &seat, &claim);
+    inner.marks += 1;
+    let from = inner.last;
+    add_claim(&mut inner.claims, claim, from);
     Ok(())
 }
 

@@ -6,10 +6,10 @@ ghost use Rattle.sm_opening.specs.Lawful.{made_of, IsLawful};
 ghost use Rattle.sm_opening.specs.Openings.{IsRefused};
 ghost use Rattle.sm_store.specs.BaseStores as stores;
 ghost use Rattle.sm_account.specs.Accounts as accounts;
-ghost use Rattle.sm_account.specs.Openings.{IsOpenedOver, TakenFrom, AreBooksOver};
+ghost use Rattle.sm_account.specs.Openings.{IsOpenedOver, TakenFrom, IsAccountStateOver};
 
 use crate::account::Account;
-use crate::books::Books;
+use crate::account_state::AccountState;
 use crate::told::Told;
 use sm_disk::Disk;
 use sm_journal::OpenRefused;
@@ -42,21 +42,21 @@ impl<D: Disk, R: Rotator> Account<D, R> {
     {
         let began = Snapshot::of(&disk);
         match open(alloc, disk, limit) {
-            Ok(opened) => Ok(Account::over(books_over(alloc, opened, began, limit), doors)),
+            Ok(opened) => Ok(Account::over(account_state_over(alloc, opened, began, limit), doors)),
             Err(refused) => Err(refused),
         }
     }
 }
 
-/// The books of a disk that was opened.
-fn books_over<D: Disk>(alloc: Global, opened: Opened<D>, began: Snapshot<D>, limit: u64) -> Books<D>
+/// the account's state over a disk that was opened.
+fn account_state_over<D: Disk>(alloc: Global, opened: Opened<D>, began: Snapshot<D>, limit: u64) -> AccountState<D>
     requires store { stores.IsOpened limit opened.taken opened.store }
     requires second { stores.format_of opened.store ≡ formats.Second }
     requires lawful { IsLawful opened.taken }
     requires standing { opened.standing ≡ made_of opened.taken }
     requires limits { (9 ≤ limit) × (limit ≤ JOURNAL_LIMIT) }
     requires later { D.faults began.value ≤ D.faults (stores.disk_of opened.store) }
-    ensures { AreBooksOver D.Disk opened began.value limit result }
+    ensures { IsAccountStateOver D.Disk opened began.value limit result }
 {
     let Opened {
         store,
@@ -67,7 +67,7 @@ fn books_over<D: Disk>(alloc: Global, opened: Opened<D>, began: Snapshot<D>, lim
     let (table, last, _) = standing.into_parts();
     let found = Snapshot::of(&taken);
     let Taken { base, entries } = taken;
-    Books {
+    AccountState {
         alloc,
         table,
         store,

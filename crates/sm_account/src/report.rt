@@ -2,14 +2,14 @@
 ghost use Rattle.std.specs.Prelude.{◌≡◌, ◌≤◌, IfOk, option_copied};
 ghost use Rattle.sm_base.specs.declared.moment.TheConstants.{LAST_READING};
 ghost use Rattle.sm_table.specs.Found.{found_arn};
-ghost use Rattle.sm_account.specs.Books.{Kept, state_in};
+ghost use Rattle.sm_account.specs.AccountState.{Kept, state_in};
 ghost use Rattle.sm_account.specs.Deeds.{Leaves};
 ghost use Rattle.sm_account.specs.Efforts.{effort_within};
 ghost use Rattle.sm_account.specs.Handling.{MayEnter};
 ghost use Rattle.sm_account.specs.Limits.{passed_at};
 ghost use Rattle.sm_account.specs.Report.{IsHeldAs, ReportsAs, entered_answer, report_at, reported_by, reported_entry};
 
-use crate::books::Books;
+use crate::account_state::AccountState;
 use crate::entering::{Entered, enter};
 use sm_base::limits::VALUE_LIMIT;
 use sm_claims::{is_fresh, step_of};
@@ -44,23 +44,23 @@ pub enum Freshness {
 
 /// Enters an answer to a work at a reading of the clock, where it still holds.
 pub fn report<D: Disk>(
-    books: &mut Books<D>,
+    inner: &mut AccountState<D>,
     seat: u32,
     now: Moment,
     work: &Work,
     answer: &Answer,
 ) -> Reported
-    requires kept { Kept D.Disk books.old }
+    requires kept { Kept D.Disk inner.old }
     requires bound { now.0 ≤ LAST_READING }
-    ensures kept { Kept D.Disk books.new }
-    ensures reports { ReportsAs result (report_at (state_in books.old) now work.now answer.now) }
-    ensures leaves { Leaves D.Disk books.old books.new seat
-        (reported_by result (report_at (state_in books.old) now work.now answer.now)) }
+    ensures kept { Kept D.Disk inner.new }
+    ensures reports { ReportsAs result (report_at (state_in inner.old) now work.now answer.now) }
+    ensures leaves { Leaves D.Disk inner.old inner.new seat
+        (reported_by result (report_at (state_in inner.old) now work.now answer.now)) }
 {
-    let moment = Moment(books.last.0.max(now.0));
-    match freshness_of(books.alloc, &books.table, moment, work) {
+    let moment = Moment(inner.last.0.max(now.0));
+    match freshness_of(inner.alloc, &inner.table, moment, work) {
         Ok(freshness) => match freshness {
-            Freshness::Fresh => move_on(books, seat, moment, work, answer),
+            Freshness::Fresh => move_on(inner, seat, moment, work, answer),
             Freshness::Stale(at) => Reported::Stale(at),
         },
         Err(NoMemory) => Reported::Memory,
@@ -86,38 +86,38 @@ fn freshness_of(
 
 /// Makes the entry of an answer that holds.
 fn move_on<D: Disk>(
-    books: &mut Books<D>,
+    inner: &mut AccountState<D>,
     seat: u32,
     moment: Moment,
     work: &Work,
     answer: &Answer,
 ) -> Reported
-    requires kept { Kept D.Disk books.old }
-    requires may { MayEnter books.old (reported_entry moment work.now answer.now) }
-    ensures kept { Kept D.Disk books.new }
+    requires kept { Kept D.Disk inner.old }
+    requires may { MayEnter inner.old (reported_entry moment work.now answer.now) }
+    ensures kept { Kept D.Disk inner.new }
     ensures reports { ReportsAs result
-        (effort_within (passed_at (state_in books.old) (reported_entry moment work.now answer.now))
+        (effort_within (passed_at (state_in inner.old) (reported_entry moment work.now answer.now))
         (reported_entry moment work.now answer.now)) }
-    ensures leaves { Leaves D.Disk books.old books.new seat (reported_by result
-        (effort_within (passed_at (state_in books.old) (reported_entry moment work.now answer.now))
+    ensures leaves { Leaves D.Disk inner.old inner.new seat (reported_by result
+        (effort_within (passed_at (state_in inner.old) (reported_entry moment work.now answer.now))
         (reported_entry moment work.now answer.now))) }
 {
-    match reported_entry(books.alloc, moment, work, answer) {
-        Ok(entry) => report_entry(books, seat, entry),
+    match reported_entry(inner.alloc, moment, work, answer) {
+        Ok(entry) => report_entry(inner, seat, entry),
         Err(NoMemory) => Reported::Memory,
     }
 }
 
 /// Makes the entry of an answer.
-fn report_entry<D: Disk>(books: &mut Books<D>, seat: u32, entry: Entry) -> Reported
-    requires kept { Kept D.Disk books.old }
-    requires may { MayEnter books.old entry }
-    ensures kept { Kept D.Disk books.new }
-    ensures reports { ReportsAs result (effort_within (passed_at (state_in books.old) entry) entry) }
-    ensures leaves { Leaves D.Disk books.old books.new seat
-        (reported_by result (effort_within (passed_at (state_in books.old) entry) entry)) }
+fn report_entry<D: Disk>(inner: &mut AccountState<D>, seat: u32, entry: Entry) -> Reported
+    requires kept { Kept D.Disk inner.old }
+    requires may { MayEnter inner.old entry }
+    ensures kept { Kept D.Disk inner.new }
+    ensures reports { ReportsAs result (effort_within (passed_at (state_in inner.old) entry) entry) }
+    ensures leaves { Leaves D.Disk inner.old inner.new seat
+        (reported_by result (effort_within (passed_at (state_in inner.old) entry) entry)) }
 {
-    match enter(books, seat, entry) {
+    match enter(inner, seat, entry) {
         Ok(entered) => match entered {
             Entered::Made => Reported::Moved,
             Entered::Over(passed) => Reported::Limit(passed.limit),

@@ -3,14 +3,14 @@ ghost use Rattle.std.specs.Prelude.{◌≡◌, ◌≤◌, IfOk, option_map};
 ghost use Rattle.sm_base.specs.Drawn.{drawn_token};
 ghost use Rattle.sm_base.specs.declared.moment.TheConstants.{LAST_READING};
 ghost use Rattle.sm_claims.specs.Due.{first_due};
-ghost use Rattle.sm_account.specs.Books.{Kept, state_in};
+ghost use Rattle.sm_account.specs.AccountState.{Kept, state_in};
 ghost use Rattle.sm_account.specs.Deeds.{Leaves};
 ghost use Rattle.sm_account.specs.Efforts.{effort_within};
 ghost use Rattle.sm_account.specs.Handling.{MayEnter};
 ghost use Rattle.sm_account.specs.Limits.{passed_at};
 ghost use Rattle.sm_account.specs.StartDue.{Starts, StartsAs, start_at, start_for, started_by};
 
-use crate::books::Books;
+use crate::account_state::AccountState;
 use crate::entering::{Entered, enter};
 use sm_claims::first_due;
 use sm_disk::Disk;
@@ -41,22 +41,22 @@ pub struct DueStart {
 /// Starts the first rotation that is due at a reading of the clock for the token of the random bytes, in order of the
 /// secrets' creation.
 pub fn start_due<D: Disk>(
-    books: &mut Books<D>,
+    inner: &mut AccountState<D>,
     seat: u32,
     now: Moment,
     drawn: &[u8; 16],
 ) -> StartedDue
-    requires kept { Kept D.Disk books.old }
+    requires kept { Kept D.Disk inner.old }
     requires bound { now.0 ≤ LAST_READING }
-    ensures kept { Kept D.Disk books.new }
-    ensures starts { StartsAs result (start_at (state_in books.old) now drawn.now) }
-    ensures leaves { Leaves D.Disk books.old books.new seat
-        (started_by result (start_at (state_in books.old) now drawn.now)) }
+    ensures kept { Kept D.Disk inner.new }
+    ensures starts { StartsAs result (start_at (state_in inner.old) now drawn.now) }
+    ensures leaves { Leaves D.Disk inner.old inner.new seat
+        (started_by result (start_at (state_in inner.old) now drawn.now)) }
 {
-    let moment = Moment(books.last.0.max(now.0));
-    match due_start(books.alloc, &books.table, moment, drawn) {
+    let moment = Moment(inner.last.0.max(now.0));
+    match due_start(inner.alloc, &inner.table, moment, drawn) {
         Ok(start) => match start {
-            Some(start) => start_with(books, seat, start),
+            Some(start) => start_with(inner, seat, start),
             None => StartedDue::None,
         },
         Err(NoMemory) => StartedDue::Memory,
@@ -64,17 +64,17 @@ pub fn start_due<D: Disk>(
 }
 
 /// Makes the entry of a start.
-fn start_with<D: Disk>(books: &mut Books<D>, seat: u32, start: DueStart) -> StartedDue
-    requires kept { Kept D.Disk books.old }
-    requires may { MayEnter books.old start.entry }
+fn start_with<D: Disk>(inner: &mut AccountState<D>, seat: u32, start: DueStart) -> StartedDue
+    requires kept { Kept D.Disk inner.old }
+    requires may { MayEnter inner.old start.entry }
     requires its { Starts start.arn start.entry }
-    ensures kept { Kept D.Disk books.new }
-    ensures starts { StartsAs result (effort_within (passed_at (state_in books.old) start.entry) start.entry) }
-    ensures leaves { Leaves D.Disk books.old books.new seat
-        (started_by result (effort_within (passed_at (state_in books.old) start.entry) start.entry)) }
+    ensures kept { Kept D.Disk inner.new }
+    ensures starts { StartsAs result (effort_within (passed_at (state_in inner.old) start.entry) start.entry) }
+    ensures leaves { Leaves D.Disk inner.old inner.new seat
+        (started_by result (effort_within (passed_at (state_in inner.old) start.entry) start.entry)) }
 {
     let DueStart { arn, entry } = start;
-    match enter(books, seat, entry) {
+    match enter(inner, seat, entry) {
         Ok(entered) => match entered {
             Entered::Made => StartedDue::Started(arn),
             Entered::Over(passed) => StartedDue::Limit(passed.limit),

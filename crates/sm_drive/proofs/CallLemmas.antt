@@ -66,7 +66,7 @@ module _ {D R : Type 0} (G : DiskGhosts D) (V : RotatorGhosts R) (old : Run D R 
     (origin : accounts.SameOrigin old.account account) where
   -- what holds of every call of the account, where the step is right
   calls_by : (verdicts : List (Verdict R V)) (call : Call) (out : Outcome) (deed : Deed)
-      → Leaves G old.account.books account.books seat deed
+      → Leaves G old.account.inner account.inner seat deed
       → (IsUnder old → (entries : List Entry) → Counts old.first (stand_in old entries)
       → (more : List Entry) × Goes V.replies call out (stand_in old entries) (stand_of account verdicts more))
       → Calls G V old call out (run_with old account verdicts)
@@ -93,7 +93,7 @@ module _ {D R : Type 0} (G : DiskGhosts D) (V : RotatorGhosts R) (old : Run D R 
   handle_by : (person : Person) (now : Moment) (drawn : List ℕ) (request : Request) (result : Handled) (place : ℕ)
       → place ≡ total old.account - old.first
       → HandledAs result (outcome (accounts.state old.account) (asked person now drawn request))
-      → Leaves G old.account.books account.books seat
+      → Leaves G old.account.inner account.inner seat
       (handled_by result (outcome (accounts.state old.account) (asked person now drawn request)))
       → Calls G V old (calls.Handle person now drawn request)
       (handled_as (nat_lt (total old.account) (total account)) place result) (run_with old account old.verdicts)
@@ -114,7 +114,7 @@ module _ {D R : Type 0} (G : DiskGhosts D) (V : RotatorGhosts R) (old : Run D R 
       (before after place : ℕ) (out : Outcome) → before ≡ total old.account → after ≡ total account
       → place ≡ before - old.first → out ≡ handled_as (nat_lt before after) place result
       → HandledAs result (outcome (accounts.state old.account) (asked person now drawn request))
-      → Leaves G old.account.books account.books seat
+      → Leaves G old.account.inner account.inner seat
       (handled_by result (outcome (accounts.state old.account) (asked person now drawn request)))
       → Calls G V old (calls.Handle person now drawn request) out (run_with old account old.verdicts)
   handle_calls person now drawn request result before after place out was is is_place out_is answers leaves =
@@ -128,7 +128,7 @@ module _ {D R : Type 0} (G : DiskGhosts D) (V : RotatorGhosts R) (old : Run D R 
 
   due_by : (now : Moment) (drawn : List ℕ) (result : StartedDue) (place : ℕ) → place ≡ total old.account - old.first
       → StartsAs result (start_at (accounts.state old.account) now drawn)
-      → Leaves G old.account.books account.books seat
+      → Leaves G old.account.inner account.inner seat
       (started_by result (start_at (accounts.state old.account) now drawn))
       → Calls G V old (calls.Due now drawn) (started_as place result) (run_with old account old.verdicts)
   due_by now drawn result place is_place answers leaves =
@@ -146,7 +146,7 @@ module _ {D R : Type 0} (G : DiskGhosts D) (V : RotatorGhosts R) (old : Run D R 
   pub due_calls : (now : Moment) (drawn : List ℕ) (result : StartedDue) (before place : ℕ) (out : Outcome)
       → before ≡ total old.account → place ≡ before - old.first → out ≡ started_as place result
       → StartsAs result (start_at (accounts.state old.account) now drawn)
-      → Leaves G old.account.books account.books seat
+      → Leaves G old.account.inner account.inner seat
       (started_by result (start_at (accounts.state old.account) now drawn))
       → Calls G V old (calls.Due now drawn) out (run_with old account old.verdicts)
   due_calls now drawn result before place out was is_place out_is answers leaves =
@@ -157,7 +157,7 @@ module _ {D R : Type 0} (G : DiskGhosts D) (V : RotatorGhosts R) (old : Run D R 
       → slice_get (map told_of old.verdicts) number ≡ Some (told_of verdict)
       → place ≡ total old.account - old.first
       → ReportsAs result (report_at (accounts.state old.account) now verdict.work verdict.answer)
-      → Leaves G old.account.books account.books seat
+      → Leaves G old.account.inner account.inner seat
       (reported_by result (report_at (accounts.state old.account) now verdict.work verdict.answer))
       → Calls G V old (calls.Report number now) (reported_as place result) (run_with old account old.verdicts)
   report_by number now verdict result place named is_place answers leaves =
@@ -181,7 +181,7 @@ module _ {D R : Type 0} (G : DiskGhosts D) (V : RotatorGhosts R) (old : Run D R 
       (out : Outcome) → Some verdict ≡ slice_get old.verdicts number → before ≡ total old.account
       → place ≡ before - old.first → out ≡ reported_as place result
       → ReportsAs result (report_at (accounts.state old.account) now verdict.work verdict.answer)
-      → Leaves G old.account.books account.books seat
+      → Leaves G old.account.inner account.inner seat
       (reported_by result (report_at (accounts.state old.account) now verdict.work verdict.answer))
       → Calls G V old (calls.Report number now) out (run_with old account old.verdicts)
   report_calls number now verdict result before place out named was is_place out_is answers leaves =
@@ -195,7 +195,7 @@ module _ {D R : Type 0} (G : DiskGhosts D) (V : RotatorGhosts R) (old : Run D R 
 
   -- what becomes of the secret that is ready
   ready_goes : (now : Moment) (verdicts : List (Verdict R V)) (out : Outcome) (deed : Deed)
-      → Leaves G old.account.books account.books seat deed
+      → Leaves G old.account.inner account.inner seat deed
       → ((entries : List Entry) → GoesTo V.replies (aim_ready (ready_at (accounts.base old.account)
       (accounts.history old.account) (later (accounts.state old.account).last now))
       (later (accounts.state old.account).last now)) out (stand_in old entries) (stand_of account verdicts entries))
@@ -213,7 +213,7 @@ module _ {D R : Type 0} (G : DiskGhosts D) (V : RotatorGhosts R) (old : Run D R 
   pub work_calls : (now : Moment) (work : Work) (verdicts : List (Verdict R V)) (out : Outcome)
       → NextAs (works.Work work) (ready_at (accounts.base old.account) (accounts.history old.account)
       (later (accounts.state old.account).last now))
-      → Leaves G old.account.books account.books seat
+      → Leaves G old.account.inner account.inner seat
       (deeds.Claimed work.arn work.at (later (accounts.state old.account).last now))
       → Asks V work old.verdicts out verdicts
       → Calls G V old (calls.Work now) out (run_with old account verdicts)
@@ -255,7 +255,7 @@ module _ {D R : Type 0} (G : DiskGhosts D) (V : RotatorGhosts R) (old : Run D R 
   pub no_work_calls : (now : Moment)
       → NextAs works.None (ready_at (accounts.base old.account) (accounts.history old.account)
       (later (accounts.state old.account).last now))
-      → Leaves G old.account.books account.books seat deeds.Nothing
+      → Leaves G old.account.inner account.inner seat deeds.Nothing
       → Calls G V old (calls.Work now) Nothing (run_with old account old.verdicts)
   no_work_calls now next leaves =
       ready_goes now old.verdicts Nothing deeds.Nothing leaves
@@ -270,7 +270,7 @@ module _ {D R : Type 0} (G : DiskGhosts D) (V : RotatorGhosts R) (old : Run D R 
       to (Some row) next entries = absurd next
 
   -- memory is wanted before a claim
-  pub wanting_calls : (now : Moment) → Leaves G old.account.books account.books seat deeds.Nothing
+  pub wanting_calls : (now : Moment) → Leaves G old.account.inner account.inner seat deeds.Nothing
       → Calls G V old (calls.Work now) Memory (run_with old account old.verdicts)
   wanting_calls now leaves =
       ready_goes now old.verdicts Memory deeds.Nothing leaves

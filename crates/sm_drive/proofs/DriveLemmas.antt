@@ -32,7 +32,7 @@ use Rattle.sm_opening.proofs.KeepingLaws.{stays_itself}
 use Rattle.sm_opening.proofs.LawfulLaws.{stays_lawful}
 use Rattle.sm_account.specs.Accounts as accounts
 use Rattle.sm_account.specs.Allowed.{EntriesAllowed, IsAllowedAt}
-use Rattle.sm_account.specs.Books.{with_entries}
+use Rattle.sm_account.specs.AccountState.{with_entries}
 use Rattle.sm_account.specs.History.{entries_in}
 use Rattle.sm_account.specs.Openings.{IsOpenedOver, TakenFrom}
 use Rattle.sm_account.specs.States.{Base as bases}

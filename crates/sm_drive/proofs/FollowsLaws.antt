@@ -21,7 +21,7 @@ use Rattle.sm_sound.specs.Bases.{IsSound}
 use Rattle.sm_store.specs.Held.{Held, with_entry}
 use Rattle.sm_opening.specs.Lawful.{IsLawful, MayFollow, MayFollowIf, StaysLawful, base_under, made_of}
 use Rattle.sm_account.specs.Allowed.{IsAllowedAt}
-use Rattle.sm_account.specs.Books.{with_entries}
+use Rattle.sm_account.specs.AccountState.{with_entries}
 use Rattle.sm_account.specs.History.{entries_in, entry_then}
 use Rattle.sm_account.proofs.HeldLemmas.{made_rows, timely_more}
 use Rattle.sm_account.proofs.StateLaws.{entries_more}

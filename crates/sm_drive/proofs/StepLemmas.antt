@@ -22,7 +22,7 @@ use Rattle.sm_store.specs.BaseStores as stores
 use Rattle.sm_store.specs.Held.{Held}
 use Rattle.sm_opening.specs.Lawful.{made_of}
 use Rattle.sm_account.specs.Accounts as accounts
-use Rattle.sm_account.specs.Books.{all_held, disk_in}
+use Rattle.sm_account.specs.AccountState.{all_held, disk_in}
 use Rattle.sm_account.specs.Deeds.{Deed, Leaves, LeavesTried, tried_by}
 use Rattle.sm_account.specs.Deeds as deeds
 use Rattle.sm_account.specs.Efforts.{Effort, Undue, Over, Due}
@@ -55,7 +55,7 @@ use Rattle.sm_drive.specs.declared.outcome.Outcome.TheVariants.{Entered, Quiet, 
 -- ---- a disk goes on telling
 
 module _ {D R : Type 0} {G : DiskGhosts D} {V : RotatorGhosts R} (old new : Account D R G V) where
-  tells_by : (tried : Option Entry) → LeavesTried G tried old.books new.books
+  tells_by : (tried : Option Entry) → LeavesTried G tried old.inner new.inner
       → GoesOnTelling (G.sight (accounts.disk old)) (G.sight (accounts.disk new))
   tells_by None same =
       subst (λ (d : D). GoesOnTelling (G.sight (accounts.disk old)) (G.sight d)) (sym (ap stores.disk_of same))
@@ -64,7 +64,7 @@ module _ {D R : Type 0} {G : DiskGhosts D} {V : RotatorGhosts R} (old new : Acco
   tells_by (Some own) (inr (mid, first, second)) =
       λ s reads. let told = first.tells s reads in second.tells told.0 told.1
 
-  pub leaves_tells : (deed : Deed) → Leaves G old.books new.books seat deed
+  pub leaves_tells : (deed : Deed) → Leaves G old.inner new.inner seat deed
       → GoesOnTelling (G.sight (accounts.disk old)) (G.sight (accounts.disk new))
   leaves_tells deed leaves = tells_by (tried_by deed) leaves.any_moment
 
@@ -72,7 +72,7 @@ module _ {D R : Type 0} {G : DiskGhosts D} {V : RotatorGhosts R} (old new : Acco
 
 module _ {D R : Type 0} {G : DiskGhosts D} {V : RotatorGhosts R} (old new : Account D R G V)
     (verdicts : List (Verdict R V)) (made : List Entry) where
-  pub made_stand : (entry : Entry) → Leaves G old.books new.books seat (deeds.Made entry)
+  pub made_stand : (entry : Entry) → Leaves G old.inner new.inner seat (deeds.Made entry)
       → stand_of new verdicts (made ++ entry ∷ []) ≡ entered (stand_of old verdicts made) entry
   made_stand entry leaves =
       let taken : accounts.taken new ≡ accounts.taken old = leaves.origin.taken in
@@ -80,14 +80,14 @@ module _ {D R : Type 0} {G : DiskGhosts D} {V : RotatorGhosts R} (old new : Acco
       let failed : accounts.failed new ≡ None = leaves.failed in
       cc
 
-  pub failed_stand : (entry : Entry) → Leaves G old.books new.books seat (deeds.Failed entry)
+  pub failed_stand : (entry : Entry) → Leaves G old.inner new.inner seat (deeds.Failed entry)
       → stand_of new verdicts made ≡ faulted (stand_of old verdicts made) (accounts.failed new)
   failed_stand entry leaves =
       let taken : accounts.taken new ≡ accounts.taken old = leaves.origin.taken in
       let history : accounts.history new ≡ accounts.history old ++ (seat, marks.Fault) ∷ [] = leaves.history in
       cc
 
-  pub same_stand : Leaves G old.books new.books seat deeds.Nothing
+  pub same_stand : Leaves G old.inner new.inner seat deeds.Nothing
       → stand_of new verdicts made ≡ stand_of old verdicts made
   same_stand leaves =
       let taken : accounts.taken new ≡ accounts.taken old = leaves.origin.taken in
@@ -97,7 +97,7 @@ module _ {D R : Type 0} {G : DiskGhosts D} {V : RotatorGhosts R} (old new : Acco
       cc
 
   pub claimed_stand : (work : Work) (moment : Moment)
-      → Leaves G old.books new.books seat (deeds.Claimed work.arn work.at moment)
+      → Leaves G old.inner new.inner seat (deeds.Claimed work.arn work.at moment)
       → stand_of new verdicts made ≡ claimed (stand_of old verdicts made) work moment
   claimed_stand work moment leaves =
       let taken : accounts.taken new ≡ accounts.taken old = leaves.origin.taken in
@@ -127,7 +127,7 @@ abbrev pub total : {D R : Type 0} {G : DiskGhosts D} {V : RotatorGhosts R} → A
 total account = (made_of (accounts.all_of account)).entries
 
 module _ {D R : Type 0} {G : DiskGhosts D} {V : RotatorGhosts R} (old new : Account D R G V) where
-  total_made : (entry : Entry) → Leaves G old.books new.books seat (deeds.Made entry) → total new ≡ total old + 1
+  total_made : (entry : Entry) → Leaves G old.inner new.inner seat (deeds.Made entry) → total new ≡ total old + 1
   total_made entry leaves =
       let own : entries_in (accounts.history new) ≡ entries_in (accounts.history old) ++ entry ∷ [] =
       ap entries_in leaves.history ∙ entries_more (accounts.history old) seat (marks.Entry entry) in
@@ -140,7 +140,7 @@ module _ {D R : Type 0} {G : DiskGhosts D} {V : RotatorGhosts R} (old new : Acco
         length-append (entries_in (accounts.history old)) (entry ∷ []),
       )
 
-  total_same : Leaves G old.books new.books seat deeds.Nothing → total new ≡ total old
+  total_same : Leaves G old.inner new.inner seat deeds.Nothing → total new ≡ total old
   total_same leaves =
       omega (
         arith,
@@ -169,17 +169,17 @@ module _ {D R : Type 0} {G : DiskGhosts D} {V : RotatorGhosts R} (old new : Acco
   abbrev Going : (to : Aim) → Outcome → Type 0
   Going to out = (more : List Entry) × GoesTo V.replies to out before (stand_of new verdicts more)
 
-  enters : (entry : Entry) → Leaves G old.books new.books seat (deeds.Made entry) → Going (Enters entry) (Entered place)
+  enters : (entry : Entry) → Leaves G old.inner new.inner seat (deeds.Made entry) → Going (Enters entry) (Entered place)
   enters entry leaves = (made ++ entry ∷ [], (place_is, made_stand old new verdicts made entry leaves))
 
-  fails : (entry : Entry) → Leaves G old.books new.books seat (deeds.Failed entry) → Going (Enters entry) DiskFault
+  fails : (entry : Entry) → Leaves G old.inner new.inner seat (deeds.Failed entry) → Going (Enters entry) DiskFault
   fails entry leaves = (made, (accounts.failed new, leaves.failed, failed_stand old new verdicts made entry leaves))
 
-  stops : (wanted out : Outcome) → Leaves G old.books new.books seat deeds.Nothing → EndsAs wanted out
+  stops : (wanted out : Outcome) → Leaves G old.inner new.inner seat deeds.Nothing → EndsAs wanted out
       → Going (Stops wanted) out
   stops wanted out leaves is = (made, record { ends = is; new_is = same_stand old new verdicts made leaves })
 
-  wants : (entry : Entry) → Leaves G old.books new.books seat deeds.Nothing → Going (Enters entry) Memory
+  wants : (entry : Entry) → Leaves G old.inner new.inner seat deeds.Nothing → Going (Enters entry) Memory
   wants entry leaves = (made, same_stand old new verdicts made leaves)
 
   -- ---- requests
@@ -192,7 +192,7 @@ module _ {D R : Type 0} {G : DiskGhosts D} {V : RotatorGhosts R} (old new : Acco
       by false = refl
 
   pub handled_goes : (wanted : ends) (result : Handled) → HandledAs result wanted
-      → Leaves G old.books new.books seat (handled_by result wanted)
+      → Leaves G old.inner new.inner seat (handled_by result wanted)
       → Going (aim_asked wanted) (handled_as (nat_lt (total old) (total new)) place result)
   handled_goes (replied reply (Some entry)) (handled.Answered given) is leaves =
       subst (λ (b : Bool). Going (Enters entry) (answered_as b place))
@@ -216,7 +216,7 @@ module _ {D R : Type 0} {G : DiskGhosts D} {V : RotatorGhosts R} (old new : Acco
   -- ---- reports
 
   pub reported_goes : (wanted : Effort (Option At)) (result : reports) → ReportsAs result wanted
-      → Leaves G old.books new.books seat (reported_by result wanted)
+      → Leaves G old.inner new.inner seat (reported_by result wanted)
       → Going (aim_within Stale wanted) (reported_as place result)
   reported_goes (Undue at) reported.Moved is leaves = absurd is
   reported_goes (Undue at) (reported.Stale given) is leaves = stops Stale Stale leaves refl
@@ -237,7 +237,7 @@ module _ {D R : Type 0} {G : DiskGhosts D} {V : RotatorGhosts R} (old new : Acco
   -- ---- due rotations
 
   pub started_goes : (wanted : Effort (Unit {0})) (result : StartedDue) → StartsAs result wanted
-      → Leaves G old.books new.books seat (started_by result wanted)
+      → Leaves G old.inner new.inner seat (started_by result wanted)
       → Going (aim_within Nothing wanted) (started_as place result)
   started_goes (Undue none) (started.Started arn) is leaves = absurd is
   started_goes (Undue none) started.None is leaves = stops Nothing Nothing leaves refl
@@ -260,7 +260,7 @@ module _ {D R : Type 0} {G : DiskGhosts D} {V : RotatorGhosts R} (old new : Acco
 module _ {D R : Type 0} {G : DiskGhosts D} {V : RotatorGhosts R} (old new : Account D R G V)
     (verdicts : List (Verdict R V)) (made : List Entry) (moment : Moment) where
   pub asked_goes : (row : SecretRow) (work : Work) (verdict : Verdict R V) → IsWorkOf row work → verdict.work ≡ work
-      → Leaves G old.books new.books seat (deeds.Claimed work.arn work.at moment)
+      → Leaves G old.inner new.inner seat (deeds.Claimed work.arn work.at moment)
       → GoesTo V.replies (Claims row moment) Asked (stand_of old verdicts made)
       (stand_of new (verdicts ++ verdict ∷ []) made)
   asked_goes row work verdict of same leaves = (
@@ -273,6 +273,6 @@ module _ {D R : Type 0} {G : DiskGhosts D} {V : RotatorGhosts R} (old new : Acco
   )
 
   pub claim_goes : (row : SecretRow) (work : Work) → IsWorkOf row work
-      → Leaves G old.books new.books seat (deeds.Claimed work.arn work.at moment)
+      → Leaves G old.inner new.inner seat (deeds.Claimed work.arn work.at moment)
       → GoesTo V.replies (Claims row moment) Memory (stand_of old verdicts made) (stand_of new verdicts made)
   claim_goes row work of leaves = inr (work, of, claimed_stand old new verdicts made work moment leaves)

@@ -17,4 +17,4 @@ pub record Stands {D R : Type 0} (G : DiskGhosts D) (V : RotatorGhosts R) (run :
       (G.sight (accounts.disk run.account))
   pub rows : accounts.rows run.account
       ≡ replay (accounts.base run.account).rows (entries_in (accounts.history run.account))
-  pub allowed : ∥ EntriesAllowed V.replies run.account.books ∥₁
+  pub allowed : ∥ EntriesAllowed V.replies run.account.inner ∥₁

@@ -12,7 +12,7 @@ use Rattle.sm_rotator.specs.declared.verdict.Verdict.{Verdict}
 use Rattle.sm_rotator.specs.declared.work.Work.{Work}
 use Rattle.sm_store.specs.Held.{Held}
 use Rattle.sm_account.specs.Accounts as accounts
-use Rattle.sm_account.specs.Books.{with_entries}
+use Rattle.sm_account.specs.AccountState.{with_entries}
 use Rattle.sm_account.specs.History.{entries_in}
 use Rattle.sm_account.specs.States.{Base, State, base_of, state_at}
 use Rattle.sm_account.specs.declared.account.Account.{Account}

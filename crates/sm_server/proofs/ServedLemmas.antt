@@ -15,7 +15,7 @@ use Rattle.sm_opening.specs.Openings.{IsRefused}
 use Rattle.sm_store.specs.Held.{Held}
 use Rattle.sm_account.specs.declared.account.Account.{Account}
 use Rattle.sm_account.specs.Accounts.{base, began, disk, failed, history, taken}
-use Rattle.sm_account.specs.Books.{FaultsBound, count_limit, faults_of}
+use Rattle.sm_account.specs.AccountState.{FaultsBound, count_limit, faults_of}
 use Rattle.sm_account.specs.History.{faults_in}
 use Rattle.sm_account.specs.Openings.{IsOpenedOver, TakenFrom}
 use Rattle.sm_account.specs.States.{Base, base_of}

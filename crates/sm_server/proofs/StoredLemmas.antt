@@ -13,7 +13,7 @@ use Rattle.sm_account.specs.Allowed.{StayVouched}
 use Rattle.sm_account.specs.History.{entries_in}
 use Rattle.sm_account.specs.declared.account.Account.{Account}
 use Rattle.sm_account.proofs.HeldLemmas.{made_rows}
-use Rattle.sm_account.specs.Books.{with_entries}
+use Rattle.sm_account.specs.AccountState.{with_entries}
 use Rattle.sm_opening.specs.Lawful.{made_of}
 use Rattle.sm_opening.proofs.LawfulLaws.{makes_one_more}
 use Rattle.sm_record.specs.declared.base.Base.{Base as Made}
@@ -56,14 +56,14 @@ module _ {D R : Type 0} {G : Ghosts D} {V : RotatorGhosts R} (replies : Replies)
   all_are : rows account ≡ (made_of (with_entries (taken account) (entries_in (history account)))).rows
   all_are = rows_are ∙ sym (made_rows (taken account) (entries_in (history account)))
 
-  stays : StayVouched replies account.books → StaysVouched replies (taken account) (history account) (failed account)
+  stays : StayVouched replies account.inner → StaysVouched replies (taken account) (history account) (failed account)
   stays vouched = record {
     now = λ first. subst (Vouched replies) all_are (vouched.now first);
     next = λ first. subst (λ r. IfSome (failed account) (λ entry. Vouched replies (effect r entry))) all_are
         (vouched.next first);
   }
 
-  pub stays_vouched : ∥ StayVouched replies account.books ∥₁
+  pub stays_vouched : ∥ StayVouched replies account.inner ∥₁
       → ∥ StaysVouched replies (taken account) (history account) (failed account) ∥₁
   stays_vouched vouched = ∥∥₁_map vouched stays
 

@@ -12,7 +12,7 @@ use Rattle.sm_rotator.specs.declared.rotator.Rotator.{Ghosts as RotatorGhosts}
 use Rattle.sm_opening.specs.Openings.{IsRefused}
 use Rattle.sm_account.specs.declared.account.Account.{Account}
 use Rattle.sm_account.specs.Accounts.{all_of, base, began, disk, failed, history, taken}
-use Rattle.sm_account.specs.Books.{FaultsBound, faults_of}
+use Rattle.sm_account.specs.AccountState.{FaultsBound, faults_of}
 use Rattle.sm_account.specs.Crashes.{HoldsOnDisk}
 use Rattle.sm_account.specs.History.{faults_in}
 use Rattle.sm_account.specs.Openings.{TakenFrom}

@@ -9,7 +9,7 @@ use Rattle.sm_model.specs.declared.entry.Entry.{Entry}
 use Rattle.sm_store.specs.Held.{Held, with_entry}
 use Rattle.sm_opening.specs.Lawful.{made_of}
 use Rattle.sm_opening.specs.Openings.{IsRefused}
-use Rattle.sm_account.specs.Books.{FaultsBound, with_entries}
+use Rattle.sm_account.specs.AccountState.{FaultsBound, with_entries}
 use Rattle.sm_account.specs.Crashes.{HoldsOnDisk}
 use Rattle.sm_account.specs.History.{entries_in}
 use Rattle.sm_account.specs.Openings.{TakenFrom}

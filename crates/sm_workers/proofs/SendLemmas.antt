@@ -5,7 +5,7 @@ use denote.Struct.Declared.{shape}
 use Rattle.std.proofs.Crossing.{crosses}
 use Rattle.sm_account.proofs.told.Told.TheSendSync as told
 use Rattle.sm_account.specs.contracts.account.Account as account
-use Rattle.sm_account.specs.contracts.books.Books as books
+use Rattle.sm_account.specs.contracts.account_state.AccountState as inner
 use Rattle.sm_base.proofs.moment.Moment.TheSendSync as moment
 use Rattle.sm_claims.proofs.claims.Claim.TheSendSync as claim
 use Rattle.sm_disk.specs.declared.disk.Disk.{Ghosts as DiskGhosts}
@@ -15,8 +15,8 @@ use Rattle.sm_rotator.specs.declared.rotator.Rotator.{Ghosts as RotatorGhosts}
 use Rattle.sm_store.proofs.base_store.BaseStore.TheSendSync as store
 use Rattle.sm_table.proofs.table.Table.TheSendSync as table
 
-books_field_send : (D : RattleType) (d : DiskGhosts D.Denot) → IsSend D → IsSend (books.the_field D d).row
-books_field_send D d sent = struct_send (shape (books.the_type D d)) (
+account_state_field_send : (D : RattleType) (d : DiskGhosts D.Denot) → IsSend D → IsSend (inner.the_field D d).row
+account_state_field_send D d sent = struct_send (shape (inner.the_type D d)) (
   search sendable,
   (
     table.the_send,
@@ -53,6 +53,6 @@ pub account_send : (D R : RattleType) (d : DiskGhosts D.Denot) (r : RotatorGhost
 account_send D R d r sent =
     recorded_send (account.the_field D R d r).row _ _ (account.the_type D R d r).to_one
     (struct_send (shape (account.the_type D R d r)) (
-      books_field_send D d sent,
+      account_state_field_send D d sent,
       (plain_send _ _ _ _ _, (search sendable, tt)),
     ))

@@ -24,39 +24,39 @@ consider-requires g c = record {
 
 pub grow_request-requires : goal.grow_request-requires
 grow_request-requires g c =
-    let books = c.args.books.now in
+    let inner = c.args.inner.now in
     let request = c.args.request.now in
     let change = of_change c.in-Accept.reply c.in-Accept.change c.in-Some.change c.in-Some.is in
     let legal = change
-    (λ _. LegalAct books.table (pruning (record { 0 = c.max.result })) c.args.drawn.now (Asked request))
+    (λ _. LegalAct inner.table (pruning (record { 0 = c.max.result })) c.args.drawn.now (Asked request))
     c.in-Accept.ensures.legal in
     record {
-      can = change (CanMake books.table) c.in-Accept.ensures.can;
+      can = change (CanMake inner.table) c.in-Accept.ensures.can;
       bound = omega (arith, c.max.ensures, c.requires.kept.bound, c.requires.bound);
       person = c.requires.person;
       drawn = c.requires.drawn;
       forms = legal.1;
       changes = change (λ _. is_reading request ≡ false) c.in-Accept.ensures.changes;
-      few = few_tags books.table (pruning (record { 0 = c.max.result })) c.args.drawn.now request legal;
+      few = few_tags inner.table (pruning (record { 0 = c.max.result })) c.args.drawn.now request legal;
     }
 
 pub finish-requires : goal.finish-requires
 finish-requires g c =
-    let books = c.args.books.now in
-    let mid = c.grow_request.new.books in
+    let inner = c.args.inner.now in
+    let mid = c.grow_request.new.inner in
     let drawn = c.args.drawn.now in
     let request = c.args.request.now in
     let entry = asked_entry (record { 0 = c.max.result }) c.args.person.now drawn request in
     let change = of_change c.in-Accept.reply c.in-Accept.change c.in-Some.change c.in-Some.is in
     record {
-      kept = room_kept books mid c.in-Ok.ensures.same c.requires.kept;
-      due = limits_aside books mid c.in-Ok.ensures.same entry c.in-Some.change c.in-Ok.due c.in-Ok.ensures.grown
-          (change (CanMake books.table) c.in-Accept.ensures.can)
-          (change (StandsAt books.table (record { 0 = c.max.result })) c.in-Accept.ensures.stands)
-          (change (Makes books.table entry) c.in-Accept.ensures.makes)
-          (change (ChangeSound (sweep books.table (record { 0 = c.max.result }))) c.in-Accept.ensures.change_sound) (
+      kept = room_kept inner mid c.in-Ok.ensures.same c.requires.kept;
+      due = limits_aside inner mid c.in-Ok.ensures.same entry c.in-Some.change c.in-Ok.due c.in-Ok.ensures.grown
+          (change (CanMake inner.table) c.in-Accept.ensures.can)
+          (change (StandsAt inner.table (record { 0 = c.max.result })) c.in-Accept.ensures.stands)
+          (change (Makes inner.table entry) c.in-Accept.ensures.makes)
+          (change (ChangeSound (sweep inner.table (record { 0 = c.max.result }))) c.in-Accept.ensures.change_sound) (
             refl,
-            change (λ _. LegalAct books.table (pruning (record { 0 = c.max.result })) drawn (Asked request))
+            change (λ _. LegalAct inner.table (pruning (record { 0 = c.max.result })) drawn (Asked request))
                 c.in-Accept.ensures.legal,
           )
           (omega (arith, c.max.ensures))
@@ -74,7 +74,7 @@ returns-in-None g c =
     } in
     record {
       kept = c.requires.kept;
-      handles = read_so c.args.books.now c.args.seat q c.max.result c.max.ensures c.in-Accept.reply c.in-Accept.change
+      handles = read_so c.args.inner.now c.args.seat q c.max.result c.max.ensures c.in-Accept.reply c.in-Accept.change
           c.in-None.is c.in-Accept.ensures.considered;
     }
 
@@ -88,22 +88,22 @@ returns-in-Refuse g c =
     } in
     record {
       kept = c.requires.kept;
-      handles = refused_so c.args.books.now c.args.seat q c.max.result c.max.ensures c.in-Refuse.why
+      handles = refused_so c.args.inner.now c.args.seat q c.max.result c.max.ensures c.in-Refuse.why
           c.in-Refuse.ensures.considered;
     }
 
 pub returns-in-Memory : goal.returns-in-Memory
 returns-in-Memory g c = record {
   kept = c.requires.kept;
-  handles = wanted_memory c.args.books.now c.args.seat _;
+  handles = wanted_memory c.args.inner.now c.args.seat _;
 }
 
 pub returns-in-Err : goal.returns-in-Err
 returns-in-Err g c = record {
-  kept = room_kept c.args.books.now c.grow_request.new.books c.grow_request.ensures.same c.requires.kept;
-  handles = after_room c.args.books.now c.grow_request.new.books c.grow_request.new.books c.args.seat
+  kept = room_kept c.args.inner.now c.grow_request.new.inner c.grow_request.ensures.same c.requires.kept;
+  handles = after_room c.args.inner.now c.grow_request.new.inner c.grow_request.new.inner c.args.seat
       c.grow_request.ensures.same Memory _
-      (wanted_memory c.grow_request.new.books c.args.seat _);
+      (wanted_memory c.grow_request.new.inner c.args.seat _);
 }
 
 pub returns-in-Ok : goal.returns-in-Ok
@@ -116,8 +116,8 @@ returns-in-Ok g c =
     } in
     record {
       kept = c.finish.ensures.kept;
-      handles = made_so c.args.books.now c.args.seat q c.max.result c.max.ensures c.grow_request.new.books
-          c.finish.new.books
+      handles = made_so c.args.inner.now c.args.seat q c.max.result c.max.ensures c.grow_request.new.inner
+          c.finish.new.inner
           c.in-Ok.ensures.same c.in-Ok.due c.in-Accept.reply c.in-Accept.change c.in-Some.change c.in-Some.is
           c.in-Accept.ensures.considered c.in-Ok.ensures.grown.entry_is c.finish.result c.finish.ensures.handles;
     }

@@ -5,16 +5,16 @@ use Rattle.sm_base.specs.Faults.{Rose}
 use Rattle.sm_table.specs.Sound.{ChangeSound, Sound}
 use Rattle.sm_table.specs.Sweep.{sweep}
 use Rattle.sm_store.specs.BaseStores as stores
-use Rattle.sm_account.specs.Books.{history_in, all_held, disk_in}
+use Rattle.sm_account.specs.AccountState.{history_in, all_held, disk_in}
 use Rattle.sm_account.specs.Crashes.{Throughout}
 use Rattle.sm_account.proofs.MakeLemmas.{entered_origin, entered_kept, failed_stays, faulted_origin, faulted_state, unmended_kept, torn_kept, behind_enter, behind_entries, behind_fault, behind_tear, behind_history}
 use Rattle.sm_account.proofs.making.make.Goals as goal
 
 pub returns-in-Ok : goal.returns-in-Ok
 returns-in-Ok g c =
-    let old = c.args.books.now in
-    let mid = c.write_ready.new.books in
-    let new = c.enter.new.books in
+    let old = c.args.inner.now in
+    let mid = c.write_ready.new.inner in
+    let new = c.enter.new.inner in
     let due = c.args.due in
     let rest = behind_enter old mid new c.write_ready.ensures.rest due.entry due.prepared.change c.enter.ensures.rest in
     let history : history_in new ≡ history_in old ++ (c.args.seat, Entry due.entry) ∷ [] = c.enter.ensures.history
@@ -45,9 +45,9 @@ returns-in-Ok g c =
 
 pub returns-in-Unmended : goal.returns-in-Unmended
 returns-in-Unmended g c =
-    let old = c.args.books.now in
-    let mid = c.write_ready.new.books in
-    let new = c.fault.new.books in
+    let old = c.args.inner.now in
+    let mid = c.write_ready.new.inner in
+    let new = c.fault.new.inner in
     let due = c.args.due in
     let still = failed_stays old new mid.store c.args.seat c.requires.kept c.write_ready.ensures.same
     (behind_fault old mid new c.write_ready.ensures.rest c.fault.ensures.rest) in
@@ -79,9 +79,9 @@ returns-in-Unmended g c =
 
 pub returns-in-Torn : goal.returns-in-Torn
 returns-in-Torn g c =
-    let old = c.args.books.now in
-    let mid = c.write_ready.new.books in
-    let new = c.tear.new.books in
+    let old = c.args.inner.now in
+    let mid = c.write_ready.new.inner in
+    let new = c.tear.new.inner in
     let due = c.args.due in
     let rest = behind_tear old mid new c.write_ready.ensures.rest c.tear.ensures.rest in
     let history : history_in new ≡ history_in old ++ (c.args.seat, Fault) ∷ [] = c.tear.ensures.history

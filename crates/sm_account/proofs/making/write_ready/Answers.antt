@@ -1,5 +1,5 @@
 use Rattle.std.proofs.Common.{length, ap, arith}
-use Rattle.sm_account.specs.Books.{all_held}
+use Rattle.sm_account.specs.AccountState.{all_held}
 use Rattle.sm_account.proofs.making.write_ready.Goals as goal
 
 pub write-requires-clause-format : goal.write-requires-clause-format
@@ -11,5 +11,5 @@ write-requires-clause-fits g c =
 
 pub returns-clause-any_moment : goal.returns-clause-any_moment
 returns-clause-any_moment g c =
-    c.write.ensures.any_moment c.args.due.now.entry c.requires.due.spells (all_held c.args.books.now)
-    c.args.books.now.failed.value c.requires.kept.holds
+    c.write.ensures.any_moment c.args.due.now.entry c.requires.due.spells (all_held c.args.inner.now)
+    c.args.inner.now.failed.value c.requires.kept.holds

@@ -1,5 +1,5 @@
 use Rattle.sm_claims.specs.Ready.{first_ready}
-use Rattle.sm_account.specs.Books.{history_in}
+use Rattle.sm_account.specs.AccountState.{history_in}
 use Rattle.sm_account.proofs.ClaimedLemmas.{claimed_kept, next_is}
 use Rattle.sm_account.proofs.DeedLemmas.{claim_added, room_taken}
 use Rattle.sm_account.proofs.RoomLemmas.{room_kept}
@@ -7,8 +7,8 @@ use Rattle.sm_account.proofs.next_work.take_up.Goals as goal
 
 pub returns-in-Ok : goal.returns-in-Ok
 returns-in-Ok g c =
-    let old = c.args.books.now in
-    let new = c.claim.new.books in
+    let old = c.args.inner.now in
+    let new = c.claim.new.inner in
     let work = c.args.work in
     record {
       kept = claimed_kept old new c.args.seat work c.args.moment c.claim.ensures.rest c.in-Ok.ensures.claimed
@@ -20,8 +20,8 @@ returns-in-Ok g c =
 
 pub returns-in-Err : goal.returns-in-Err
 returns-in-Err g c =
-    let old = c.args.books.now in
-    let new = c.claim.new.books in
+    let old = c.args.inner.now in
+    let new = c.claim.new.inner in
     record {
       kept = room_kept old new c.in-Err.ensures.same c.requires.kept;
       next = tt;

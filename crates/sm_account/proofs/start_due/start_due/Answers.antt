@@ -1,7 +1,7 @@
 use Rattle.std.proofs.Common.{arith, refl, subst, sym}
 use Rattle.sm_base.specs.Drawn.{drawn_token}
 use Rattle.sm_claims.specs.Due.{first_due}
-use Rattle.sm_account.specs.Books.{state_in}
+use Rattle.sm_account.specs.AccountState.{state_in}
 use Rattle.sm_account.specs.Handling.{MayEnter}
 use Rattle.sm_account.specs.StartDue.{Starts}
 use Rattle.sm_account.specs.declared.start_due.DueStart.{DueStart}
@@ -16,7 +16,7 @@ due_start-requires g c = omega (arith, c.max.ensures, c.requires.kept.bound, c.r
 
 pub start_with-requires : goal.start_with-requires
 start_with-requires g c =
-    let old = c.args.books.now in
+    let old = c.args.inner.now in
     let drawn = c.args.drawn.now in
     let found = first_due old.table.secrets (record { 0 = c.max.result }) (drawn_token drawn) in
     let is = start_is (record { 0 = c.max.result }) drawn found c.in-Some.start
@@ -31,8 +31,8 @@ start_with-requires g c =
 
 pub returns-in-Some : goal.returns-in-Some
 returns-in-Some g c =
-    let old = c.args.books.now in
-    let new = c.start_with.new.books in
+    let old = c.args.inner.now in
+    let new = c.start_with.new.inner in
     let drawn = c.args.drawn.now in
     let at = moment_is old.last c.args.now c.max.result c.max.ensures in
     let found = first_due old.table.secrets (record { 0 = c.max.result }) (drawn_token drawn) in
@@ -48,7 +48,7 @@ returns-in-Some g c =
 
 pub returns-in-None : goal.returns-in-None
 returns-in-None g c =
-    let old = c.args.books.now in
+    let old = c.args.inner.now in
     let drawn = c.args.drawn.now in
     let at = moment_is old.last c.args.now c.max.result c.max.ensures in
     let found = first_due old.table.secrets (record { 0 = c.max.result }) (drawn_token drawn) in
@@ -63,5 +63,5 @@ pub returns-in-Err : goal.returns-in-Err
 returns-in-Err g c = record {
   kept = c.requires.kept;
   starts = tt;
-  leaves = nothing_done c.args.books.now c.args.seat;
+  leaves = nothing_done c.args.inner.now c.args.seat;
 }

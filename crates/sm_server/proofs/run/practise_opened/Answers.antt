@@ -1,7 +1,7 @@
 use Rattle.std.proofs.Common.{◌≡◌, ℕ, refl, sym, ap, subst, ◌∙◌}
 use Rattle.sm_base.specs.declared.limits.TheConstants.{JOURNAL_LIMIT}
 use Rattle.sm_account.specs.Accounts.{history, base, began, taken, disk, failed}
-use Rattle.sm_account.specs.Books.{FaultsBound}
+use Rattle.sm_account.specs.AccountState.{FaultsBound}
 use Rattle.sm_account.specs.States.{Base, base_of}
 use Rattle.sm_opening.specs.Lawful.{made_of}
 use Rattle.sm_server.specs.declared.asked.Task.TheVariants.{Practise}

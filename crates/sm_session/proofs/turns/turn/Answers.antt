@@ -33,7 +33,7 @@ returns-clause-unsure g c =
       drawn = c.args.drawn.now;
       request = c.args.request.now;
     }) in
-    unsure_by c.args.account.now.books h.new.self.books c.args.seat (handled_by h.result wanted) h.ensures.leaves
+    unsure_by c.args.account.now.inner h.new.self.inner c.args.seat (handled_by h.result wanted) h.ensures.leaves
 
 pub returns-clause-later : goal.returns-clause-later
 returns-clause-later g c = c.handle-handled.ensures.leaves.later

@@ -5,4 +5,4 @@ pub returns-clause-base : goal.returns-clause-base
 returns-clause-base g c = c.args.self.now.kept.based
 
 pub returns-clause-sound : goal.returns-clause-sound
-returns-clause-sound g c = kept_base c.args.self.now.books c.args.self.now.kept
+returns-clause-sound g c = kept_base c.args.self.now.inner c.args.self.now.kept

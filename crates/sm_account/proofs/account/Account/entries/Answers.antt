@@ -6,4 +6,4 @@ pub entries_count-requires : goal.entries_count-requires
 entries_count-requires g c = c.args.self.now.kept
 
 pub returns : goal.returns
-returns g c = c.entries_count.ensures ∙ sym (count_of_all c.args.self.now.books c.args.self.now.kept)
+returns g c = c.entries_count.ensures ∙ sym (count_of_all c.args.self.now.inner c.args.self.now.kept)

@@ -15,14 +15,14 @@ invariant_of-self g c =
     } in
     record {
       kept = c.handle.ensures.kept;
-      allowed = allowed_told old.books c.handle.new.books c.args.seat q c.handle.result old.kept
+      allowed = allowed_told old.inner c.handle.new.inner c.args.seat q c.handle.result old.kept
           c.handle.ensures.handles g.R.Rotator.replies old.allowed;
     }
 
 pub returns : goal.returns
 returns g c =
     let old = c.args.self.now in
-    let new = c.handle.new.books in
+    let new = c.handle.new.inner in
     let q : Question = record {
       person = c.args.person.now;
       now = c.args.now;
@@ -31,8 +31,8 @@ returns g c =
     } in
     let h = c.handle.ensures.handles in
     record {
-      handled = handled_told old.books new c.args.seat q c.handle.result old.kept h;
-      history = history_told old.books new c.args.seat q c.handle.result old.kept h;
-      leaves = leaves_told old.books new c.args.seat q c.handle.result old.kept h;
+      handled = handled_told old.inner new c.args.seat q c.handle.result old.kept h;
+      history = history_told old.inner new c.args.seat q c.handle.result old.kept h;
+      leaves = leaves_told old.inner new c.args.seat q c.handle.result old.kept h;
       origin = same_origin old _ h.leaves.origin refl;
     }

@@ -7,11 +7,11 @@ pub returns-clause-on_disk : goal.returns-clause-on_disk
 returns-clause-on_disk g c =
     let account = c.args.self.now in
     record {
-      images = holds_recover account.books.store (all_of account) (failed account) account.kept.holds;
+      images = holds_recover account.inner.store (all_of account) (failed account) account.kept.holds;
       lawful = account.kept.lawful;
       next = account.kept.next;
     }
 
 pub returns-clause-vouched : goal.returns-clause-vouched
 returns-clause-vouched g c =
-    kept_vouched g.R.Rotator.replies c.args.self.now.books c.args.self.now.kept c.args.self.now.allowed
+    kept_vouched g.R.Rotator.replies c.args.self.now.inner c.args.self.now.kept c.args.self.now.allowed

@@ -1,4 +1,4 @@
-//! The books of an account: its secrets, its entries on the disk, and its history.
+//! The state of an account: its secrets, its entries on the disk, and its history.
 use crate::told::Told;
 use sm_claims::Claim;
 use sm_disk::Disk;
@@ -12,7 +12,7 @@ use std::snapshot::Snapshot;
 
 /// What an account is made of. What holds of it between two calls is `Kept`.
 #[derive(Drop)]
-pub struct Books<D: Disk> {
+pub struct AccountState<D: Disk> {
     pub alloc: Global,
     pub table: Table,
     pub store: BaseStore<D>,

@@ -2,7 +2,7 @@ use Rattle.std.proofs.Common.{refl, ap, ◌∙◌}
 use Rattle.sm_opening.specs.Lawful.{base_under}
 use Rattle.sm_store.specs.Held.{Held}
 use Rattle.sm_account.proofs.OpenLemmas.{opened_kept}
-use Rattle.sm_account.proofs.opening.books_over.Goals as goal
+use Rattle.sm_account.proofs.opening.account_state_over.Goals as goal
 
 pub returns : goal.returns
 returns g c = record {
