@@ -8,7 +8,7 @@
 
 mod accepting;
 mod crew;
-mod deed;
+mod peer_outcome;
 mod ending;
 mod entrance;
 mod entropy;

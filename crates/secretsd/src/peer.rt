@@ -2,7 +2,7 @@
 ghost use Rattle.std.specs.Prelude.{◌≤◌, IfOk, length};
 ghost use Rattle.std.specs.Io.{ReadsAtMost, WritesAtMost};
 
-use crate::deed::{Deed, Deeds};
+use crate::peer_outcome::{PeerOutcome, LastOutcome};
 use std::io;
 use std::io::{ErrorKind, Read, Write};
 use std::net::{Net, OpenListener, OpenStream, SocketAddr, TcpStream};
@@ -18,7 +18,7 @@ const TRIES: u32 = 1_000;
 #[derive(Drop)]
 pub struct PeerNet<'a> {
     pub rt: &'a HostRuntime,
-    pub deeds: Arc<Deeds>,
+    pub last_outcome: Arc<LastOutcome>,
 }
 
 impl<'a> Clock for PeerNet<'a> {
@@ -46,16 +46,16 @@ impl<'a> Net for PeerNet<'a> {
 
     fn connect_timeout(&self, addr: SocketAddr, timeout: Duration) -> io::Result<PeerStream> {
         let share = timeout
-            .checked_div(self.deeds.next_share())
+            .checked_div(self.last_outcome.next_share())
             .unwrap_or(timeout);
-        let deeds = Arc::clone(&self.deeds)?;
+        let last_outcome = Arc::clone(&self.last_outcome)?;
         match TcpStream::connect_timeout(self.rt, &addr, share) {
             Ok(stream) => {
-                deeds.note(Deed::NotSaid);
-                Ok(PeerStream { stream, deeds })
+                last_outcome.note(PeerOutcome::NotSaid);
+                Ok(PeerStream { stream, last_outcome })
             }
             Err(error) => {
-                deeds.note_error(Deed::NotReached, &error);
+                last_outcome.note_error(PeerOutcome::NotReached, &error);
                 Err(error)
             }
         }
@@ -64,8 +64,8 @@ impl<'a> Net for PeerNet<'a> {
     fn lookup_host(&self, host: &str, port: u16, found: &mut [SocketAddr]) -> io::Result<usize> {
         let looked = self.rt.lookup_host(host, port, found);
         match &looked {
-            Ok(count) => self.deeds.expect(u32::try_from(*count).unwrap_or(u32::MAX)),
-            Err(error) => self.deeds.note_error(Deed::NotFound, error),
+            Ok(count) => self.last_outcome.expect(u32::try_from(*count).unwrap_or(u32::MAX)),
+            Err(error) => self.last_outcome.note_error(PeerOutcome::NotFound, error),
         }
         looked
     }
@@ -75,7 +75,7 @@ impl<'a> Net for PeerNet<'a> {
 #[derive(Drop)]
 pub struct PeerStream {
     stream: TcpStream,
-    deeds: Arc<Deeds>,
+    last_outcome: Arc<LastOutcome>,
 }
 
 impl PeerStream {
@@ -110,9 +110,9 @@ impl Read for PeerStream {
     fn read(&mut self, buf: &mut [u8]) -> io::Result<usize> {
         let answer = self.read_some(buf);
         match &answer {
-            Ok(0) => self.deeds.note(Deed::Closed),
-            Ok(_) => self.deeds.note(Deed::Said),
-            Err(error) => self.deeds.note_error(Deed::NotSaid, error),
+            Ok(0) => self.last_outcome.note(PeerOutcome::Closed),
+            Ok(_) => self.last_outcome.note(PeerOutcome::Said),
+            Err(error) => self.last_outcome.note_error(PeerOutcome::NotSaid, error),
         }
         answer
     }
@@ -122,7 +122,7 @@ impl Write for PeerStream {
     fn write(&mut self, piece: &[u8]) -> io::Result<usize> {
         let answer = self.write_some(piece);
         if let Err(error) = &answer {
-            self.deeds.note_error(Deed::NotTaken, error);
+            self.last_outcome.note_error(PeerOutcome::NotTaken, error);
         }
         answer
     }

@@ -1,5 +1,5 @@
 //! The rotators that the words name. Each says which of its steps failed.
-use crate::deed::Deeds;
+use crate::peer_outcome::LastOutcome;
 use crate::peer::PeerNet;
 use crate::reports::{Kind, Reports};
 use sm_base::limits::VALUE_LIMIT;
@@ -52,16 +52,16 @@ impl<'a> MakeRotator for Linked<'a> {
 
     fn make(&self) -> Result<SaidRotator<'a, LinkRotator<PeerNet<'a>>>, NoMemory> {
         let alloc = self.rt.alloc();
-        let deeds = Arc::new(alloc, Deeds::none())?;
+        let last_outcome = Arc::new(alloc, LastOutcome::none())?;
         let net = PeerNet {
             rt: self.rt,
-            deeds: Arc::clone(&deeds)?,
+            last_outcome: Arc::clone(&last_outcome)?,
         };
         let address = self.address.copy(alloc)?;
         Ok(SaidRotator {
             rotator: LinkRotator::new(alloc, net, address),
             reports: self.reports,
-            peer: Some(Peer { rt: self.rt, deeds }),
+            peer: Some(Peer { rt: self.rt, last_outcome }),
         })
     }
 }
@@ -70,7 +70,7 @@ impl<'a> MakeRotator for Linked<'a> {
 #[derive(Drop)]
 struct Peer<'a> {
     rt: &'a HostRuntime,
-    deeds: Arc<Deeds>,
+    last_outcome: Arc<LastOutcome>,
 }
 
 impl<'a> Peer<'a> {
@@ -97,7 +97,7 @@ impl<'a, R> SaidRotator<'a, R> {
     fn begin(&self) -> Duration {
         match &self.peer {
             Some(peer) => {
-                peer.deeds.begin();
+                peer.last_outcome.begin();
                 peer.time()
             }
             None => Duration::ZERO,
@@ -121,7 +121,7 @@ impl<'a, R> SaidRotator<'a, R> {
                 if peer.time().saturating_sub(start) >= Duration::from_secs(SECONDS) {
                     self.say(work, "it gave no answer within 20 seconds");
                 } else {
-                    self.say(work, &*peer.deeds);
+                    self.say(work, &*peer.last_outcome);
                 }
             }
             None => self.say(work, "it gave no answer"),

@@ -2,7 +2,7 @@
 ghost use Rattle.std.specs.Prelude.{None};
 ghost use Rattle.sm_agent.specs.Link.{link_faults};
 
-use crate::deed::Deeds;
+use crate::peer_outcome::LastOutcome;
 use crate::peer::PeerNet;
 use crate::reports::{Kind, Reports};
 use sm_agent::{LinkUpstream, Question, Upped, Upstream};
@@ -21,7 +21,7 @@ pub struct SaidUpstream<'a> {
     rt: &'a HostRuntime,
     reports: &'a Reports<'a>,
     address: &'a Text,
-    deeds: Arc<Deeds>,
+    last_outcome: Arc<LastOutcome>,
     link: LinkUpstream<PeerNet<'a>>,
 }
 
@@ -33,17 +33,17 @@ impl<'a> SaidUpstream<'a> {
         address: &'a Text,
     ) -> Result<SaidUpstream<'a>, NoMemory> {
         let alloc = rt.alloc();
-        let deeds = Arc::new(alloc, Deeds::none())?;
+        let last_outcome = Arc::new(alloc, LastOutcome::none())?;
         let net = PeerNet {
             rt,
-            deeds: Arc::clone(&deeds)?,
+            last_outcome: Arc::clone(&last_outcome)?,
         };
         let link = LinkUpstream::new(alloc, net, address.copy(alloc)?);
         Ok(SaidUpstream {
             rt,
             reports,
             address,
-            deeds,
+            last_outcome,
             link,
         })
     }
@@ -61,7 +61,7 @@ impl<'a> SaidUpstream<'a> {
         if self.time().saturating_sub(start) >= Duration::from_secs(SECONDS) {
             self.say("it gave no answer within 20 seconds");
         } else {
-            self.say(&*self.deeds);
+            self.say(&*self.last_outcome);
         }
     }
 
@@ -81,7 +81,7 @@ impl<'a> Upstream for SaidUpstream<'a> {
     ghost faults = { λ it. link_faults it.link };
 
     fn ask(&mut self, question: &Question) -> Upped {
-        self.deeds.begin();
+        self.last_outcome.begin();
         let start = self.time();
         let upped = self.link.ask(question);
         match &upped {

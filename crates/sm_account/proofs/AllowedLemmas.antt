@@ -11,9 +11,9 @@ use Rattle.sm_opening.specs.Lawful.{made_of}
 use Rattle.sm_rotation.specs.Vouched.{Replies}
 use Rattle.sm_store.specs.Held.{Held}
 use Rattle.sm_account.specs.declared.account_state.AccountState.{AccountState}
-use Rattle.sm_account.specs.Allowed.{DeedAllowed, EntriesAllowed, IsAllowedAt}
+use Rattle.sm_account.specs.Allowed.{CallOutcomeAllowed, EntriesAllowed, IsAllowedAt}
 use Rattle.sm_account.specs.AccountState.{Kept, base_in, history_in, state_in}
-use Rattle.sm_account.specs.Deeds.{Deed, Nothing, Claimed, Made, Failed, FailedBy, Leaves, StaysBy, marks_by}
+use Rattle.sm_account.specs.CallOutcomes.{CallOutcome, Nothing, Claimed, Made, Failed, FailedBy, Leaves, StaysBy, marks_by}
 use Rattle.sm_account.specs.History.{by_seat, entries_in}
 use Rattle.sm_account.specs.States.{State}
 use Rattle.sm_account.proofs.StateLaws.{entries_more}
@@ -26,9 +26,9 @@ each_more replies rows (e ∷ made) entry each allowed =
 
 module _ {D : Type 0} {G : Ghosts D} (replies : Replies) (old new : AccountState D G) (seat : ℕ) (kept : Kept G old)
     (allowed : EntriesAllowed replies old) where
-  -- the entries of the history after a deed
-  made_by : (deed : Deed) → DeedAllowed replies old.table deed
-      → EachAllowed replies (base_in old).rows (entries_in (history_in old ++ by_seat seat (marks_by deed)))
+  -- the entries of the history after a call
+  made_by : (call_outcome : CallOutcome) → CallOutcomeAllowed replies old.table call_outcome
+      → EachAllowed replies (base_in old).rows (entries_in (history_in old ++ by_seat seat (marks_by call_outcome)))
   made_by Nothing is =
       subst (λ h. EachAllowed replies (base_in old).rows (entries_in h)) (sym (append-nil (history_in old)))
       allowed.made
@@ -51,8 +51,8 @@ module _ {D : Type 0} {G : Ghosts D} (replies : Replies) (old new : AccountState
       (subst (λ rows. IfSome old.failed.value (IsAllowedAt replies rows)) (sym (ap (λ (s : State). s.rows) state))
       allowed.next)
 
-  next_by : (deed : Deed) → StaysBy deed old new → FailedBy deed old new → DeedAllowed replies old.table deed
-      → IfSome new.failed.value (IsAllowedAt replies new.table)
+  next_by : (call_outcome : CallOutcome) → StaysBy call_outcome old new → FailedBy call_outcome old new
+      → CallOutcomeAllowed replies old.table call_outcome → IfSome new.failed.value (IsAllowedAt replies new.table)
   next_by Nothing stays failed is = same_next failed stays.0
   next_by (Claimed arn at moment) stays failed is = same_next failed stays.0
   next_by (Made entry) stays failed is =
@@ -65,12 +65,13 @@ module _ {D : Type 0} {G : Ghosts D} (replies : Replies) (old new : AccountState
             (subst (λ rows. IsAllowedAt replies rows entry) (sym (ap (λ (s : State). s.rows) stays)) is)
       ]
 
-  pub allowed_after : (deed : Deed) → Leaves G old new seat deed → DeedAllowed replies old.table deed
-      → EntriesAllowed replies new
-  allowed_after deed leaves is = record {
+  pub allowed_after : (call_outcome : CallOutcome) → Leaves G old new seat call_outcome
+      → CallOutcomeAllowed replies old.table call_outcome → EntriesAllowed replies new
+  allowed_after call_outcome leaves is = record {
     made =
         subst (λ (t : Held). EachAllowed replies (made_of t).rows (entries_in (history_in new)))
         (sym leaves.origin.taken)
-        (subst (λ h. EachAllowed replies (base_in old).rows (entries_in h)) (sym leaves.history) (made_by deed is));
-    next = next_by deed leaves.stays leaves.failed is;
+        (subst (λ h. EachAllowed replies (base_in old).rows (entries_in h)) (sym leaves.history)
+        (made_by call_outcome is));
+    next = next_by call_outcome leaves.stays leaves.failed is;
   }

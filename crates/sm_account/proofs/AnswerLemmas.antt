@@ -11,9 +11,9 @@ use Rattle.sm_rotation.specs.Vouched.{Replies as Relation}
 use Rattle.sm_account.specs.declared.account_state.AccountState.{AccountState}
 use Rattle.sm_account.specs.declared.handled.Handled.{Handled}
 use Rattle.sm_account.specs.declared.handled.Handled.TheVariants as handled
-use Rattle.sm_account.specs.Allowed.{DeedAllowed, EntriesAllowed, IsAllowedAt}
+use Rattle.sm_account.specs.Allowed.{CallOutcomeAllowed, EntriesAllowed, IsAllowedAt}
 use Rattle.sm_account.specs.AccountState.{Kept, base_in, history_in, state_in}
-use Rattle.sm_account.specs.Deeds.{Leaves}
+use Rattle.sm_account.specs.CallOutcomes.{Leaves}
 use Rattle.sm_account.specs.Handled.{HandledAs, marks_of}
 use Rattle.sm_account.specs.Handling.{Handles, handled_by}
 use Rattle.sm_account.specs.History.{by_seat}
@@ -29,16 +29,16 @@ module _ (replies : Relation) (rows : Rows) where
   IfEntry (Replies reply None) = Unit {0}
   IfEntry (Refuses why) = Unit {0}
 
-  deed_allowed : (result : Handled) (wanted : Outcome) → IfEntry wanted
-      → DeedAllowed replies rows (handled_by result wanted)
-  deed_allowed (handled.Answered reply) (Replies wanted (Some entry)) is = is
-  deed_allowed (handled.Answered reply) (Replies wanted None) is = tt
-  deed_allowed (handled.Answered reply) (Refuses why) is = tt
-  deed_allowed (handled.Refused why) wanted is = tt
-  deed_allowed handled.DiskFault (Replies wanted (Some entry)) is = is
-  deed_allowed handled.DiskFault (Replies wanted None) is = tt
-  deed_allowed handled.DiskFault (Refuses why) is = tt
-  deed_allowed handled.Memory wanted is = tt
+  call_outcome_allowed : (result : Handled) (wanted : Outcome) → IfEntry wanted
+      → CallOutcomeAllowed replies rows (handled_by result wanted)
+  call_outcome_allowed (handled.Answered reply) (Replies wanted (Some entry)) is = is
+  call_outcome_allowed (handled.Answered reply) (Replies wanted None) is = tt
+  call_outcome_allowed (handled.Answered reply) (Refuses why) is = tt
+  call_outcome_allowed (handled.Refused why) wanted is = tt
+  call_outcome_allowed handled.DiskFault (Replies wanted (Some entry)) is = is
+  call_outcome_allowed handled.DiskFault (Replies wanted None) is = tt
+  call_outcome_allowed handled.DiskFault (Refuses why) is = tt
+  call_outcome_allowed handled.Memory wanted is = tt
 
   -- the entry of a request is allowed
   within_asked : (limit : Option Why) (reply : Reply) (state : State) (q : Question)
@@ -55,9 +55,9 @@ module _ (replies : Relation) (rows : Rows) where
   judged_asked state q Memory = tt
 
   pub request_allowed : (result : Handled) (state : State) (q : Question)
-      → DeedAllowed replies rows (handled_by result (outcome state q))
+      → CallOutcomeAllowed replies rows (handled_by result (outcome state q))
   request_allowed result state q =
-      deed_allowed result (outcome state q)
+      call_outcome_allowed result (outcome state q)
       (judged_asked state q (considered state.rows q.person (moment_at state q) q.drawn q.request))
 
 module _ {D : Type 0} {G : Ghosts D} (old new : AccountState D G) (seat : ℕ) (q : Question) (result : Handled)

@@ -26,14 +26,14 @@ use Rattle.sm_account.specs.declared.start_due.DueStart.{DueStart}
 use Rattle.sm_account.specs.declared.start_due.StartedDue.{StartedDue}
 use Rattle.sm_account.specs.declared.start_due.StartedDue.TheVariants as started
 use Rattle.sm_account.specs.AccountState.{state_in}
-use Rattle.sm_account.specs.Deeds.{Leaves, Nothing, Made, Failed}
+use Rattle.sm_account.specs.CallOutcomes.{Leaves, Nothing, Made, Failed}
 use Rattle.sm_account.specs.Efforts.{Undue, effort_within}
 use Rattle.sm_account.specs.Growing.{SameButRoom}
 use Rattle.sm_account.specs.Limits.{EntersAs, entered_by, passed_at}
 use Rattle.sm_account.specs.Report.{ReportsAs, report_at, report_of, reported_by, reported_entry, secret_of}
 use Rattle.sm_account.specs.StartDue.{Starts, StartsAs, due_at, start_at, start_for, start_of, started_by}
 use Rattle.sm_account.specs.States.{State, size_of}
-use Rattle.sm_account.proofs.DeedLemmas.{behind_room}
+use Rattle.sm_account.proofs.CallOutcomeLemmas.{behind_room}
 use Rattle.sm_account.proofs.RoomLemmas.{same_state}
 
 module _ {D : Type 0} {G : Ghosts D} (old new : AccountState D G) (seat : ℕ) (entry : entries) where

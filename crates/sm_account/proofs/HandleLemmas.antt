@@ -19,13 +19,13 @@ use Rattle.sm_account.specs.declared.entering.Passed.{Passed}
 use Rattle.sm_account.specs.declared.handled.Handled.{Handled}
 use Rattle.sm_account.specs.declared.handled.Handled.TheVariants.{Answered, Refused, DiskFault, Memory}
 use Rattle.sm_account.specs.AccountState.{state_in}
-use Rattle.sm_account.specs.Deeds.{Leaves, Nothing, Made, Failed}
+use Rattle.sm_account.specs.CallOutcomes.{Leaves, Nothing, Made, Failed}
 use Rattle.sm_account.specs.Growing.{SameButRoom}
 use Rattle.sm_account.specs.Handling.{Handles, handled_by}
 use Rattle.sm_account.specs.Limits.{EntersAs, passed_at, why_passed}
 use Rattle.sm_account.specs.Outcome.{Outcome, Refuses, Replies, Question, considered, entry_at, is_full, moment_at, limit_passed, outcome, outcome_judged, outcome_within}
 use Rattle.sm_account.specs.States.{State, size_of}
-use Rattle.sm_account.proofs.DeedLemmas.{nothing_done, behind_room}
+use Rattle.sm_account.proofs.CallOutcomeLemmas.{nothing_done, behind_room}
 
 module _ {D : Type 0} {G : Ghosts D} (inner : AccountState D G) (seat : ℕ) where
   -- nothing was done

@@ -2,7 +2,7 @@
 use Rattle.std.proofs.Common.{◌≡◌, Some, None, refl}
 use Rattle.sm_account.specs.declared.handled.Handled.{Handled}
 use Rattle.sm_account.specs.declared.handled.Handled.TheVariants.{Answered, Refused, DiskFault, Memory}
-use Rattle.sm_account.specs.Deeds.{IfFailed, marks_by}
+use Rattle.sm_account.specs.CallOutcomes.{IfFailed, marks_by}
 use Rattle.sm_account.specs.Handled.{HandledAs, OnDiskFault, marks_of}
 use Rattle.sm_account.specs.Handling.{handled_by}
 use Rattle.sm_account.specs.Outcome.{Outcome, Refuses, Replies}

@@ -5,7 +5,7 @@ pub mod KeptLemmas
 pub mod MakeLemmas
 pub mod WriteLemmas
 pub mod MomentLemmas
-pub mod DeedLemmas
+pub mod CallOutcomeLemmas
 pub mod HandleLemmas
 pub mod HandledLaws
 pub mod HeldLemmas

@@ -28,10 +28,10 @@ use Rattle.sm_account.specs.declared.report.Reported.{Reported}
 use Rattle.sm_account.specs.declared.report.Reported.TheVariants as reports
 use Rattle.sm_account.specs.declared.start_due.StartedDue.{StartedDue}
 use Rattle.sm_account.specs.declared.start_due.StartedDue.TheVariants as starts
-use Rattle.sm_account.specs.Allowed.{DeedAllowed, EntriesAllowed, IsAllowedAt}
+use Rattle.sm_account.specs.Allowed.{CallOutcomeAllowed, EntriesAllowed, IsAllowedAt}
 use Rattle.sm_account.specs.AccountState.{Kept, base_in, history_in, state_in}
 use Rattle.sm_account.specs.Claims.{ready_at}
-use Rattle.sm_account.specs.Deeds.{Deed, Leaves}
+use Rattle.sm_account.specs.CallOutcomes.{CallOutcome, Leaves}
 use Rattle.sm_account.specs.Efforts.{Effort, Undue, Over, Due, effort_within}
 use Rattle.sm_account.specs.Limits.{passed_at}
 use Rattle.sm_account.specs.Report.{ReportsAs, entered_answer, report_at, report_of, reported_by, reported_entry}
@@ -40,11 +40,12 @@ use Rattle.sm_account.specs.NextWork.{NextAs, next_by}
 use Rattle.sm_account.specs.States.{State, state_at}
 use Rattle.sm_account.proofs.AllowedLemmas.{allowed_after}
 
-pub deed_kept : {D : Type 0} {G : Ghosts D} (replies : Replies) (old new : AccountState D G) (seat : ℕ) (deed : Deed)
-    → Kept G old → Leaves G old new seat deed → DeedAllowed replies old.table deed → ∥ EntriesAllowed replies old ∥₁
-    → ∥ EntriesAllowed replies new ∥₁
-deed_kept replies old new seat deed kept leaves is allowed =
-    ∥∥₁_map allowed (λ a. allowed_after replies old new seat kept a deed leaves is)
+pub call_outcome_kept : {D : Type 0} {G : Ghosts D} (replies : Replies) (old new : AccountState D G) (seat : ℕ)
+    (call_outcome : CallOutcome)
+    → Kept G old → Leaves G old new seat call_outcome → CallOutcomeAllowed replies old.table call_outcome
+    → ∥ EntriesAllowed replies old ∥₁ → ∥ EntriesAllowed replies new ∥₁
+call_outcome_kept replies old new seat call_outcome kept leaves is allowed =
+    ∥∥₁_map allowed (λ a. allowed_after replies old new seat kept a call_outcome leaves is)
 
 module _ (replies : Replies) (rows : Rows) where
   -- the entry that is due, if there is one, is allowed
@@ -59,23 +60,23 @@ module _ (replies : Replies) (rows : Rows) where
   within_due A (Some passed) entry is = tt
 
   -- a claim makes no entry
-  pub next_allowed : (result : NextWork) (moment : Moment) → DeedAllowed replies rows (next_by result moment)
+  pub next_allowed : (result : NextWork) (moment : Moment) → CallOutcomeAllowed replies rows (next_by result moment)
   next_allowed (works.Work work) moment = tt
   next_allowed works.None moment = tt
   next_allowed works.Memory moment = tt
 
   -- a start is always allowed
-  start_deed : (result : StartedDue) (wanted : Effort (Unit {0})) → IfDue wanted
-      → DeedAllowed replies rows (started_by result wanted)
-  start_deed (starts.Started arn) (Due entry) is = is
-  start_deed (starts.Started arn) (Undue none) is = tt
-  start_deed (starts.Started arn) (Over passed) is = tt
-  start_deed starts.None wanted is = tt
-  start_deed (starts.Limit limit) wanted is = tt
-  start_deed starts.DiskFault (Due entry) is = is
-  start_deed starts.DiskFault (Undue none) is = tt
-  start_deed starts.DiskFault (Over passed) is = tt
-  start_deed starts.Memory wanted is = tt
+  start_call_outcome : (result : StartedDue) (wanted : Effort (Unit {0})) → IfDue wanted
+      → CallOutcomeAllowed replies rows (started_by result wanted)
+  start_call_outcome (starts.Started arn) (Due entry) is = is
+  start_call_outcome (starts.Started arn) (Undue none) is = tt
+  start_call_outcome (starts.Started arn) (Over passed) is = tt
+  start_call_outcome starts.None wanted is = tt
+  start_call_outcome (starts.Limit limit) wanted is = tt
+  start_call_outcome starts.DiskFault (Due entry) is = is
+  start_call_outcome starts.DiskFault (Undue none) is = tt
+  start_call_outcome starts.DiskFault (Over passed) is = tt
+  start_call_outcome starts.Memory wanted is = tt
 
   start_due_is : (state : State) (moment : Moment) (drawn : List ℕ) (found : Option SecretRow)
       → IfDue (start_of state moment drawn found)
@@ -84,22 +85,23 @@ module _ (replies : Replies) (rows : Rows) where
       within_due (Unit {0}) (passed_at state (begun_entry moment drawn row.arn)) (begun_entry moment drawn row.arn) tt
 
   pub start_allowed : (result : StartedDue) (state : State) (moment : Moment) (drawn : List ℕ)
-      (found : Option SecretRow) → DeedAllowed replies rows (started_by result (start_of state moment drawn found))
+      (found : Option SecretRow) → CallOutcomeAllowed replies rows
+      (started_by result (start_of state moment drawn found))
   start_allowed result state moment drawn found =
-      start_deed result (start_of state moment drawn found) (start_due_is state moment drawn found)
+      start_call_outcome result (start_of state moment drawn found) (start_due_is state moment drawn found)
 
   -- an answer to a step
-  report_deed : (result : Reported) (wanted : Effort (Option At)) → IfDue wanted
-      → DeedAllowed replies rows (reported_by result wanted)
-  report_deed reports.Moved (Due entry) is = is
-  report_deed reports.Moved (Undue at) is = tt
-  report_deed reports.Moved (Over passed) is = tt
-  report_deed (reports.Stale at) wanted is = tt
-  report_deed (reports.Limit limit) wanted is = tt
-  report_deed reports.DiskFault (Due entry) is = is
-  report_deed reports.DiskFault (Undue at) is = tt
-  report_deed reports.DiskFault (Over passed) is = tt
-  report_deed reports.Memory wanted is = tt
+  report_call_outcome : (result : Reported) (wanted : Effort (Option At)) → IfDue wanted
+      → CallOutcomeAllowed replies rows (reported_by result wanted)
+  report_call_outcome reports.Moved (Due entry) is = is
+  report_call_outcome reports.Moved (Undue at) is = tt
+  report_call_outcome reports.Moved (Over passed) is = tt
+  report_call_outcome (reports.Stale at) wanted is = tt
+  report_call_outcome (reports.Limit limit) wanted is = tt
+  report_call_outcome reports.DiskFault (Due entry) is = is
+  report_call_outcome reports.DiskFault (Undue at) is = tt
+  report_call_outcome reports.DiskFault (Over passed) is = tt
+  report_call_outcome reports.Memory wanted is = tt
 
   -- only a yes is entered as yes
   yes_so : (answer : Answer) → entered_answer answer ≡ answers.Yes → answer ≡ answers.Yes
@@ -141,10 +143,10 @@ module _ (replies : Replies) (rows : Rows) where
 
   pub report_allowed : (result : Reported) (state : State) (moment : Moment) (work : Work) (answer : Answer)
       → replies work.arn work.at work.current work.pending answer ≡ true
-      → DeedAllowed replies rows
+      → CallOutcomeAllowed replies rows
       (reported_by result (report_of state moment work answer (found_arn rows moment work.arn)))
   report_allowed result state moment work answer allowed =
-      report_deed result (report_of state moment work answer (found_arn rows moment work.arn))
+      report_call_outcome result (report_of state moment work answer (found_arn rows moment work.arn))
       (report_due_is state moment work answer allowed)
 
 -- the calls, told of the history

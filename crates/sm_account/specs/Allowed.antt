@@ -9,19 +9,19 @@ use Rattle.sm_core.specs.Effects.{effect}
 use Rattle.sm_core.specs.Vouching.{EachAllowed, IsAllowed, Vouched}
 use Rattle.sm_account.specs.declared.account_state.AccountState.{AccountState}
 use Rattle.sm_account.specs.AccountState.{base_in, history_in}
-use Rattle.sm_account.specs.Deeds.{Deed, Nothing, Claimed, Made, Failed}
+use Rattle.sm_account.specs.CallOutcomes.{CallOutcome, Nothing, Claimed, Made, Failed}
 use Rattle.sm_account.specs.History.{entries_in}
 
 -- the entry is allowed at the rows
 abbrev pub IsAllowedAt : Replies → Rows → Entry → Type 0
 IsAllowedAt replies rows entry = IsAllowed replies rows entry.moment entry.act
 
--- the entry that a deed tried is allowed at the rows
-abbrev pub DeedAllowed : Replies → Rows → Deed → Type 0
-DeedAllowed replies rows Nothing = ⊤
-DeedAllowed replies rows (Claimed arn at moment) = ⊤
-DeedAllowed replies rows (Made entry) = IsAllowedAt replies rows entry
-DeedAllowed replies rows (Failed entry) = IsAllowedAt replies rows entry
+-- the entry that a call tried is allowed at the rows
+abbrev pub CallOutcomeAllowed : Replies → Rows → CallOutcome → Type 0
+CallOutcomeAllowed replies rows Nothing = ⊤
+CallOutcomeAllowed replies rows (Claimed arn at moment) = ⊤
+CallOutcomeAllowed replies rows (Made entry) = IsAllowedAt replies rows entry
+CallOutcomeAllowed replies rows (Failed entry) = IsAllowedAt replies rows entry
 
 -- Each entry that was made since the opening is allowed at the rows of those before it, and so is the one whose write
 -- failed last: an answer that accepts a test is one that the rotator may give to it.

@@ -17,7 +17,7 @@ use Rattle.sm_account.specs.declared.account_state.AccountState.{AccountState}
 use Rattle.sm_account.specs.declared.due.Due.{Due}
 use Rattle.sm_account.specs.declared.handled.Handled.{Handled}
 use Rattle.sm_account.specs.declared.handled.Handled.TheVariants.{Answered, DiskFault}
-use Rattle.sm_account.specs.Deeds.{Deed, Nothing, Made, Failed, Leaves}
+use Rattle.sm_account.specs.CallOutcomes.{CallOutcome, Nothing, Made, Failed, Leaves}
 use Rattle.sm_account.specs.Handled.{HandledAs}
 use Rattle.sm_account.specs.Outcome.{Outcome, Replies}
 
@@ -47,7 +47,7 @@ pub record LimitsAside {D : Type 0} {G : Ghosts D} (inner : AccountState D G) (d
   pub bound : due.entry.moment.0 ≤ LAST_READING
 
 -- what an answer did with the entry of the outcome
-abbrev pub handled_by : Handled → Outcome → Deed
+abbrev pub handled_by : Handled → Outcome → CallOutcome
 handled_by (Answered reply) (Replies wanted (Some entry)) = Made entry
 handled_by DiskFault (Replies reply (Some entry)) = Failed entry
 handled_by answer outcome = Nothing

@@ -9,7 +9,7 @@ pub mod KeptOnce
 pub mod Writing
 pub mod Making
 pub mod Growing
-pub mod Deeds
+pub mod CallOutcomes
 pub mod Limits
 pub mod Handling
 pub mod Efforts

@@ -10,7 +10,7 @@ use Rattle.sm_model.specs.declared.why.Why.TheVariants as whys
 use Rattle.sm_account.specs.declared.entering.Entered.{Entered}
 use Rattle.sm_account.specs.declared.entering.Entered.TheVariants as ends
 use Rattle.sm_account.specs.declared.entering.Passed.{Passed}
-use Rattle.sm_account.specs.Deeds.{Deed, Nothing, Made, Failed}
+use Rattle.sm_account.specs.CallOutcomes.{CallOutcome, Nothing, Made, Failed}
 use Rattle.sm_account.specs.Outcome.{is_full}
 use Rattle.sm_account.specs.States.{State, size_of}
 
@@ -37,11 +37,11 @@ EntersAs ends.DiskFault None = ⊤
 EntersAs ends.DiskFault (Some passed) = ⊥
 
 -- what was done with the entry
-abbrev pub entered_by : Entered → Entry → Deed
+abbrev pub entered_by : Entered → Entry → CallOutcome
 entered_by ends.Made entry = Made entry
 entered_by (ends.Over passed) entry = Nothing
 entered_by ends.DiskFault entry = Failed entry
 
-abbrev pub tried_entry : Result Entered NoMemory → Entry → Deed
+abbrev pub tried_entry : Result Entered NoMemory → Entry → CallOutcome
 tried_entry (Ok entered) entry = entered_by entered entry
 tried_entry (Err e) entry = Nothing

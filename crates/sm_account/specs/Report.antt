@@ -17,7 +17,7 @@ use Rattle.sm_account.specs.declared.report.Reported.{Reported}
 use Rattle.sm_account.specs.declared.report.Reported.TheVariants as reported
 use Rattle.sm_account.specs.declared.report.Freshness.{Freshness}
 use Rattle.sm_account.specs.declared.report.Freshness.TheVariants.{Fresh, Stale}
-use Rattle.sm_account.specs.Deeds.{Deed, Nothing, Made, Failed}
+use Rattle.sm_account.specs.CallOutcomes.{CallOutcome, Nothing, Made, Failed}
 use Rattle.sm_account.specs.Efforts.{Effort, Undue, Over, Due, effort_within}
 use Rattle.sm_account.specs.Limits.{passed_at}
 use Rattle.sm_account.specs.States.{State}
@@ -77,7 +77,7 @@ ReportsAs reported.DiskFault (Over passed) = ⊥
 ReportsAs reported.Memory wanted = ⊤
 
 -- what an answer did with the entry that is due
-abbrev pub reported_by : Reported → Effort (Option At) → Deed
+abbrev pub reported_by : Reported → Effort (Option At) → CallOutcome
 reported_by reported.Moved (Due entry) = Made entry
 reported_by reported.DiskFault (Due entry) = Failed entry
 reported_by answer wanted = Nothing

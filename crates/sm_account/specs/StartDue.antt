@@ -11,7 +11,7 @@ use Rattle.sm_core.specs.Histories.{later}
 use Rattle.sm_account.specs.declared.start_due.DueStart.{DueStart}
 use Rattle.sm_account.specs.declared.start_due.StartedDue.{StartedDue}
 use Rattle.sm_account.specs.declared.start_due.StartedDue.TheVariants as started
-use Rattle.sm_account.specs.Deeds.{Deed, Nothing, Made, Failed}
+use Rattle.sm_account.specs.CallOutcomes.{CallOutcome, Nothing, Made, Failed}
 use Rattle.sm_account.specs.Efforts.{Effort, Undue, Over, Due, effort_within}
 use Rattle.sm_account.specs.Limits.{passed_at}
 use Rattle.sm_account.specs.States.{State}
@@ -61,7 +61,7 @@ StartsAs started.DiskFault (Over passed) = ⊥
 StartsAs started.Memory wanted = ⊤
 
 -- what an answer did with the entry that is due
-abbrev pub started_by : StartedDue → Effort (Unit {0}) → Deed
+abbrev pub started_by : StartedDue → Effort (Unit {0}) → CallOutcome
 started_by (started.Started arn) (Due entry) = Made entry
 started_by started.DiskFault (Due entry) = Failed entry
 started_by answer wanted = Nothing

@@ -52,7 +52,7 @@ impl<D: Disk, R: Rotator> Account<D, R> {
     ghost use Rattle.sm_account.specs.AccountState.{FaultsBound, faults_of};
     ghost use Rattle.sm_account.specs.Claims.{ClaimsReady, ready_at};
     ghost use Rattle.sm_account.specs.Crashes.{HoldsOnDisk};
-    ghost use Rattle.sm_account.specs.Deeds.{Leaves};
+    ghost use Rattle.sm_account.specs.CallOutcomes.{Leaves};
     ghost use Rattle.sm_account.specs.Handled.{HandledAs, marks_of};
     ghost use Rattle.sm_account.specs.History.{by_seat, entries_in, faults_in};
     ghost use Rattle.sm_account.specs.Handling.{handled_by, HasShortTexts};

@@ -3,7 +3,7 @@ ghost use Rattle.std.specs.Prelude.{◌≡◌, ◌≤◌, length, IfOk};
 ghost use Rattle.sm_journal.specs.Records.{body_limit};
 ghost use Rattle.sm_store.specs.BaseAppends.{IsReady};
 ghost use Rattle.sm_account.specs.AccountState.{Kept, state_in};
-ghost use Rattle.sm_account.specs.Deeds.{Leaves};
+ghost use Rattle.sm_account.specs.CallOutcomes.{Leaves};
 ghost use Rattle.sm_account.specs.Growing.{HasRoom};
 ghost use Rattle.sm_account.specs.Handling.{LimitsAside, MayEnter};
 ghost use Rattle.sm_account.specs.Limits.{EntersAs, entered_by, passed_at, tried_entry};

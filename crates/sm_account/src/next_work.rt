@@ -7,7 +7,7 @@ ghost use Rattle.sm_claims.specs.Works.{IsWorkOf};
 ghost use Rattle.sm_core.specs.Histories.{later};
 ghost use Rattle.sm_model.specs.declared.entry.Mark.TheVariants as mark;
 ghost use Rattle.sm_account.specs.AccountState.{Kept, history_in};
-ghost use Rattle.sm_account.specs.Deeds.{Leaves};
+ghost use Rattle.sm_account.specs.CallOutcomes.{Leaves};
 ghost use Rattle.sm_account.specs.Growing.{SameButRoom};
 ghost use Rattle.sm_account.specs.NextWork.{NextAs, claim_by, next_by};
 

@@ -3,7 +3,7 @@ ghost use Rattle.std.specs.Prelude.{◌≡◌, ◌≤◌, IfOk, option_copied};
 ghost use Rattle.sm_base.specs.declared.moment.TheConstants.{LAST_READING};
 ghost use Rattle.sm_table.specs.Found.{found_arn};
 ghost use Rattle.sm_account.specs.AccountState.{Kept, state_in};
-ghost use Rattle.sm_account.specs.Deeds.{Leaves};
+ghost use Rattle.sm_account.specs.CallOutcomes.{Leaves};
 ghost use Rattle.sm_account.specs.Efforts.{effort_within};
 ghost use Rattle.sm_account.specs.Handling.{MayEnter};
 ghost use Rattle.sm_account.specs.Limits.{passed_at};

@@ -4,7 +4,7 @@ ghost use Rattle.sm_base.specs.Drawn.{drawn_token};
 ghost use Rattle.sm_base.specs.declared.moment.TheConstants.{LAST_READING};
 ghost use Rattle.sm_claims.specs.Due.{first_due};
 ghost use Rattle.sm_account.specs.AccountState.{Kept, state_in};
-ghost use Rattle.sm_account.specs.Deeds.{Leaves};
+ghost use Rattle.sm_account.specs.CallOutcomes.{Leaves};
 ghost use Rattle.sm_account.specs.Efforts.{effort_within};
 ghost use Rattle.sm_account.specs.Handling.{MayEnter};
 ghost use Rattle.sm_account.specs.Limits.{passed_at};

@@ -20,8 +20,8 @@ use Rattle.sm_rotator.specs.declared.work.Work.{Work}
 use Rattle.sm_account.specs.Accounts as accounts
 use Rattle.sm_account.specs.Claims.{ready_at}
 use Rattle.sm_account.specs.Crashes.{HoldsOnDisk}
-use Rattle.sm_account.specs.Deeds.{Deed, Leaves}
-use Rattle.sm_account.specs.Deeds as deeds
+use Rattle.sm_account.specs.CallOutcomes.{CallOutcome, Leaves}
+use Rattle.sm_account.specs.CallOutcomes as call_outcomes
 use Rattle.sm_account.specs.Efforts.{Effort}
 use Rattle.sm_account.specs.Handled.{HandledAs}
 use Rattle.sm_account.specs.Handling.{handled_by}
@@ -65,15 +65,15 @@ asked person now drawn request = record { person = person; now = now; drawn = dr
 module _ {D R : Type 0} (G : DiskGhosts D) (V : RotatorGhosts R) (old : Run D R G V) (account : Account D R G V)
     (origin : accounts.SameOrigin old.account account) where
   -- what holds of every call of the account, where the step is right
-  calls_by : (verdicts : List (Verdict R V)) (call : Call) (out : Outcome) (deed : Deed)
-      → Leaves G old.account.inner account.inner seat deed
+  calls_by : (verdicts : List (Verdict R V)) (call : Call) (out : Outcome) (call_outcome : CallOutcome)
+      → Leaves G old.account.inner account.inner seat call_outcome
       → (IsUnder old → (entries : List Entry) → Counts old.first (stand_in old entries)
       → (more : List Entry) × Goes V.replies call out (stand_in old entries) (stand_of account verdicts more))
       → Calls G V old call out (run_with old account verdicts)
-  calls_by verdicts call out deed leaves goes = record {
+  calls_by verdicts call out call_outcome leaves goes = record {
     first = refl;
     under = λ under. ap (λ (b : Base). b.limit) origin.base_stays ∙ under;
-    tells = leaves_tells old.account account deed leaves;
+    tells = leaves_tells old.account account call_outcome leaves;
     later = leaves.later;
     goes = λ under tells entries counts. goes under entries counts;
   }
@@ -194,14 +194,14 @@ module _ {D R : Type 0} (G : DiskGhosts D) (V : RotatorGhosts R) (old : Run D R 
   -- ---- works
 
   -- what becomes of the secret that is ready
-  ready_goes : (now : Moment) (verdicts : List (Verdict R V)) (out : Outcome) (deed : Deed)
-      → Leaves G old.account.inner account.inner seat deed
+  ready_goes : (now : Moment) (verdicts : List (Verdict R V)) (out : Outcome) (call_outcome : CallOutcome)
+      → Leaves G old.account.inner account.inner seat call_outcome
       → ((entries : List Entry) → GoesTo V.replies (aim_ready (ready_at (accounts.base old.account)
       (accounts.history old.account) (later (accounts.state old.account).last now))
       (later (accounts.state old.account).last now)) out (stand_in old entries) (stand_of account verdicts entries))
       → Calls G V old (calls.Work now) out (run_with old account verdicts)
-  ready_goes now verdicts out deed leaves goes =
-      calls_by verdicts (calls.Work now) out deed leaves (λ under entries counts. (
+  ready_goes now verdicts out call_outcome leaves goes =
+      calls_by verdicts (calls.Work now) out call_outcome leaves (λ under entries counts. (
         entries,
         at_base (λ (b : Base). aim_ready (ready_at b (accounts.history old.account)
             (later (state_at b (accounts.history old.account)).last now))
@@ -214,11 +214,12 @@ module _ {D R : Type 0} (G : DiskGhosts D) (V : RotatorGhosts R) (old : Run D R 
       → NextAs (works.Work work) (ready_at (accounts.base old.account) (accounts.history old.account)
       (later (accounts.state old.account).last now))
       → Leaves G old.account.inner account.inner seat
-      (deeds.Claimed work.arn work.at (later (accounts.state old.account).last now))
+      (call_outcomes.Claimed work.arn work.at (later (accounts.state old.account).last now))
       → Asks V work old.verdicts out verdicts
       → Calls G V old (calls.Work now) out (run_with old account verdicts)
   work_calls now work verdicts out next leaves asks =
-      ready_goes now verdicts out (deeds.Claimed work.arn work.at (later (accounts.state old.account).last now)) leaves
+      ready_goes now verdicts out (call_outcomes.Claimed work.arn work.at
+      (later (accounts.state old.account).last now)) leaves
       (λ entries. to (ready_at (accounts.base old.account) (accounts.history old.account)
       (later (accounts.state old.account).last now)) next entries)
     where
@@ -255,10 +256,10 @@ module _ {D R : Type 0} (G : DiskGhosts D) (V : RotatorGhosts R) (old : Run D R 
   pub no_work_calls : (now : Moment)
       → NextAs works.None (ready_at (accounts.base old.account) (accounts.history old.account)
       (later (accounts.state old.account).last now))
-      → Leaves G old.account.inner account.inner seat deeds.Nothing
+      → Leaves G old.account.inner account.inner seat call_outcomes.Nothing
       → Calls G V old (calls.Work now) Nothing (run_with old account old.verdicts)
   no_work_calls now next leaves =
-      ready_goes now old.verdicts Nothing deeds.Nothing leaves
+      ready_goes now old.verdicts Nothing call_outcomes.Nothing leaves
       (λ entries. to (ready_at (accounts.base old.account) (accounts.history old.account)
       (later (accounts.state old.account).last now)) next entries)
     where
@@ -270,10 +271,10 @@ module _ {D R : Type 0} (G : DiskGhosts D) (V : RotatorGhosts R) (old : Run D R 
       to (Some row) next entries = absurd next
 
   -- memory is wanted before a claim
-  pub wanting_calls : (now : Moment) → Leaves G old.account.inner account.inner seat deeds.Nothing
+  pub wanting_calls : (now : Moment) → Leaves G old.account.inner account.inner seat call_outcomes.Nothing
       → Calls G V old (calls.Work now) Memory (run_with old account old.verdicts)
   wanting_calls now leaves =
-      ready_goes now old.verdicts Memory deeds.Nothing leaves
+      ready_goes now old.verdicts Memory call_outcomes.Nothing leaves
       (λ entries. to (ready_at (accounts.base old.account) (accounts.history old.account)
       (later (accounts.state old.account).last now)) entries)
     where

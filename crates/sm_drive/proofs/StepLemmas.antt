@@ -23,8 +23,8 @@ use Rattle.sm_store.specs.Held.{Held}
 use Rattle.sm_opening.specs.Lawful.{made_of}
 use Rattle.sm_account.specs.Accounts as accounts
 use Rattle.sm_account.specs.AccountState.{all_held, disk_in}
-use Rattle.sm_account.specs.Deeds.{Deed, Leaves, LeavesTried, tried_by}
-use Rattle.sm_account.specs.Deeds as deeds
+use Rattle.sm_account.specs.CallOutcomes.{CallOutcome, Leaves, LeavesTried, tried_by}
+use Rattle.sm_account.specs.CallOutcomes as call_outcomes
 use Rattle.sm_account.specs.Efforts.{Effort, Undue, Over, Due}
 use Rattle.sm_account.specs.Handled.{HandledAs}
 use Rattle.sm_account.specs.Handling.{handled_by}
@@ -64,15 +64,15 @@ module _ {D R : Type 0} {G : DiskGhosts D} {V : RotatorGhosts R} (old new : Acco
   tells_by (Some own) (inr (mid, first, second)) =
       λ s reads. let told = first.tells s reads in second.tells told.0 told.1
 
-  pub leaves_tells : (deed : Deed) → Leaves G old.inner new.inner seat deed
+  pub leaves_tells : (call_outcome : CallOutcome) → Leaves G old.inner new.inner seat call_outcome
       → GoesOnTelling (G.sight (accounts.disk old)) (G.sight (accounts.disk new))
-  leaves_tells deed leaves = tells_by (tried_by deed) leaves.any_moment
+  leaves_tells call_outcome leaves = tells_by (tried_by call_outcome) leaves.any_moment
 
--- ---- where the run stands after a deed
+-- ---- where the run stands after a call
 
 module _ {D R : Type 0} {G : DiskGhosts D} {V : RotatorGhosts R} (old new : Account D R G V)
     (verdicts : List (Verdict R V)) (made : List Entry) where
-  pub made_stand : (entry : Entry) → Leaves G old.inner new.inner seat (deeds.Made entry)
+  pub made_stand : (entry : Entry) → Leaves G old.inner new.inner seat (call_outcomes.Made entry)
       → stand_of new verdicts (made ++ entry ∷ []) ≡ entered (stand_of old verdicts made) entry
   made_stand entry leaves =
       let taken : accounts.taken new ≡ accounts.taken old = leaves.origin.taken in
@@ -80,14 +80,14 @@ module _ {D R : Type 0} {G : DiskGhosts D} {V : RotatorGhosts R} (old new : Acco
       let failed : accounts.failed new ≡ None = leaves.failed in
       cc
 
-  pub failed_stand : (entry : Entry) → Leaves G old.inner new.inner seat (deeds.Failed entry)
+  pub failed_stand : (entry : Entry) → Leaves G old.inner new.inner seat (call_outcomes.Failed entry)
       → stand_of new verdicts made ≡ faulted (stand_of old verdicts made) (accounts.failed new)
   failed_stand entry leaves =
       let taken : accounts.taken new ≡ accounts.taken old = leaves.origin.taken in
       let history : accounts.history new ≡ accounts.history old ++ (seat, marks.Fault) ∷ [] = leaves.history in
       cc
 
-  pub same_stand : Leaves G old.inner new.inner seat deeds.Nothing
+  pub same_stand : Leaves G old.inner new.inner seat call_outcomes.Nothing
       → stand_of new verdicts made ≡ stand_of old verdicts made
   same_stand leaves =
       let taken : accounts.taken new ≡ accounts.taken old = leaves.origin.taken in
@@ -97,7 +97,7 @@ module _ {D R : Type 0} {G : DiskGhosts D} {V : RotatorGhosts R} (old new : Acco
       cc
 
   pub claimed_stand : (work : Work) (moment : Moment)
-      → Leaves G old.inner new.inner seat (deeds.Claimed work.arn work.at moment)
+      → Leaves G old.inner new.inner seat (call_outcomes.Claimed work.arn work.at moment)
       → stand_of new verdicts made ≡ claimed (stand_of old verdicts made) work moment
   claimed_stand work moment leaves =
       let taken : accounts.taken new ≡ accounts.taken old = leaves.origin.taken in
@@ -127,7 +127,8 @@ abbrev pub total : {D R : Type 0} {G : DiskGhosts D} {V : RotatorGhosts R} → A
 total account = (made_of (accounts.all_of account)).entries
 
 module _ {D R : Type 0} {G : DiskGhosts D} {V : RotatorGhosts R} (old new : Account D R G V) where
-  total_made : (entry : Entry) → Leaves G old.inner new.inner seat (deeds.Made entry) → total new ≡ total old + 1
+  total_made : (entry : Entry) → Leaves G old.inner new.inner seat (call_outcomes.Made entry)
+      → total new ≡ total old + 1
   total_made entry leaves =
       let own : entries_in (accounts.history new) ≡ entries_in (accounts.history old) ++ entry ∷ [] =
       ap entries_in leaves.history ∙ entries_more (accounts.history old) seat (marks.Entry entry) in
@@ -140,7 +141,7 @@ module _ {D R : Type 0} {G : DiskGhosts D} {V : RotatorGhosts R} (old new : Acco
         length-append (entries_in (accounts.history old)) (entry ∷ []),
       )
 
-  total_same : Leaves G old.inner new.inner seat deeds.Nothing → total new ≡ total old
+  total_same : Leaves G old.inner new.inner seat call_outcomes.Nothing → total new ≡ total old
   total_same leaves =
       omega (
         arith,
@@ -169,17 +170,19 @@ module _ {D R : Type 0} {G : DiskGhosts D} {V : RotatorGhosts R} (old new : Acco
   abbrev Going : (to : Aim) → Outcome → Type 0
   Going to out = (more : List Entry) × GoesTo V.replies to out before (stand_of new verdicts more)
 
-  enters : (entry : Entry) → Leaves G old.inner new.inner seat (deeds.Made entry) → Going (Enters entry) (Entered place)
+  enters : (entry : Entry) → Leaves G old.inner new.inner seat (call_outcomes.Made entry)
+      → Going (Enters entry) (Entered place)
   enters entry leaves = (made ++ entry ∷ [], (place_is, made_stand old new verdicts made entry leaves))
 
-  fails : (entry : Entry) → Leaves G old.inner new.inner seat (deeds.Failed entry) → Going (Enters entry) DiskFault
+  fails : (entry : Entry) → Leaves G old.inner new.inner seat (call_outcomes.Failed entry)
+      → Going (Enters entry) DiskFault
   fails entry leaves = (made, (accounts.failed new, leaves.failed, failed_stand old new verdicts made entry leaves))
 
-  stops : (wanted out : Outcome) → Leaves G old.inner new.inner seat deeds.Nothing → EndsAs wanted out
+  stops : (wanted out : Outcome) → Leaves G old.inner new.inner seat call_outcomes.Nothing → EndsAs wanted out
       → Going (Stops wanted) out
   stops wanted out leaves is = (made, record { ends = is; new_is = same_stand old new verdicts made leaves })
 
-  wants : (entry : Entry) → Leaves G old.inner new.inner seat deeds.Nothing → Going (Enters entry) Memory
+  wants : (entry : Entry) → Leaves G old.inner new.inner seat call_outcomes.Nothing → Going (Enters entry) Memory
   wants entry leaves = (made, same_stand old new verdicts made leaves)
 
   -- ---- requests
@@ -260,7 +263,7 @@ module _ {D R : Type 0} {G : DiskGhosts D} {V : RotatorGhosts R} (old new : Acco
 module _ {D R : Type 0} {G : DiskGhosts D} {V : RotatorGhosts R} (old new : Account D R G V)
     (verdicts : List (Verdict R V)) (made : List Entry) (moment : Moment) where
   pub asked_goes : (row : SecretRow) (work : Work) (verdict : Verdict R V) → IsWorkOf row work → verdict.work ≡ work
-      → Leaves G old.inner new.inner seat (deeds.Claimed work.arn work.at moment)
+      → Leaves G old.inner new.inner seat (call_outcomes.Claimed work.arn work.at moment)
       → GoesTo V.replies (Claims row moment) Asked (stand_of old verdicts made)
       (stand_of new (verdicts ++ verdict ∷ []) made)
   asked_goes row work verdict of same leaves = (
@@ -273,6 +276,6 @@ module _ {D R : Type 0} {G : DiskGhosts D} {V : RotatorGhosts R} (old new : Acco
   )
 
   pub claim_goes : (row : SecretRow) (work : Work) → IsWorkOf row work
-      → Leaves G old.inner new.inner seat (deeds.Claimed work.arn work.at moment)
+      → Leaves G old.inner new.inner seat (call_outcomes.Claimed work.arn work.at moment)
       → GoesTo V.replies (Claims row moment) Memory (stand_of old verdicts made) (stand_of new verdicts made)
   claim_goes row work of leaves = inr (work, of, claimed_stand old new verdicts made work moment leaves)

@@ -10,7 +10,7 @@ use Rattle.sm_account.specs.declared.report.Reported.{Reported}
 use Rattle.sm_account.specs.declared.report.Reported.TheVariants as reports
 use Rattle.sm_account.specs.declared.start_due.StartedDue.{StartedDue}
 use Rattle.sm_account.specs.declared.start_due.StartedDue.TheVariants as starts
-use Rattle.sm_account.specs.Deeds.{IfFailed}
+use Rattle.sm_account.specs.CallOutcomes.{IfFailed}
 use Rattle.sm_account.specs.Efforts.{Due, Effort, Over, Undue}
 use Rattle.sm_account.specs.Report.{ReportsAs, reported_by}
 use Rattle.sm_account.specs.StartDue.{StartsAs, started_by}

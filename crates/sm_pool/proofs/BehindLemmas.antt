@@ -6,7 +6,7 @@ use Rattle.sm_model.specs.declared.entry.Mark.{Mark}
 use Rattle.sm_model.specs.declared.entry.Mark.TheVariants.{Claim, Entry, Fault}
 use Rattle.sm_rotator.specs.declared.work.Work.{Work}
 use Rattle.sm_account.specs.Accounts.{base}
-use Rattle.sm_account.specs.Deeds.{Claimed, Deed, Failed, Made, Nothing, marks_by}
+use Rattle.sm_account.specs.CallOutcomes.{Claimed, CallOutcome, Failed, Made, Nothing, marks_by}
 use Rattle.sm_account.specs.History.{by_seat}
 use Rattle.sm_account.specs.Report.{report_at, reported_by}
 use Rattle.sm_account.specs.StartDue.{start_at, started_by}
@@ -25,8 +25,9 @@ use Rattle.sm_pool.specs.declared.holds.Found.{Found}
 use Rattle.sm_pool.specs.Found.{found_by}
 use Rattle.sm_pool.specs.Holds.{HeldAt, Hold, LookHeld, ReportHeld, StartHeld, hold_of, hold_shape}
 
--- a deed leaves one mark at most
-one_mark : (seat : ℕ) (before after : History) (deed : Deed) → after ≡ before ++ by_seat seat (marks_by deed)
+-- a call leaves one mark at most
+one_mark : (seat : ℕ) (before after : History) (call_outcome : CallOutcome)
+    → after ≡ before ++ by_seat seat (marks_by call_outcome)
     → (after ≡ before) ⊎ ((mark : Mark) × (after ≡ before ++ (seat, mark) ∷ []))
 one_mark seat before after Nothing is = inl (is ∙ append-nil before)
 one_mark seat before after (Claimed arn at moment) is = inr (Claim arn at moment, is)
@@ -35,12 +36,13 @@ one_mark seat before after (Failed entry) is = inr (Fault, is)
 
 -- such a hold leaves one mark at most, of the seat that holds the account
 module _ (seat own : ℕ) (same : seat ≡ own) (from entered to : History) (at : from ≡ entered) where
-  one_of : (before : History) (deed : Deed) → before ≡ from → to ≡ before ++ by_seat seat (marks_by deed)
+  one_of : (before : History) (call_outcome : CallOutcome) → before ≡ from
+      → to ≡ before ++ by_seat seat (marks_by call_outcome)
       → (to ≡ entered) ⊎ ((mark : Mark) × (to ≡ entered ++ (own, mark) ∷ []))
-  one_of before deed comes stands =
-      one_mark own entered to deed
-      (subst (λ s. to ≡ entered ++ by_seat s (marks_by deed)) same
-      (stands ∙ ap (λ (h : History). h ++ by_seat seat (marks_by deed)) (comes ∙ at)))
+  one_of before call_outcome comes stands =
+      one_mark own entered to call_outcome
+      (subst (λ s. to ≡ entered ++ by_seat s (marks_by call_outcome)) same
+      (stands ∙ ap (λ (h : History). h ++ by_seat seat (marks_by call_outcome)) (comes ∙ at)))
 
   module _ (base : Base) (now : Moment) where
     pub look_once : (found : Found) → LookHeld base NoGap seat from to now found

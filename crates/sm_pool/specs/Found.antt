@@ -6,7 +6,7 @@ use Rattle.sm_model.specs.declared.entry.Mark.{Mark}
 use Rattle.sm_claims.specs.Due.{has_due}
 use Rattle.sm_claims.specs.Works.{IsWorkOf}
 use Rattle.sm_account.specs.Claims.{ready_at}
-use Rattle.sm_account.specs.Deeds.{Deed, Nothing, Claimed}
+use Rattle.sm_account.specs.CallOutcomes.{CallOutcome, Nothing, Claimed}
 use Rattle.sm_account.specs.States.{Base, state_at}
 use Rattle.sm_pool.specs.declared.holds.Found.{Found}
 use Rattle.sm_pool.specs.declared.holds.Found.TheVariants as finds
@@ -30,7 +30,7 @@ FoundAs base history moment finds.Nothing =
 FoundAs base history moment finds.Memory = ⊤
 
 -- a work is claimed
-abbrev pub found_by : Found → Moment → Deed
+abbrev pub found_by : Found → Moment → CallOutcome
 found_by (finds.Work work) moment = Claimed work.arn work.at moment
 found_by finds.Due moment = Nothing
 found_by finds.Nothing moment = Nothing

@@ -12,7 +12,7 @@ use Rattle.sm_rotator.specs.declared.work.Work.{Work}
 use Rattle.sm_account.specs.declared.report.Reported.{Reported}
 use Rattle.sm_account.specs.declared.start_due.StartedDue.{StartedDue}
 use Rattle.sm_account.specs.Claims.{ready_at}
-use Rattle.sm_account.specs.Deeds.{Deed, marks_by}
+use Rattle.sm_account.specs.CallOutcomes.{CallOutcome, marks_by}
 use Rattle.sm_account.specs.History.{by_seat}
 use Rattle.sm_account.specs.Report.{ReportsAs, report_at, reported_by}
 use Rattle.sm_account.specs.StartDue.{StartsAs, start_at, started_by}
@@ -69,9 +69,9 @@ pub record HeldAt (gap : History → History → Type 0) (seat : ℕ) (from to :
   pub comes : gap from hold.before
   pub stands : to ≡ hold.before ++ by_seat seat hold.marks
 
--- the hold with the mark of this deed
-abbrev pub hold_of : History → Moment → Deed → Hold
-hold_of before now deed = record { before = before; now = now; marks = marks_by deed }
+-- the hold with the mark of this outcome
+abbrev pub hold_of : History → Moment → CallOutcome → Hold
+hold_of before now call_outcome = record { before = before; now = now; marks = marks_by call_outcome }
 
 -- such holds at an account that was opened over the base
 module _ (base : Base) (gap : History → History → Type 0) (seat : ℕ) (from to : History) (now : Moment) where

@@ -1,4 +1,4 @@
-use Rattle.sm_account.proofs.DeedLemmas.{nothing_done, room_taken}
+use Rattle.sm_account.proofs.CallOutcomeLemmas.{nothing_done, room_taken}
 use Rattle.sm_account.proofs.EffortLemmas.{enters_behind, leaves_behind}
 use Rattle.sm_account.proofs.RoomLemmas.{limits_aside, room_kept}
 use Rattle.sm_account.proofs.entering.enter.Goals as goal

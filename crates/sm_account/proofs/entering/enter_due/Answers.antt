@@ -1,7 +1,7 @@
 use Rattle.std.proofs.Common.{◌∙◌, refl, sym}
 use Rattle.sm_account.specs.AccountState.{state_in}
 use Rattle.sm_account.specs.Limits.{passed_at}
-use Rattle.sm_account.proofs.DeedLemmas.{entry_failed, entry_made, nothing_done}
+use Rattle.sm_account.proofs.CallOutcomeLemmas.{entry_failed, entry_made, nothing_done}
 use Rattle.sm_account.proofs.EffortLemmas.{fault_so, made_so, over_so, within_limits}
 use Rattle.sm_account.proofs.entering.enter_due.Goals as goal
 

@@ -2,11 +2,11 @@ use Rattle.std.proofs.Common.{IsSomeAnd, subst, arith}
 use Rattle.sm_claims.specs.Ready.{first_ready}
 use Rattle.sm_claims.specs.Works.{IsWorkOf}
 use Rattle.sm_account.specs.AccountState.{history_in}
-use Rattle.sm_account.specs.Deeds.{Leaves}
+use Rattle.sm_account.specs.CallOutcomes.{Leaves}
 use Rattle.sm_account.specs.NextWork.{NextAs, next_by}
 use Rattle.sm_account.specs.declared.next_work.NextWork.TheVariants as works
 use Rattle.sm_account.proofs.ClaimedLemmas.{none_is, ready_same, work_is}
-use Rattle.sm_account.proofs.DeedLemmas.{nothing_done}
+use Rattle.sm_account.proofs.CallOutcomeLemmas.{nothing_done}
 use Rattle.sm_account.proofs.MomentLemmas.{moment_is}
 use Rattle.sm_account.proofs.next_work.next_work.Goals as goal
 

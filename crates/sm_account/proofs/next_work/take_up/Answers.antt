@@ -1,7 +1,7 @@
 use Rattle.sm_claims.specs.Ready.{first_ready}
 use Rattle.sm_account.specs.AccountState.{history_in}
 use Rattle.sm_account.proofs.ClaimedLemmas.{claimed_kept, next_is}
-use Rattle.sm_account.proofs.DeedLemmas.{claim_added, room_taken}
+use Rattle.sm_account.proofs.CallOutcomeLemmas.{claim_added, room_taken}
 use Rattle.sm_account.proofs.RoomLemmas.{room_kept}
 use Rattle.sm_account.proofs.next_work.take_up.Goals as goal
 

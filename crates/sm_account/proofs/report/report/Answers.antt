@@ -1,6 +1,6 @@
 use Rattle.std.proofs.Common.{arith}
 use Rattle.sm_account.specs.AccountState.{state_in}
-use Rattle.sm_account.proofs.DeedLemmas.{nothing_done}
+use Rattle.sm_account.proofs.CallOutcomeLemmas.{nothing_done}
 use Rattle.sm_account.proofs.EffortLemmas.{reported_so, reports_so, reports_stale}
 use Rattle.sm_account.proofs.MayLemmas.{report_may}
 use Rattle.sm_account.proofs.MomentLemmas.{moment_is}

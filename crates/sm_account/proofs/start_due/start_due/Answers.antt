@@ -5,7 +5,7 @@ use Rattle.sm_account.specs.AccountState.{state_in}
 use Rattle.sm_account.specs.Handling.{MayEnter}
 use Rattle.sm_account.specs.StartDue.{Starts}
 use Rattle.sm_account.specs.declared.start_due.DueStart.{DueStart}
-use Rattle.sm_account.proofs.DeedLemmas.{nothing_done}
+use Rattle.sm_account.proofs.CallOutcomeLemmas.{nothing_done}
 use Rattle.sm_account.proofs.EffortLemmas.{none_due, start_is, started_so, starts_none, starts_so}
 use Rattle.sm_account.proofs.MayLemmas.{start_may}
 use Rattle.sm_account.proofs.MomentLemmas.{moment_is}

@@ -2,7 +2,7 @@ use Rattle.sm_account.specs.Accounts.{disk, state}
 use Rattle.sm_account.specs.Handled.{marks_of}
 use Rattle.sm_account.specs.Handling.{handled_by}
 use Rattle.sm_account.specs.Outcome.{outcome}
-use Rattle.sm_account.proofs.DeedLemmas.{unsure_by}
+use Rattle.sm_account.proofs.CallOutcomeLemmas.{unsure_by}
 use Rattle.sm_account.proofs.HandledLaws.{fault_so}
 use Rattle.sm_base.specs.Faults.{Rose}
 use Rattle.sm_session.proofs.TurnLemmas.{answered_by}

@@ -2,7 +2,7 @@ use Rattle.std.proofs.Common.{refl}
 use Rattle.sm_core.specs.Histories.{later}
 use Rattle.sm_account.specs.NextWork.{next_by}
 use Rattle.sm_account.proofs.AccountLemmas.{same_origin}
-use Rattle.sm_account.proofs.TurnLemmas.{claimed_told, deed_kept, next_allowed, next_told}
+use Rattle.sm_account.proofs.TurnLemmas.{claimed_told, call_outcome_kept, next_allowed, next_told}
 use Rattle.sm_account.proofs.account.Account.next_work.Goals as goal
 
 pub invariant_of-self : goal.invariant_of-self
@@ -11,7 +11,7 @@ invariant_of-self g c =
     let moment = later old.inner.last c.args.now in
     record {
       kept = c.next_work.ensures.kept;
-      allowed = deed_kept g.R.Rotator.replies old.inner c.next_work.new.inner c.args.seat
+      allowed = call_outcome_kept g.R.Rotator.replies old.inner c.next_work.new.inner c.args.seat
           (next_by c.next_work.result moment) old.kept c.next_work.ensures.leaves
           (next_allowed g.R.Rotator.replies old.inner.table c.next_work.result moment) old.allowed;
     }

@@ -3,10 +3,10 @@ use Rattle.sm_core.specs.Histories.{later}
 use Rattle.sm_model.specs.declared.entry.Answer.{Answer}
 use Rattle.sm_rotator.specs.declared.work.Work.{Work}
 use Rattle.sm_account.specs.AccountState.{state_in}
-use Rattle.sm_account.specs.Deeds.{Leaves}
+use Rattle.sm_account.specs.CallOutcomes.{Leaves}
 use Rattle.sm_account.specs.Report.{ReportsAs, report_at, reported_by}
 use Rattle.sm_account.proofs.AccountLemmas.{same_origin}
-use Rattle.sm_account.proofs.TurnLemmas.{deed_kept, report_allowed, reported_told, reports_told}
+use Rattle.sm_account.proofs.TurnLemmas.{call_outcome_kept, report_allowed, reported_told, reports_told}
 use Rattle.sm_account.proofs.account.Account.report.Goals as goal
 
 pub invariant_of-self : goal.invariant_of-self
@@ -18,7 +18,7 @@ invariant_of-self g c =
     let answer = c.answer.result.now in
     record {
       kept = c.report.ensures.kept;
-      allowed = deed_kept g.R.Rotator.replies old.inner c.report.new.inner c.args.seat
+      allowed = call_outcome_kept g.R.Rotator.replies old.inner c.report.new.inner c.args.seat
           (reported_by c.report.result (report_at state c.args.now work answer)) old.kept c.report.ensures.leaves
           (report_allowed g.R.Rotator.replies old.inner.table c.report.result state moment work answer
           (subst (λ (w : Work). g.R.Rotator.replies w.arn w.at w.current w.pending answer ≡ true)

@@ -3,7 +3,7 @@ use Rattle.sm_account.specs.AccountState.{state_in}
 use Rattle.sm_account.specs.StartDue.{due_at, start_at, started_by}
 use Rattle.sm_core.specs.Histories.{later}
 use Rattle.sm_account.proofs.AccountLemmas.{same_origin}
-use Rattle.sm_account.proofs.TurnLemmas.{deed_kept, start_allowed, started_told, starts_told}
+use Rattle.sm_account.proofs.TurnLemmas.{call_outcome_kept, start_allowed, started_told, starts_told}
 use Rattle.sm_account.proofs.account.Account.start_due.Goals as goal
 
 pub invariant_of-self : goal.invariant_of-self
@@ -14,7 +14,7 @@ invariant_of-self g c =
     let drawn = c.args.drawn.now in
     record {
       kept = c.start_due.ensures.kept;
-      allowed = deed_kept g.R.Rotator.replies old.inner c.start_due.new.inner c.args.seat
+      allowed = call_outcome_kept g.R.Rotator.replies old.inner c.start_due.new.inner c.args.seat
           (started_by c.start_due.result (start_at state c.args.now drawn)) old.kept c.start_due.ensures.leaves
           (start_allowed g.R.Rotator.replies old.inner.table c.start_due.result state moment drawn
           (due_at state moment drawn)) old.allowed;

@@ -9,7 +9,7 @@ use Rattle.sm_model.specs.declared.entry.Mark.TheVariants.{Entry, Claim, Fault}
 use Rattle.sm_account.specs.declared.account_state.AccountState.{AccountState}
 use Rattle.sm_account.specs.AccountState.{SameOrigin, all_held, disk_in, history_in, state_in}
 use Rattle.sm_account.specs.Crashes.{Throughout}
-use Rattle.sm_account.specs.Deeds.{Deed, Nothing, Claimed, Made, Failed, FailedBy, IfFailed, Leaves, LeavesTried, StaysBy, tried_by}
+use Rattle.sm_account.specs.CallOutcomes.{CallOutcome, Nothing, Claimed, Made, Failed, FailedBy, IfFailed, Leaves, LeavesTried, StaysBy, tried_by}
 use Rattle.sm_account.specs.Growing.{SameButRoom}
 
 -- nothing was done
@@ -64,15 +64,17 @@ module _ {D : Type 0} {G : Ghosts D} (old new : AccountState D G) (seat : ℕ)
 
 -- room for an entry changes nothing that is told
 module _ {D : Type 0} {G : Ghosts D} (old mid new : AccountState D G) (seat : ℕ) (room : SameButRoom old mid) where
-  stays_at : (deed : Deed) → StaysBy deed (record old { entries = mid.entries; claims = mid.claims }) new
-      → StaysBy deed old new
+  stays_at : (call_outcome : CallOutcome)
+      → StaysBy call_outcome (record old { entries = mid.entries; claims = mid.claims }) new
+      → StaysBy call_outcome old new
   stays_at Nothing stays = stays
   stays_at (Claimed arn at moment) stays = stays
   stays_at (Made entry) stays = stays
   stays_at (Failed entry) stays = stays
 
-  failed_at : (deed : Deed) → FailedBy deed (record old { entries = mid.entries; claims = mid.claims }) new
-      → FailedBy deed old new
+  failed_at : (call_outcome : CallOutcome)
+      → FailedBy call_outcome (record old { entries = mid.entries; claims = mid.claims }) new
+      → FailedBy call_outcome old new
   failed_at Nothing failed = failed
   failed_at (Claimed arn at moment) failed = failed
   failed_at (Made entry) failed = failed
@@ -84,16 +86,17 @@ module _ {D : Type 0} {G : Ghosts D} (old mid new : AccountState D G) (seat : �
   leaves_at None leaves = leaves
   leaves_at (Some own) leaves = leaves
 
-  pub behind_room : (deed : Deed) → Leaves G mid new seat deed → Leaves G old new seat deed
-  behind_room deed h =
-      let r : Leaves G (record old { entries = mid.entries; claims = mid.claims }) new seat deed =
-      subst (λ b. Leaves G b new seat deed) room.rest h in
+  pub behind_room : (call_outcome : CallOutcome) → Leaves G mid new seat call_outcome
+      → Leaves G old new seat call_outcome
+  behind_room call_outcome h =
+      let r : Leaves G (record old { entries = mid.entries; claims = mid.claims }) new seat call_outcome =
+      subst (λ b. Leaves G b new seat call_outcome) room.rest h in
       record {
         history = r.history;
         origin = record { taken = r.origin.taken; began = r.origin.began; limit = r.origin.limit };
-        stays = stays_at deed r.stays;
-        failed = failed_at deed r.failed;
-        any_moment = leaves_at (tried_by deed) r.any_moment;
+        stays = stays_at call_outcome r.stays;
+        failed = failed_at call_outcome r.failed;
+        any_moment = leaves_at (tried_by call_outcome) r.any_moment;
         later = r.later;
         fault = r.fault;
       }
@@ -128,7 +131,7 @@ module _ {D : Type 0} {G : Ghosts D} (old new : AccountState D G) (seat : ℕ) (
     fault = rose;
   }
 
--- an entry whose write failed is there after a deed only where one was before, or where the disk failed
+-- an entry whose write failed is there after a call only where one was before, or where the disk failed
 module _ {D : Type 0} {G : Ghosts D} (old new : AccountState D G) (seat : ℕ) where
   abbrev HasRisen : Type 0
   HasRisen = Rose (G.faults (disk_in old)) (G.faults (disk_in new))
@@ -136,14 +139,14 @@ module _ {D : Type 0} {G : Ghosts D} (old new : AccountState D G) (seat : ℕ) w
   same_failed : new.failed.value ≡ old.failed.value → IsSome new.failed.value → IsSome old.failed.value
   same_failed same is = subst (λ (o : Option entries). IsSome o) same is
 
-  unsure_as : (deed : Deed) → FailedBy deed old new → IfFailed deed HasRisen → IsSome new.failed.value
-      → IsSome old.failed.value ⊎ HasRisen
+  unsure_as : (call_outcome : CallOutcome) → FailedBy call_outcome old new → IfFailed call_outcome HasRisen
+      → IsSome new.failed.value → IsSome old.failed.value ⊎ HasRisen
   unsure_as Nothing failed fault is = inl (same_failed failed is)
   unsure_as (Claimed arn at moment) failed fault is = inl (same_failed failed is)
   unsure_as (Made entry) failed fault is =
       absurd (let h : is_some new.failed.value ≡ false = ap is_some failed in cc)
   unsure_as (Failed entry) failed fault is = inr fault
 
-  pub unsure_by : (deed : Deed) → Leaves G old new seat deed → IsSome new.failed.value
+  pub unsure_by : (call_outcome : CallOutcome) → Leaves G old new seat call_outcome → IsSome new.failed.value
       → IsSome old.failed.value ⊎ HasRisen
-  unsure_by deed leaves is = unsure_as deed leaves.failed leaves.fault is
+  unsure_by call_outcome leaves is = unsure_as call_outcome leaves.failed leaves.fault is

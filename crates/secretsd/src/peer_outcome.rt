@@ -4,7 +4,7 @@ use std::{fmt, io};
 
 /// What a peer did last, as far as the step came.
 #[derive(Clone, Copy, PartialEq, Eq)]
-pub enum Deed {
+pub enum PeerOutcome {
     /// It was not asked: its address is no host and port.
     Nothing,
     /// Its name was not found.
@@ -21,21 +21,21 @@ pub enum Deed {
     Said,
 }
 
-impl Deed {
-    /// The number of a deed.
+impl PeerOutcome {
+    /// The number of an outcome.
     fn number(self) -> u64 {
         match self {
-            Deed::Nothing => 0,
-            Deed::NotFound => 1,
-            Deed::NotReached => 2,
-            Deed::NotTaken => 3,
-            Deed::NotSaid => 4,
-            Deed::Closed => 5,
-            Deed::Said => 6,
+            PeerOutcome::Nothing => 0,
+            PeerOutcome::NotFound => 1,
+            PeerOutcome::NotReached => 2,
+            PeerOutcome::NotTaken => 3,
+            PeerOutcome::NotSaid => 4,
+            PeerOutcome::Closed => 5,
+            PeerOutcome::Said => 6,
         }
     }
 
-    /// The deed, as it ends a step that failed, by its number.
+    /// The outcome, as it ends a step that failed, by its number.
     fn text(number: u64) -> &'static str {
         match number {
             0 => "its address is no host and port",
@@ -51,17 +51,17 @@ impl Deed {
 
 /// What a peer did last, with the number of the system's error, and how many of its addresses are still to be tried.
 #[derive(Drop)]
-pub struct Deeds {
-    deed: AtomicU64,
+pub struct LastOutcome {
+    outcome: AtomicU64,
     error: AtomicI32,
     addresses: AtomicU32,
 }
 
-impl Deeds {
+impl LastOutcome {
     /// Nothing was done.
-    pub fn none() -> Deeds {
-        Deeds {
-            deed: AtomicU64::new(0),
+    pub fn none() -> LastOutcome {
+        LastOutcome {
+            outcome: AtomicU64::new(0),
             error: AtomicI32::new(0),
             addresses: AtomicU32::new(1),
         }
@@ -69,7 +69,7 @@ impl Deeds {
 
     /// Begins a step.
     pub fn begin(&self) {
-        self.note(Deed::Nothing);
+        self.note(PeerOutcome::Nothing);
         self.expect(1);
     }
 
@@ -86,22 +86,22 @@ impl Deeds {
     }
 
     /// Notes what a peer did.
-    pub fn note(&self, deed: Deed) {
+    pub fn note(&self, outcome: PeerOutcome) {
         self.error.store(0, Ordering::SeqCst);
-        self.deed.store(deed.number(), Ordering::SeqCst);
+        self.outcome.store(outcome.number(), Ordering::SeqCst);
     }
 
     /// Notes what a peer did, and the system's error.
-    pub fn note_error(&self, deed: Deed, error: &io::Error) {
+    pub fn note_error(&self, outcome: PeerOutcome, error: &io::Error) {
         self.error
             .store(error.raw_os_error().unwrap_or(0), Ordering::SeqCst);
-        self.deed.store(deed.number(), Ordering::SeqCst);
+        self.outcome.store(outcome.number(), Ordering::SeqCst);
     }
 }
 
-impl fmt::Display for Deeds {
+impl fmt::Display for LastOutcome {
     fn fmt<W: fmt::Write>(&self, f: &mut fmt::Formatter<W>) -> fmt::Result {
-        let text = Deed::text(self.deed.load(Ordering::SeqCst));
+        let text = PeerOutcome::text(self.outcome.load(Ordering::SeqCst));
         match self.error.load(Ordering::SeqCst) {
             0 => f.write_str(text),
             code => {

@@ -13,28 +13,28 @@ use Rattle.sm_account.specs.Crashes.{Throughout}
 use Rattle.sm_account.specs.History.{by_seat}
 
 -- nothing; a claim of a step of a rotation; an entry that was made; or one at which the disk failed
-pub data Deed : Type 0 where
-  Nothing : Deed
-  Claimed : List ℕ → At → Moment → Deed
-  Made : entries → Deed
-  Failed : entries → Deed
+pub data CallOutcome : Type 0 where
+  Nothing : CallOutcome
+  Claimed : List ℕ → At → Moment → CallOutcome
+  Made : entries → CallOutcome
+  Failed : entries → CallOutcome
 
 -- the marks that it leaves in the history
-abbrev pub marks_by : Deed → List Mark
+abbrev pub marks_by : CallOutcome → List Mark
 marks_by Nothing = []
 marks_by (Claimed arn at moment) = Claim arn at moment ∷ []
 marks_by (Made entry) = Entry entry ∷ []
 marks_by (Failed entry) = Fault ∷ []
 
 -- the entry that it tried to write
-abbrev pub tried_by : Deed → Option entries
+abbrev pub tried_by : CallOutcome → Option entries
 tried_by Nothing = None
 tried_by (Claimed arn at moment) = None
 tried_by (Made entry) = Some entry
 tried_by (Failed entry) = Some entry
 
 -- a fact where the disk failed
-abbrev pub IfFailed : Deed → Type 0 → Type 0
+abbrev pub IfFailed : CallOutcome → Type 0 → Type 0
 IfFailed Nothing P = ⊤
 IfFailed (Claimed arn at moment) P = ⊤
 IfFailed (Made entry) P = ⊤
@@ -42,7 +42,7 @@ IfFailed (Failed entry) P = P
 
 module _ {D : Type 0} {G : Ghosts D} where
   -- where no entry was tried the state and the store stay, and where the disk failed the state does
-  abbrev pub StaysBy : Deed → AccountState D G → AccountState D G → Type 0
+  abbrev pub StaysBy : CallOutcome → AccountState D G → AccountState D G → Type 0
   StaysBy Nothing old new = (state_in new ≡ state_in old) × (new.store ≡ old.store)
   StaysBy (Claimed arn at moment) old new = (state_in new ≡ state_in old) × (new.store ≡ old.store)
   StaysBy (Made entry) old new = ⊤
@@ -50,7 +50,7 @@ module _ {D : Type 0} {G : Ghosts D} where
 
   -- The entry whose write failed last: none once an entry was made. Where the disk fails there is one, so that the tail
   -- is unsure: that of before, or this one.
-  abbrev pub FailedBy : Deed → AccountState D G → AccountState D G → Type 0
+  abbrev pub FailedBy : CallOutcome → AccountState D G → AccountState D G → Type 0
   FailedBy Nothing old new = new.failed.value ≡ old.failed.value
   FailedBy (Claimed arn at moment) old new = new.failed.value ≡ old.failed.value
   FailedBy (Made entry) old new = new.failed.value ≡ None
@@ -63,13 +63,14 @@ abbrev pub LeavesTried : {D : Type 0} (G : Ghosts D) → Option entries → Acco
 LeavesTried G None old new = new.store ≡ old.store
 LeavesTried G (Some own) old new = Throughout G (all_held old) old.failed.value own (disk_in old) (disk_in new)
 
--- How the account's state goes on by a deed of a seat: the history grows by its mark, what the account began with
--- stays, and so does the rest where it is to stay; and what a crash at any moment leaves.
-pub record Leaves {D : Type 0} (G : Ghosts D) (old new : AccountState D G) (seat : ℕ) (deed : Deed) : Type 0 where
-  pub history : history_in new ≡ history_in old ++ by_seat seat (marks_by deed)
+-- How the account's state goes on by the outcome of a seat's call: the history grows by its mark, what the account
+-- began with stays, and so does the rest where it is to stay; and what a crash at any moment leaves.
+pub record Leaves {D : Type 0} (G : Ghosts D) (old new : AccountState D G) (seat : ℕ)
+    (call_outcome : CallOutcome) : Type 0 where
+  pub history : history_in new ≡ history_in old ++ by_seat seat (marks_by call_outcome)
   pub origin : SameOrigin old new
-  pub stays : StaysBy deed old new
-  pub failed : FailedBy deed old new
-  pub any_moment : LeavesTried G (tried_by deed) old new
+  pub stays : StaysBy call_outcome old new
+  pub failed : FailedBy call_outcome old new
+  pub any_moment : LeavesTried G (tried_by call_outcome) old new
   pub later : G.faults (disk_in old) ≤ G.faults (disk_in new)
-  pub fault : IfFailed deed (Rose (G.faults (disk_in old)) (G.faults (disk_in new)))
+  pub fault : IfFailed call_outcome (Rose (G.faults (disk_in old)) (G.faults (disk_in new)))
