@@ -69,10 +69,10 @@ named_row_sound rows moment text row sound e =
     (found_sound rows moment (secret_id text) (found rows moment (secret_id text)) refl sound) e
 
 pub admits_by_policy : AdmitsByPolicy
-admits_by_policy rows person moment wish row sound e =
-    ap (λ (o : Option SecretRow). is_none (on_row o person wish)) e
-    ∙ by_kept row.policy (question_of person row wish)
-    (named_row_sound rows moment wish.secret_id row sound e).fits.policy
+admits_by_policy rows person moment access_request row sound e =
+    ap (λ (o : Option SecretRow). is_none (on_row o person access_request)) e
+    ∙ by_kept row.policy (question_of person row access_request)
+    (named_row_sound rows moment access_request.secret_id row sound e).fits.policy
 
 -- ---- which statement is named
 

@@ -18,7 +18,7 @@ use Rattle.sm_policy_text.specs.Documents.{Flaw, policy_of}
 use Rattle.sm_table.specs.Found.{found}
 use Rattle.sm_access.specs.declared.admission.Admitted.{Admitted}
 use Rattle.sm_access.specs.declared.admission.Admitted.TheVariants.{Ok as Admits, Denied, Memory}
-use Rattle.sm_access.specs.Wishes.{PlainWish, wish_of, asks_nothing}
+use Rattle.sm_access.specs.AccessRequests.{PlainAccessRequest, access_request_of, asks_nothing}
 
 -- An admission is nothing where the request is admitted. Where it is denied it is the number of the statement that
 -- denies it, counted from 1, or that none allows it.
@@ -43,37 +43,38 @@ abbrev pub by_policy : Option (List ℕ) → PlainQuestion → Option (Option �
 by_policy None question = by_person question.person
 by_policy (Some text) question = by_reading (policy_of text) question
 
--- what a wish asks the policy of the secret of this row
-abbrev pub question_of : Person → SecretRow → PlainWish → PlainQuestion
-question_of person row wish = record {
+-- what an access request asks the policy of the secret of this row
+abbrev pub question_of : Person → SecretRow → PlainAccessRequest → PlainQuestion
+question_of person row access_request = record {
   person = person;
-  action = wish.action;
+  action = access_request.action;
   row = row;
-  secret_id = wish.secret_id;
-  version_id = wish.version_id;
-  version_stage = wish.version_stage;
+  secret_id = access_request.secret_id;
+  version_id = access_request.version_id;
+  version_stage = access_request.version_stage;
 }
 
 -- a secret that is not there has no statements
-abbrev pub on_row : Option SecretRow → Person → PlainWish → Option (Option ℕ)
-on_row None person wish = by_person person
-on_row (Some row) person wish = by_policy row.policy (question_of person row wish)
+abbrev pub on_row : Option SecretRow → Person → PlainAccessRequest → Option (Option ℕ)
+on_row None person access_request = by_person person
+on_row (Some row) person access_request = by_policy row.policy (question_of person row access_request)
 
 -- the row of the secret that a text names; one that is no SecretId names none
 abbrev pub secret_named : Rows → Moment → List ℕ → Option SecretRow
 secret_named rows moment text = if is_secret_id text then found rows moment (secret_id text) else None
 
-abbrev pub admission_of_wish : Rows → Person → Moment → PlainWish → Option (Option ℕ)
-admission_of_wish rows person moment wish = on_row (secret_named rows moment wish.secret_id) person wish
+abbrev pub admission_of_access_request : Rows → Person → Moment → PlainAccessRequest → Option (Option ℕ)
+admission_of_access_request rows person moment access_request =
+    on_row (secret_named rows moment access_request.secret_id) person access_request
 
 -- a request that names no secret has no statements
-abbrev pub admission_if : Rows → Person → Moment → Option PlainWish → Option (Option ℕ)
+abbrev pub admission_if : Rows → Person → Moment → Option PlainAccessRequest → Option (Option ℕ)
 admission_if rows person moment None = by_person person
-admission_if rows person moment (Some wish) = admission_of_wish rows person moment wish
+admission_if rows person moment (Some access_request) = admission_of_access_request rows person moment access_request
 
 abbrev pub admission : Rows → Person → Moment → Request → Option (Option ℕ)
 admission rows person moment request =
-    if asks_nothing request then None else admission_if rows person moment (wish_of request)
+    if asks_nothing request then None else admission_if rows person moment (access_request_of request)
 
 -- the admission, or none where memory is wanted
 abbrev pub admitted_told : Admitted → Option (Option (Option ℕ))

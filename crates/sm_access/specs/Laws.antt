@@ -10,8 +10,8 @@ use Rattle.sm_policy_text.specs.declared.policy.Policy.{Policy}
 use Rattle.sm_policy.specs.Decisions.{PlainQuestion, denies, first_number, admitted}
 use Rattle.sm_policy_text.specs.Documents.{Flaw, policy_of}
 use Rattle.sm_table.specs.Sound.{Sound}
-use Rattle.sm_access.specs.Admission.{by_policy, question_of, secret_named, admission_of_wish}
-use Rattle.sm_access.specs.Wishes.{PlainWish}
+use Rattle.sm_access.specs.Admission.{by_policy, question_of, secret_named, admission_of_access_request}
+use Rattle.sm_access.specs.AccessRequests.{PlainAccessRequest}
 
 -- the policy that a secret keeps; without one it has no statements
 abbrev pub no_statements : Policy
@@ -28,10 +28,10 @@ kept_policy (Some text) = policy_read (policy_of text)
 -- no statement denies it, and the person is full or some statement allows it
 abbrev pub AdmitsByPolicy : Type 0
 AdmitsByPolicy =
-    (rows : Rows) (person : Person) (moment : Moment) (wish : PlainWish) (row : SecretRow) → Sound rows
-    → secret_named rows moment wish.secret_id ≡ Some row
-    → is_none (admission_of_wish rows person moment wish)
-    ≡ admitted (kept_policy row.policy) (question_of person row wish)
+    (rows : Rows) (person : Person) (moment : Moment) (access_request : PlainAccessRequest) (row : SecretRow)
+    → Sound rows → secret_named rows moment access_request.secret_id ≡ Some row
+    → is_none (admission_of_access_request rows person moment access_request)
+    ≡ admitted (kept_policy row.policy) (question_of person row access_request)
 
 -- the number of the first statement that denies it, or none where none does
 abbrev pub DenialNamesFirst : Type 0

@@ -1,3 +1,3 @@
-pub mod Wishes
+pub mod AccessRequests
 pub mod Admission
 pub mod Laws

@@ -4,10 +4,10 @@ ghost use Rattle.std.specs.Prelude.{◌≡◌, IfOk, Some, option_copied};
 ghost use Rattle.sm_base.specs.Outcomes.{OrMemory};
 ghost use Rattle.sm_policy.specs.Decisions.{plain_question};
 ghost use Rattle.sm_policy_text.specs.Documents.{policy_of};
-ghost use Rattle.sm_access.specs.Admission.{admitted_told, by_person, by_decision, by_reading, by_policy, question_of, on_row, secret_named, admission_of_wish, admission};
-ghost use Rattle.sm_access.specs.Wishes.{plain_wish, get_wish};
+ghost use Rattle.sm_access.specs.Admission.{admitted_told, by_person, by_decision, by_reading, by_policy, question_of, on_row, secret_named, admission_of_access_request, admission};
+ghost use Rattle.sm_access.specs.AccessRequests.{plain_access_request, get_access_request};
 
-use crate::wishes::{Wish, asks_nothing, get_wish, wish_of};
+use crate::access_requests::{AccessRequest, asks_nothing, get_access_request, access_request_of};
 use sm_model::{
     GetSecretValue, Moment, NoMemory, Person, ReadRefused, Request, SecretId, SecretRow, Text,
 };
@@ -38,8 +38,8 @@ pub fn admit(
     if asks_nothing(request) {
         return Admitted::Ok;
     }
-    match wish_of(request) {
-        Some(wish) => admit_wish(alloc, table, person, moment, &wish),
+    match access_request_of(request) {
+        Some(access_request) => admit_access_request(alloc, table, person, moment, &access_request),
         None => by_person(person),
     }
 }
@@ -55,22 +55,22 @@ pub fn admit_get(
     ensures { OrMemory (admitted_told result)
         (admission table.now person.now moment (Request.GetSecretValue get.now)) }
 {
-    admit_wish(alloc, table, person, moment, &get_wish(get))
+    admit_access_request(alloc, table, person, moment, &get_access_request(get))
 }
 
 /// Whether the person may do what is asked of the secret that is named. One that is not there has no statements.
-fn admit_wish(
+fn admit_access_request(
     alloc: Global,
     table: &Table,
     person: &Person,
     moment: Moment,
-    wish: &Wish<'_>,
+    access_request: &AccessRequest<'_>,
 ) -> Admitted
     ensures { OrMemory (admitted_told result)
-        (admission_of_wish table.now person.now moment (plain_wish wish.now)) }
+        (admission_of_access_request table.now person.now moment (plain_access_request access_request.now)) }
 {
-    match secret_named(alloc, table, moment, wish.secret_id) {
-        Ok(Some(row)) => on_row(person, row, wish),
+    match secret_named(alloc, table, moment, access_request.secret_id) {
+        Ok(Some(row)) => on_row(person, row, access_request),
         Ok(None) => by_person(person),
         Err(NoMemory) => Admitted::Memory,
     }
@@ -93,17 +93,17 @@ fn secret_named<'a>(
 }
 
 /// Whether the person may do what is asked of the secret of this row.
-fn on_row<'a>(person: &'a Person, row: &'a SecretRow, wish: &'a Wish<'a>) -> Admitted
+fn on_row<'a>(person: &'a Person, row: &'a SecretRow, access_request: &'a AccessRequest<'a>) -> Admitted
     ensures { admitted_told result
-        ≡ Some (by_policy row.now.policy (question_of person.now row.now (plain_wish wish.now))) }
+        ≡ Some (by_policy row.now.policy (question_of person.now row.now (plain_access_request access_request.now))) }
 {
     let question = Question {
         person,
-        action: wish.action.as_bytes(),
+        action: access_request.action.as_bytes(),
         row,
-        secret_id: wish.secret_id.as_bytes(),
-        version_id: wish.version_id,
-        version_stage: wish.version_stage,
+        secret_id: access_request.secret_id.as_bytes(),
+        version_id: access_request.version_id,
+        version_stage: access_request.version_stage,
     };
     by_policy(&row.policy, &question)
 }

@@ -4,6 +4,6 @@
 
 pub mod admission;
 pub mod laws;
-mod wishes;
+mod access_requests;
 
 pub use admission::{Admitted, admit, admit_get};

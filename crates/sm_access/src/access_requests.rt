@@ -1,13 +1,13 @@
 //! What a request asks of the policy of a secret (Service Authorization Reference, "Actions, resources, and condition
 //! keys for AWS Secrets Manager").
 ghost use Rattle.std.specs.Prelude.{◌≡◌, option_map};
-ghost use Rattle.sm_access.specs.Wishes.{plain_wish, wish_on, label_asked, get_wish, move_wish, validation_wish, wish_of, asks_nothing};
+ghost use Rattle.sm_access.specs.AccessRequests.{plain_access_request, access_request_on, label_asked, get_access_request, move_access_request, validation_access_request, access_request_of, asks_nothing};
 
 use sm_model::{GetSecretValue, Request, Text, UpdateSecretVersionStage, ValidateResourcePolicy};
 
 /// What a request asks of the policy of the secret that it names.
 #[derive(Clone, Copy)]
-pub(crate) struct Wish<'a> {
+pub(crate) struct AccessRequest<'a> {
     /// The action's whole name, as `secretsmanager:GetSecretValue`.
     pub action: &'static str,
     /// The SecretId as it was given.
@@ -18,62 +18,62 @@ pub(crate) struct Wish<'a> {
 }
 
 /// What a request asks of the policy of the secret that it names, or none where it names no secret.
-pub(crate) fn wish_of(request: &Request) -> Option<Wish<'_>>
-    ensures { option_map plain_wish result ≡ wish_of request.now }
+pub(crate) fn access_request_of(request: &Request) -> Option<AccessRequest<'_>>
+    ensures { option_map plain_access_request result ≡ access_request_of request.now }
 {
     match request {
         Request::CancelRotateSecret(cancel) => {
-            Some(wish_on("secretsmanager:CancelRotateSecret", &cancel.secret_id))
+            Some(access_request_on("secretsmanager:CancelRotateSecret", &cancel.secret_id))
         }
         Request::DeleteResourcePolicy(delete) => {
-            Some(wish_on("secretsmanager:DeleteResourcePolicy", &delete.secret_id))
+            Some(access_request_on("secretsmanager:DeleteResourcePolicy", &delete.secret_id))
         }
         Request::DeleteSecret(delete) => {
-            Some(wish_on("secretsmanager:DeleteSecret", &delete.secret_id))
+            Some(access_request_on("secretsmanager:DeleteSecret", &delete.secret_id))
         }
         Request::DescribeSecret(describe) => {
-            Some(wish_on("secretsmanager:DescribeSecret", &describe.secret_id))
+            Some(access_request_on("secretsmanager:DescribeSecret", &describe.secret_id))
         }
         Request::GetResourcePolicy(get) => {
-            Some(wish_on("secretsmanager:GetResourcePolicy", &get.secret_id))
+            Some(access_request_on("secretsmanager:GetResourcePolicy", &get.secret_id))
         }
-        Request::GetSecretValue(get) => Some(get_wish(get)),
+        Request::GetSecretValue(get) => Some(get_access_request(get)),
         Request::ListSecretVersionIds(list) => {
-            Some(wish_on("secretsmanager:ListSecretVersionIds", &list.secret_id))
+            Some(access_request_on("secretsmanager:ListSecretVersionIds", &list.secret_id))
         }
         Request::PutResourcePolicy(put) => {
-            Some(wish_on("secretsmanager:PutResourcePolicy", &put.secret_id))
+            Some(access_request_on("secretsmanager:PutResourcePolicy", &put.secret_id))
         }
         Request::PutSecretValue(put) => {
-            Some(wish_on("secretsmanager:PutSecretValue", &put.secret_id))
+            Some(access_request_on("secretsmanager:PutSecretValue", &put.secret_id))
         }
-        Request::RemoveRegionsFromReplication(remove) => Some(wish_on(
+        Request::RemoveRegionsFromReplication(remove) => Some(access_request_on(
             "secretsmanager:RemoveRegionsFromReplication",
             &remove.secret_id,
         )),
-        Request::ReplicateSecretToRegions(replicate) => Some(wish_on(
+        Request::ReplicateSecretToRegions(replicate) => Some(access_request_on(
             "secretsmanager:ReplicateSecretToRegions",
             &replicate.secret_id,
         )),
         Request::RestoreSecret(restore) => {
-            Some(wish_on("secretsmanager:RestoreSecret", &restore.secret_id))
+            Some(access_request_on("secretsmanager:RestoreSecret", &restore.secret_id))
         }
         Request::RotateSecret(rotate) => {
-            Some(wish_on("secretsmanager:RotateSecret", &rotate.secret_id))
+            Some(access_request_on("secretsmanager:RotateSecret", &rotate.secret_id))
         }
-        Request::StopReplicationToReplica(stop) => Some(wish_on(
+        Request::StopReplicationToReplica(stop) => Some(access_request_on(
             "secretsmanager:StopReplicationToReplica",
             &stop.secret_id,
         )),
-        Request::TagResource(tag) => Some(wish_on("secretsmanager:TagResource", &tag.secret_id)),
+        Request::TagResource(tag) => Some(access_request_on("secretsmanager:TagResource", &tag.secret_id)),
         Request::UntagResource(untag) => {
-            Some(wish_on("secretsmanager:UntagResource", &untag.secret_id))
+            Some(access_request_on("secretsmanager:UntagResource", &untag.secret_id))
         }
         Request::UpdateSecret(update) => {
-            Some(wish_on("secretsmanager:UpdateSecret", &update.secret_id))
+            Some(access_request_on("secretsmanager:UpdateSecret", &update.secret_id))
         }
-        Request::UpdateSecretVersionStage(update) => Some(move_wish(update)),
-        Request::ValidateResourcePolicy(validate) => validation_wish(validate),
+        Request::UpdateSecretVersionStage(update) => Some(move_access_request(update)),
+        Request::ValidateResourcePolicy(validate) => validation_access_request(validate),
         Request::BatchGetSecretValue(_)
         | Request::CreateSecret(_)
         | Request::GetRandomPassword(_)
@@ -82,10 +82,10 @@ pub(crate) fn wish_of(request: &Request) -> Option<Wish<'_>>
 }
 
 /// An action on the secret with this SecretId, of which no version and no label is named.
-fn wish_on<'a>(action: &'static str, secret_id: &'a Text) -> Wish<'a>
-    ensures { plain_wish result ≡ wish_on action.now secret_id.now }
+fn access_request_on<'a>(action: &'static str, secret_id: &'a Text) -> AccessRequest<'a>
+    ensures { plain_access_request result ≡ access_request_on action.now secret_id.now }
 {
-    Wish {
+    AccessRequest {
         action,
         secret_id,
         version_id: None,
@@ -94,10 +94,10 @@ fn wish_on<'a>(action: &'static str, secret_id: &'a Text) -> Wish<'a>
 }
 
 /// What a GetSecretValue asks.
-pub(crate) fn get_wish(get: &GetSecretValue) -> Wish<'_>
-    ensures { plain_wish result ≡ get_wish get.now }
+pub(crate) fn get_access_request(get: &GetSecretValue) -> AccessRequest<'_>
+    ensures { plain_access_request result ≡ get_access_request get.now }
 {
-    Wish {
+    AccessRequest {
         action: "secretsmanager:GetSecretValue",
         secret_id: &get.secret_id,
         version_id: bytes_of(&get.version_id),
@@ -130,10 +130,10 @@ fn label_asked(get: &GetSecretValue) -> Option<&[u8]>
 }
 
 /// What an UpdateSecretVersionStage asks: it names its label.
-fn move_wish(update: &UpdateSecretVersionStage) -> Wish<'_>
-    ensures { plain_wish result ≡ move_wish update.now }
+fn move_access_request(update: &UpdateSecretVersionStage) -> AccessRequest<'_>
+    ensures { plain_access_request result ≡ move_access_request update.now }
 {
-    Wish {
+    AccessRequest {
         action: "secretsmanager:UpdateSecretVersionStage",
         secret_id: &update.secret_id,
         version_id: None,
@@ -142,11 +142,11 @@ fn move_wish(update: &UpdateSecretVersionStage) -> Wish<'_>
 }
 
 /// What a ValidateResourcePolicy asks, where it names a secret.
-fn validation_wish(validate: &ValidateResourcePolicy) -> Option<Wish<'_>>
-    ensures { option_map plain_wish result ≡ validation_wish validate.now }
+fn validation_access_request(validate: &ValidateResourcePolicy) -> Option<AccessRequest<'_>>
+    ensures { option_map plain_access_request result ≡ validation_access_request validate.now }
 {
     match &validate.secret_id {
-        Some(id) => Some(wish_on("secretsmanager:ValidateResourcePolicy", id)),
+        Some(id) => Some(access_request_on("secretsmanager:ValidateResourcePolicy", id)),
         None => None,
     }
 }
