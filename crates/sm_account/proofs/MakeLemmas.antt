@@ -147,7 +147,7 @@ module _ {D : Type 0} {G : Ghosts D} (old mid new : AccountState D G)
   pub behind_history : history_in mid ≡ history_in old
   behind_history = ap (λ (b : AccountState D G). history_in b) wrote
 
-  pub behind_enter : (entry : entries) (change : Change)
+  pub behind_commit : (entry : entries) (change : Change)
       → new ≡ record mid {
         table = changed (sweep mid.table entry.moment) change;
         last = entry.moment;
@@ -167,7 +167,7 @@ module _ {D : Type 0} {G : Ghosts D} (old mid new : AccountState D G)
         told = new.told;
         marks = old.marks + 1;
       }
-  behind_enter entry change rest =
+  behind_commit entry change rest =
       rest ∙ ap (λ (b : AccountState D G). record b {
         table = changed (sweep b.table entry.moment) change;
         last = entry.moment;

@@ -43,7 +43,7 @@ pub fn make<D: Disk>(inner: &mut AccountState<D>, seat: u32, due: Due) -> Result
 {
     match write_ready(inner, &due) {
         Written::Ok => {
-            enter(inner, seat, due);
+            commit_written(inner, seat, due);
             Ok(())
         }
         Written::Unmended => {
@@ -73,7 +73,7 @@ fn write_ready<D: Disk>(inner: &mut AccountState<D>, due: &Due) -> Written
 }
 
 /// Makes the change of an entry that was written, and adds it to the history.
-fn enter<D: Disk>(inner: &mut AccountState<D>, seat: u32, due: Due)
+fn commit_written<D: Disk>(inner: &mut AccountState<D>, seat: u32, due: Due)
     requires prepared { due.prepared.before ≡ inner.old.table }
     requires stands { StandsAt inner.old.table due.entry.moment due.prepared.change }
     requires counted { inner.old.made < ENTRIES_LIMIT }

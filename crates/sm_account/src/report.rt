@@ -10,7 +10,7 @@ ghost use Rattle.sm_account.specs.Limits.{passed_at};
 ghost use Rattle.sm_account.specs.Report.{IsHeldAs, ReportsAs, entered_answer, report_at, reported_by, reported_entry};
 
 use crate::account_state::AccountState;
-use crate::entering::{Entered, enter};
+use crate::entering::{Entered, enter_legal};
 use sm_base::limits::VALUE_LIMIT;
 use sm_claims::{is_fresh, step_of};
 use sm_disk::Disk;
@@ -117,7 +117,7 @@ fn report_entry<D: Disk>(inner: &mut AccountState<D>, seat: u32, entry: Entry) -
     ensures leaves { Leaves D.Disk inner.old inner.new seat
         (reported_by result (effort_within (passed_at (state_in inner.old) entry) entry)) }
 {
-    match enter(inner, seat, entry) {
+    match enter_legal(inner, seat, entry) {
         Ok(entered) => match entered {
             Entered::Made => Reported::Moved,
             Entered::Over(passed) => Reported::Limit(passed.limit),

@@ -11,7 +11,7 @@ ghost use Rattle.sm_account.specs.Limits.{passed_at};
 ghost use Rattle.sm_account.specs.StartDue.{Starts, StartsAs, start_at, start_for, started_by};
 
 use crate::account_state::AccountState;
-use crate::entering::{Entered, enter};
+use crate::entering::{Entered, enter_legal};
 use sm_claims::first_due;
 use sm_disk::Disk;
 use sm_model::{Act, Arn, Bytes, Copied, Entry, Moment, NoMemory, SecretRow, Text, Token};
@@ -74,7 +74,7 @@ fn start_with<D: Disk>(inner: &mut AccountState<D>, seat: u32, start: DueStart) 
         (started_by result (effort_within (passed_at (state_in inner.old) start.entry) start.entry)) }
 {
     let DueStart { arn, entry } = start;
-    match enter(inner, seat, entry) {
+    match enter_legal(inner, seat, entry) {
         Ok(entered) => match entered {
             Entered::Made => StartedDue::Started(arn),
             Entered::Over(passed) => StartedDue::Limit(passed.limit),

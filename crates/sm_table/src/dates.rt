@@ -83,12 +83,12 @@ pub fn turn(dates: &mut Vec<DueDate>, serial: u64, was: Option<Moment>, is: Opti
     if is_same(was, is) {
         return;
     }
-    leave(dates, serial, was);
-    enter(dates, serial, is);
+    take_date(dates, serial, was);
+    put_date(dates, serial, is);
 }
 
 /// Takes the date of a row out, where there is one.
-fn leave(dates: &mut Vec<DueDate>, serial: u64, was: Option<Moment>)
+fn take_date(dates: &mut Vec<DueDate>, serial: u64, was: Option<Moment>)
     requires { (others : List DueDate) × IsBut dates.old.items (vec_capacity dates.old) was serial others }
     ensures dates { (others : List DueDate) → dates.old.items ≡ with_date was others serial
         → dates.new.items ≡ others }
@@ -101,7 +101,7 @@ fn leave(dates: &mut Vec<DueDate>, serial: u64, was: Option<Moment>)
 }
 
 /// Puts the date of a row in, where there is one.
-fn enter(dates: &mut Vec<DueDate>, serial: u64, is: Option<Moment>)
+fn put_date(dates: &mut Vec<DueDate>, serial: u64, is: Option<Moment>)
     requires ordered { IsTrue (ordered is_before dates.old.items) }
     requires room { vec_len dates.old < vec_capacity dates.old }
     ensures dates { dates.new.items ≡ with_date is dates.old.items serial }

@@ -7,17 +7,19 @@ use Rattle.sm_table.specs.Sweep.{sweep}
 use Rattle.sm_store.specs.BaseStores as stores
 use Rattle.sm_account.specs.AccountState.{history_in, all_held, disk_in}
 use Rattle.sm_account.specs.Crashes.{Throughout}
-use Rattle.sm_account.proofs.MakeLemmas.{entered_origin, entered_kept, failed_stays, faulted_origin, faulted_state, unmended_kept, torn_kept, behind_enter, behind_entries, behind_fault, behind_tear, behind_history}
+use Rattle.sm_account.proofs.MakeLemmas.{entered_origin, entered_kept, failed_stays, faulted_origin, faulted_state, unmended_kept, torn_kept, behind_commit, behind_entries, behind_fault, behind_tear, behind_history}
 use Rattle.sm_account.proofs.making.make.Goals as goal
 
 pub returns-in-Ok : goal.returns-in-Ok
 returns-in-Ok g c =
     let old = c.args.inner.now in
     let mid = c.write_ready.new.inner in
-    let new = c.enter.new.inner in
+    let new = c.commit_written.new.inner in
     let due = c.args.due in
-    let rest = behind_enter old mid new c.write_ready.ensures.rest due.entry due.prepared.change c.enter.ensures.rest in
-    let history : history_in new ≡ history_in old ++ (c.args.seat, Entry due.entry) ∷ [] = c.enter.ensures.history
+    let rest = behind_commit old mid new c.write_ready.ensures.rest due.entry due.prepared.change
+        c.commit_written.ensures.rest in
+    let history : history_in new ≡ history_in old ++ (c.args.seat, Entry due.entry) ∷ [] =
+        c.commit_written.ensures.history
     ∙ ap (λ h. h ++ (c.args.seat, Entry due.entry) ∷ []) (behind_history old mid new c.write_ready.ensures.rest) in
     let stored = ap (λ b. b.store) rest in
     let table = ap (λ b. b.table) c.write_ready.ensures.rest in
@@ -25,16 +27,16 @@ returns-in-Ok g c =
     c.write_ready.ensures.later in
     record {
       kept = entered_kept old new mid.store c.args.seat c.requires.kept c.write_ready.ensures.same due.entry due.ready
-          due.prepared.change c.requires.due rest history c.enter.ensures.sure
-          (c.enter.ensures.sound (subst Sound (sym table) c.requires.kept.sound)
+          due.prepared.change c.requires.due rest history c.commit_written.ensures.sure
+          (c.commit_written.ensures.sound (subst Sound (sym table) c.requires.kept.sound)
           (subst (λ t. ChangeSound (sweep t due.entry.moment) due.prepared.change) (sym table) c.requires.due.sound))
-          (behind_entries old mid new c.write_ready.ensures.rest due.entry c.enter.ensures.entries)
+          (behind_entries old mid new c.write_ready.ensures.rest due.entry c.commit_written.ensures.entries)
           c.in-Ok.ensures.answer c.write_ready.ensures.later;
       history = history;
       origin = entered_origin old new mid.store c.args.seat c.requires.kept c.write_ready.ensures.same due.entry
           due.ready
           due.prepared.change c.requires.due rest history;
-      sure = λ _. c.enter.ensures.sure;
+      sure = λ _. c.commit_written.ensures.sure;
       fault = tt;
       torn = tt;
       any_moment =

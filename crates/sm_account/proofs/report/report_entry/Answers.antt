@@ -7,22 +7,23 @@ pub returns-in-Made : goal.returns-in-Made
 returns-in-Made g c =
     let old = c.args.inner.now in
     let entry = c.args.entry in
-    let both = report_made old c.enter.new.inner c.args.seat entry (passed_at (state_in old) entry)
+    let both = report_made old c.enter_legal.new.inner c.args.seat entry (passed_at (state_in old) entry)
     (rw c.in-Made.is at c.in-Ok.ensures.enters) (rw c.in-Made.is at c.in-Ok.ensures.leaves) in
-    record { kept = c.enter.ensures.kept; reports = both.0; leaves = both.1 }
+    record { kept = c.enter_legal.ensures.kept; reports = both.0; leaves = both.1 }
 
 pub returns-in-Over : goal.returns-in-Over
 returns-in-Over g c =
     let old = c.args.inner.now in
     let entry = c.args.entry in
-    let both = report_over old c.enter.new.inner c.args.seat entry (passed_at (state_in old) entry) c.in-Over.passed
+    let both = report_over old c.enter_legal.new.inner c.args.seat entry (passed_at (state_in old) entry)
+        c.in-Over.passed
     (rw c.in-Over.is at c.in-Ok.ensures.enters) (rw c.in-Over.is at c.in-Ok.ensures.leaves) in
-    record { kept = c.enter.ensures.kept; reports = both.0; leaves = both.1 }
+    record { kept = c.enter_legal.ensures.kept; reports = both.0; leaves = both.1 }
 
 pub returns-in-DiskFault : goal.returns-in-DiskFault
 returns-in-DiskFault g c =
     let old = c.args.inner.now in
     let entry = c.args.entry in
-    let both = report_faulted old c.enter.new.inner c.args.seat entry (passed_at (state_in old) entry)
+    let both = report_faulted old c.enter_legal.new.inner c.args.seat entry (passed_at (state_in old) entry)
     (rw c.in-DiskFault.is at c.in-Ok.ensures.enters) (rw c.in-DiskFault.is at c.in-Ok.ensures.leaves) in
-    record { kept = c.enter.ensures.kept; reports = both.0; leaves = both.1 }
+    record { kept = c.enter_legal.ensures.kept; reports = both.0; leaves = both.1 }

@@ -4,7 +4,7 @@ use Rattle.sm_table.specs.Ordered.{taken}
 use Rattle.sm_table.specs.Dates.{is_before, with_date}
 use Rattle.sm_table.proofs.DateLemmas.{date_laws, but_ordered}
 use Rattle.sm_table.proofs.OrderedLemmas.{placed_taken}
-use Rattle.sm_table.proofs.dates.leave.Goals as goal
+use Rattle.sm_table.proofs.dates.take_date.Goals as goal
 
 pub take_out-requires : goal.take_out-requires
 take_out-requires c =

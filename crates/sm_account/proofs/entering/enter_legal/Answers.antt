@@ -1,7 +1,7 @@
 use Rattle.sm_account.proofs.CallOutcomeLemmas.{nothing_done, room_taken}
 use Rattle.sm_account.proofs.EffortLemmas.{enters_behind, leaves_behind}
 use Rattle.sm_account.proofs.RoomLemmas.{limits_aside, room_kept}
-use Rattle.sm_account.proofs.entering.enter.Goals as goal
+use Rattle.sm_account.proofs.entering.enter_legal.Goals as goal
 
 pub again-requires : goal.again-requires
 again-requires g c = record { sound = c.requires.kept.sound; moment = c.requires.may.bound }
