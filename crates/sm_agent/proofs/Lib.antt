@@ -4,4 +4,4 @@ pub mod KeyLemmas
 pub mod QueryLemmas
 pub mod JsonLemmas
 pub mod RunLemmas
-pub mod TurnLemmas
+pub mod ExchangeLemmas

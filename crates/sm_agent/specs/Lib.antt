@@ -11,4 +11,4 @@ pub mod Messages
 pub mod Replies
 pub mod Received
 pub mod Link
-pub mod Turns
+pub mod Exchanges

@@ -1,6 +1,6 @@
 //! Laws of a caching reader.
 ghost use Rattle.sm_agent.specs.Runs.{KeptWasAsked};
-ghost use Rattle.sm_agent.specs.Turns.{RepliesAreGiven};
+ghost use Rattle.sm_agent.specs.Exchanges.{RepliesAreGiven};
 
 /// In any run of calls since a reader was built, a kept answer is one that the upstream gave to that very question with
 /// status 200, in an earlier call of the run, less than the time to live before.

@@ -2,7 +2,7 @@
 ghost use Rattle.std.specs.Prelude.{Option};
 ghost use Rattle.std.specs.Result.{result_ok};
 ghost use Rattle.sm_agent.specs.Runs.{Call};
-ghost use Rattle.sm_agent.specs.Turns.{Came, Passes};
+ghost use Rattle.sm_agent.specs.Exchanges.{Came, Passes};
 
 use crate::agent::Agent;
 use crate::answer::Answer;

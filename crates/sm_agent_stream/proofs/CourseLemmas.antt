@@ -18,7 +18,7 @@ use Rattle.sm_agent.specs.declared.answer.Answer.{Answer}
 use Rattle.sm_agent.specs.declared.upstream.Told.{Told}
 use Rattle.sm_agent.specs.Agents.{AgentState, told_given, OnGivenFailed}
 use Rattle.sm_agent.specs.Runs.{Call}
-use Rattle.sm_agent.specs.Turns.{Came, Passes, Turn, Turns, told_by, read_by, OnCallFailed}
+use Rattle.sm_agent.specs.Exchanges.{Came, Passes, Exchange, Exchanges, told_by, read_by, OnCallFailed}
 use Rattle.sm_reply.specs.Shown.{Answered}
 use Rattle.sm_session.specs.declared.ended.Ended.{Ended}
 use Rattle.sm_session.specs.declared.ended.Ended.TheVariants.{Enough, WriteFault}
@@ -30,14 +30,16 @@ use Rattle.sm_agent_stream.specs.Streams.{Around, request_in, request_at, answer
 
 -- ---- requests with one more
 
-turns_more : (old : AgentState) (turns : List Turn) (turn : Turn) (mid new : AgentState) → Turns old turns mid
-    → Came turn.method turn.path turn.call turn.answer mid new → Turns old (turns ++ turn ∷ []) new
+turns_more : (old : AgentState) (turns : List Exchange) (turn : Exchange) (mid new : AgentState)
+    → Exchanges old turns mid
+    → Came turn.method turn.path turn.call turn.answer mid new → Exchanges old (turns ++ turn ∷ []) new
 turns_more old [] turn mid new same came =
     (new, subst (λ (a : AgentState). Came turn.method turn.path turn.call turn.answer a new) same came, refl)
 turns_more old (first ∷ turns) turn mid new run came =
     (run.0, run.1, turns_more run.0 turns turn mid new run.2 came)
 
-failures_more : (turns : List Turn) (turn : Turn) → failures (turns ++ turn ∷ []) ≡ failures turns + fails_by turn.call
+failures_more : (turns : List Exchange) (turn : Exchange)
+    → failures (turns ++ turn ∷ []) ≡ failures turns + fails_by turn.call
 failures_more [] turn = omega arith
 failures_more (first ∷ turns) turn = let more = failures_more turns turn in omega (arith, more)
 
@@ -96,10 +98,10 @@ fails_is (Some call) before now rose later = by call.given rose
 pub record Course (old : AgentState) (before : Around) (number : ℕ) (agent : AgentState) (now : Around)
     (reader : ReaderState) (count : ℕ) : Type 0 where
   pub messages : List Message
-  pub turns : List Turn
+  pub turns : List Exchange
   pub size : length messages ≡ number
   pub requests : map request_in messages ≡ map request_at turns
-  pub comes : Turns old turns agent
+  pub comes : Exchanges old turns agent
   pub wire : Wire before.sides messages (replies_of turns) now.sides reader count
   pub told : now.told ≡ append_told before.told (told_in turns)
   pub readings : now.readings ≡ append_known before.readings (read_in turns)
@@ -165,7 +167,7 @@ module _ (old : AgentState) (before : Around) (number : ℕ) (agent : AgentState
   module _ (new : AgentState) (reader' : ReaderState) (after : Around) (message : owned) (call : Option Call)
       (answer : Option Answer) (sent : Sent) (s : Step agent new reader reader' now after message call answer sent)
       (count' : ℕ) (counts : count' ≡ min (count + sent.taken) count_limit) where
-    abbrev its : Turn
+    abbrev its : Exchange
     its = record { method = message.method; path = message.path; call = call; answer = answer }
 
     requests_more : map request_in (c.messages ++ content message ∷ []) ≡ map request_at (c.turns ++ its ∷ [])
@@ -174,9 +176,9 @@ module _ (old : AgentState) (before : Around) (number : ℕ) (agent : AgentState
         ∙ sym (map-append request_at c.turns (its ∷ []))
 
     replies_more : replies_of c.turns ++ answered answer ∷ [] ≡ replies_of (c.turns ++ its ∷ [])
-    replies_more = sym (map-append (λ (turn : Turn). answered turn.answer) c.turns (its ∷ []))
+    replies_more = sym (map-append (λ (turn : Exchange). answered turn.answer) c.turns (its ∷ []))
 
-    comes_more : Turns old (c.turns ++ its ∷ []) new
+    comes_more : Exchanges old (c.turns ++ its ∷ []) new
     comes_more = turns_more old c.turns its agent new c.comes s.came
 
     told_more : after.told ≡ append_told before.told (told_in (c.turns ++ its ∷ []))
@@ -185,7 +187,7 @@ module _ (old : AgentState) (before : Around) (number : ℕ) (agent : AgentState
         ∙ ap (λ (t : Option (List Told)). append_told t (tells_by call)) c.told
         ∙ told_append before.told (told_in c.turns) (tells_by call)
         ∙ ap (append_told before.told)
-        (sym (flat_map-append (λ (turn : Turn). tells_by turn.call) c.turns (its ∷ [])
+        (sym (flat_map-append (λ (turn : Exchange). tells_by turn.call) c.turns (its ∷ [])
         ∙ ap (λ (l : List Told). told_in c.turns ++ l) (append-nil (tells_by call))))
 
     read_more : after.readings ≡ append_known before.readings (read_in (c.turns ++ its ∷ []))
@@ -194,7 +196,7 @@ module _ (old : AgentState) (before : Around) (number : ℕ) (agent : AgentState
         ∙ ap (λ (t : Option (List ℕ)). append_known t (reads_by call)) c.readings
         ∙ known_append before.readings (read_in c.turns) (reads_by call)
         ∙ ap (append_known before.readings)
-        (sym (flat_map-append (λ (turn : Turn). reads_by turn.call) c.turns (its ∷ [])
+        (sym (flat_map-append (λ (turn : Exchange). reads_by turn.call) c.turns (its ∷ [])
         ∙ ap (λ (l : List ℕ). read_in c.turns ++ l) (append-nil (reads_by call))))
 
     faults_more : min (before.faults + failures (c.turns ++ its ∷ [])) (2 ^ 64 - 1) ≤ after.faults

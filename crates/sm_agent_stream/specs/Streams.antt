@@ -10,7 +10,7 @@ use Rattle.sm_agent.specs.declared.upstream.Told.{Told}
 use Rattle.sm_agent.specs.declared.upstream.Upstream.{Ghosts as UpstreamGhosts}
 use Rattle.sm_agent.specs.Agents.{AgentState}
 use Rattle.sm_agent.specs.Runs.{Call}
-use Rattle.sm_agent.specs.Turns.{Turn, Turns}
+use Rattle.sm_agent.specs.Exchanges.{Exchange, Exchanges}
 use Rattle.sm_agent.specs.Upstreams.{answered as answered_told, unanswered}
 use Rattle.sm_http.specs.Messages.{Message}
 use Rattle.sm_io.specs.declared.clock.Clock.{Ghosts as ClockGhosts}
@@ -48,7 +48,7 @@ around_by sources sinks upstreams clocks source sink upstream clock = record {
 abbrev pub request_in : Message → List ℕ × List ℕ
 request_in message = (message.method, message.path)
 
-abbrev pub request_at : Turn → List ℕ × List ℕ
+abbrev pub request_at : Exchange → List ℕ × List ℕ
 request_at turn = (turn.method, turn.path)
 
 -- the reply that is written: where there was no memory, the one for want of it
@@ -57,7 +57,7 @@ answered None = unavailable
 answered (Some answer) = record { status = answer.status; body = answer.body }
 
 -- the replies to requests
-abbrev pub replies_of : List Turn → List Answered
+abbrev pub replies_of : List Exchange → List Answered
 replies_of turns = map (λ turn. answered turn.answer) turns
 
 -- what the upstream tells of a question: its answer, or that it failed; nothing of one that was not asked
@@ -73,7 +73,7 @@ tells_by None = []
 tells_by (Some call) = tells_of call.question call.given
 
 -- of requests, in their order
-abbrev pub told_in : List Turn → List Told
+abbrev pub told_in : List Exchange → List Told
 told_in turns = flat_map (λ turn. tells_by turn.call) turns
 
 -- what was told, where something is, and then this
@@ -86,7 +86,7 @@ abbrev pub reads_by : Option Call → List ℕ
 reads_by None = []
 reads_by (Some call) = call.now ∷ []
 
-abbrev pub read_in : List Turn → List ℕ
+abbrev pub read_in : List Exchange → List ℕ
 read_in turns = flat_map (λ turn. reads_by turn.call) turns
 
 -- how many of them the upstream failed
@@ -100,7 +100,7 @@ abbrev pub fails_by : Option Call → ℕ
 fails_by None = 0
 fails_by (Some call) = fails_of call.given
 
-abbrev pub failures : List Turn → ℕ
+abbrev pub failures : List Exchange → ℕ
 failures [] = 0
 failures (turn ∷ turns) = fails_by turn.call + failures turns
 
@@ -108,9 +108,9 @@ failures (turn ∷ turns) = fails_by turn.call + failures turns
 -- each, and how the stream ended.
 pub record StreamOf (ended : Ended) (old new : AgentState) (before after : Around) : Type 0 where
   pub messages : List Message
-  pub turns : List Turn
+  pub turns : List Exchange
   pub requests : map request_in messages ≡ map request_at turns
-  pub comes : Turns old turns new
+  pub comes : Exchanges old turns new
   pub streamed : Streamed ended before.sides after.sides messages (replies_of turns)
   pub told : after.told ≡ append_told before.told (told_in turns)
   pub readings : after.readings ≡ append_known before.readings (read_in turns)

@@ -2,7 +2,7 @@
 ghost use Rattle.std.specs.Prelude.{◌≡◌, ◌≤◌, Option};
 ghost use Rattle.sm_agent.specs.declared.answer.Answer.{Answer};
 ghost use Rattle.sm_agent.specs.Runs.{Call};
-ghost use Rattle.sm_agent.specs.Turns.{Came, Passes};
+ghost use Rattle.sm_agent.specs.Exchanges.{Came, Passes};
 ghost use Rattle.sm_http.specs.Framed.{Sends};
 ghost use Rattle.sm_session.specs.Replies.{reply_of, framed_answer};
 ghost use Rattle.sm_agent_stream.specs.Streams.{answered, around_by, StreamOf};

@@ -5,7 +5,7 @@ use lib.ListN.{get_elem?, length-map}
 use Rattle.std.specs.List.{Contains}
 use Rattle.std.specs.Option.{unwrap_or}
 use Rattle.atomic_table.specs.Table.{Final, Seen}
-use Rattle.sm_lock.specs.declared.view.Turn.TheVariants.{Out}
+use Rattle.sm_lock.specs.declared.view.QueuePlace.TheVariants.{Out}
 use Rattle.sm_lock.specs.declared.view.View.{View}
 use Rattle.sm_lock.specs.Story.{times, Grows}
 use Rattle.sm_lock.specs.View.{nothing}

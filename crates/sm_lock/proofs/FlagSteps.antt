@@ -8,8 +8,8 @@ use lib.Seq.{set-get_or}
 use Rattle.std.proofs.lemmas.List.{get_or-set_same, get_or-set_other, length-set}
 use Rattle.atomic_table.specs.Table.{State, Me, step, keeps, Allows}
 use Rattle.atomic_table.proofs.Lists.{at_set, one_turn}
-use Rattle.sm_lock.specs.declared.view.Turn.{Turn}
-use Rattle.sm_lock.specs.declared.view.Turn.TheVariants.{Out, Waiting, Flagged, Parked, Inside, Holding, Waking}
+use Rattle.sm_lock.specs.declared.view.QueuePlace.{QueuePlace}
+use Rattle.sm_lock.specs.declared.view.QueuePlace.TheVariants.{Out, Waiting, Flagged, Parked, Inside, Holding, Waking}
 use Rattle.sm_lock.specs.declared.view.View.{View}
 use Rattle.sm_lock.specs.View.{has_ticket, has, holds, parks, wakes, ticket, turned, saw}
 use Rattle.sm_lock.specs.Rule.{flag_word, flag, NoneSleepsOn}
@@ -18,7 +18,7 @@ use Rattle.sm_lock.proofs.Sums.{total-set, some_term, if_same, if_other}
 use Rattle.sm_lock.proofs.Moved.{Rule, slot_stays, flags_stay, moved, fits_turned, in_line, others_none, few_tickets}
 use Rattle.sm_lock.proofs.QueueSteps.{unmoved, is_served, lets_in}
 
-parks-has : (n : ℕ) (turn : Turn) → parks n turn ≤ has n turn
+parks-has : (n : ℕ) (turn : QueuePlace) → parks n turn ≤ has n turn
 parks-has n Out = omega arith
 parks-has n (Waiting t) = omega arith
 parks-has n (Flagged t) = omega arith
@@ -122,7 +122,7 @@ module _ {T O E : Type 0} (org : T → O) (sty : T → List (ℕ × E)) (o : O) 
   looks_again n id m t waits few s r wide me _ =
       let v = m.0 in let f = r.each id v me in
       let same_ticket : (t' : ℕ) → v.turn ≡ Flagged t' → t % 2 ^ 64 ≡ t' % 2 ^ 64 =
-      λ t' e. ap (λ (x : Turn). ticket x % 2 ^ 64) (sym waits ∙ e) in
+      λ t' e. ap (λ (x : QueuePlace). ticket x % 2 ^ 64) (sym waits ∙ e) in
       dite (ℕ_discrete (get_or s.words 1 0) (t % 2 ^ 64))
       (λ hit.
       let now = is_served org sty o built seats s r id v t me (ap (has t) waits ∙ if_same t t refl) few hit in (

@@ -5,8 +5,8 @@ use mathlib.Core.Option as maybe
 use lib.ListN.{get_elem?}
 use Rattle.atomic_table.specs.Table.{State}
 use Rattle.atomic_table.proofs.Lists.{at_set}
-use Rattle.sm_lock.specs.declared.view.Turn.{Turn}
-use Rattle.sm_lock.specs.declared.view.Turn.TheVariants.{Out, Waiting, Flagged, Parked, Inside, Holding, Waking}
+use Rattle.sm_lock.specs.declared.view.QueuePlace.{QueuePlace}
+use Rattle.sm_lock.specs.declared.view.QueuePlace.TheVariants.{Out, Waiting, Flagged, Parked, Inside, Holding, Waking}
 use Rattle.sm_lock.specs.declared.view.View.{View}
 use Rattle.sm_lock.specs.Story.{times, made_by}
 use Rattle.sm_lock.specs.View.{has_ticket, has, holds, parks, wakes, numbers}
@@ -102,8 +102,8 @@ module _ {T O E : Type 0} (org : T → O) (sty : T → List (ℕ × E)) (o : O) 
       }
 
   -- a view that fits, after a step that leaves the log and what is served
-  pub fits_turned : (log : List (ℕ × E)) (served next : ℕ) (v : V) (turn : Turn) → IsServed log served v.own.seen turn
-      → has_ticket turn ≤ length v.own.numbers
+  pub fits_turned : (log : List (ℕ × E)) (served next : ℕ) (v : V) (turn : QueuePlace)
+      → IsServed log served v.own.seen turn → has_ticket turn ≤ length v.own.numbers
       → Fits o built log served next v → Fits o built log served next (record v { turn = turn })
   fits_turned log served next v turn inside numbered f =
       record { based = f.based; own = f.own; told = f.told; inside = inside; numbered = numbered; counts = f.counts }
@@ -135,7 +135,7 @@ module _ {T O E : Type 0} (org : T → O) (sty : T → List (ℕ × E)) (o : O) 
       omega (arith, le, r.queue, r.many, r.few)
 
   -- a seat whose ticket is not served is not inside
-  pub elsewhere : (log log' seen : List (ℕ × E)) (served served' : ℕ) (turn : Turn) → has served turn ≡ 0
+  pub elsewhere : (log log' seen : List (ℕ × E)) (served served' : ℕ) (turn : QueuePlace) → has served turn ≡ 0
       → IsServed log served seen turn → IsServed log' served' seen turn
   elsewhere log log' seen served served' Out h f = tt
   elsewhere log log' seen served served' (Waiting t) h f = tt
@@ -146,7 +146,7 @@ module _ {T O E : Type 0} (org : T → O) (sty : T → List (ℕ × E)) (o : O) 
   elsewhere log log' seen served served' (Waking t) h f = tt
 
   -- who has the value has the ticket that is served
-  pub holder_served : (log seen : List (ℕ × E)) (served : ℕ) (turn : Turn) → 0 < holds turn
+  pub holder_served : (log seen : List (ℕ × E)) (served : ℕ) (turn : QueuePlace) → 0 < holds turn
       → IsServed log served seen turn → has served turn ≡ 1
   holder_served log seen served Out h f = absurd (omega arith)
   holder_served log seen served (Waiting t) h f = absurd (omega arith)

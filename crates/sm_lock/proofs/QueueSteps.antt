@@ -7,8 +7,8 @@ use lib.ListN.{get_elem?}
 use lib.Seq.{set-get_or}
 use Rattle.atomic_table.specs.Table.{State, Me, step, keeps, Allows}
 use Rattle.atomic_table.proofs.Lists.{set_again, one_turn}
-use Rattle.sm_lock.specs.declared.view.Turn.{Turn}
-use Rattle.sm_lock.specs.declared.view.Turn.TheVariants.{Out, Waiting, Inside, Waking}
+use Rattle.sm_lock.specs.declared.view.QueuePlace.{QueuePlace}
+use Rattle.sm_lock.specs.declared.view.QueuePlace.TheVariants.{Out, Waiting, Inside, Waking}
 use Rattle.sm_lock.specs.declared.view.View.{View}
 use Rattle.sm_lock.specs.View.{has_ticket, has, holds, wakes, ticket, turned, saw}
 use Rattle.sm_lock.specs.Rule.{IsServed}
@@ -96,7 +96,7 @@ module _ {T O E : Type 0} (org : T → O) (sty : T → List (ℕ × E)) (o : O) 
   looks n id m t waits few s r wide me _ =
       let v = m.0 in
       let same_ticket : (t' : ℕ) → v.turn ≡ Waiting t' → t % 2 ^ 64 ≡ t' % 2 ^ 64 =
-      λ t' e. ap (λ (x : Turn). ticket x % 2 ^ 64) (sym waits ∙ e) in
+      λ t' e. ap (λ (x : QueuePlace). ticket x % 2 ^ 64) (sym waits ∙ e) in
       dite (ℕ_discrete (get_or s.words 1 0) (t % 2 ^ 64))
       (λ hit.
       let now = is_served s r id v t me (ap (has t) waits ∙ if_same t t refl) few hit in (

@@ -9,8 +9,8 @@ use lib.ListN.{get_elem?}
 use lib.Seq.{set-get_or}
 use Rattle.atomic_table.specs.Table.{State, Me, step, keeps, Allows, Splits, Joins, opening, Final, Seen}
 use Rattle.atomic_table.proofs.Lists.{at_snoc, set_again, set_else}
-use Rattle.sm_lock.specs.declared.view.Turn.{Turn}
-use Rattle.sm_lock.specs.declared.view.Turn.TheVariants.{Out, Waiting, Flagged, Parked, Inside, Holding, Waking}
+use Rattle.sm_lock.specs.declared.view.QueuePlace.{QueuePlace}
+use Rattle.sm_lock.specs.declared.view.QueuePlace.TheVariants.{Out, Waiting, Flagged, Parked, Inside, Holding, Waking}
 use Rattle.sm_lock.specs.declared.view.View.{View}
 use Rattle.sm_lock.specs.declared.view.Known.{Known}
 use Rattle.sm_lock.specs.Story.{times, made_by, Grows}
@@ -300,7 +300,7 @@ module _ {T O E : Type 0} (org : T → O) (sty : T → List (ℕ × E)) (o : O) 
         (refl, j.0, j.1),
       )
 
-  holds-ticket : (turn : Turn) → holds turn ≤ has_ticket turn
+  holds-ticket : (turn : QueuePlace) → holds turn ≤ has_ticket turn
   holds-ticket Out = omega arith
   holds-ticket (Waiting t) = omega arith
   holds-ticket (Flagged t) = omega arith

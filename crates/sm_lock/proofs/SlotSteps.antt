@@ -9,7 +9,7 @@ use mathlib.Core.Option as maybe
 use lib.ListN.{get_elem?}
 use lib.Seq.{set-get_or}
 use Rattle.atomic_table.specs.Table.{State, Me, step, keeps, takes, gives, Allows}
-use Rattle.sm_lock.specs.declared.view.Turn.TheVariants.{Inside, Holding}
+use Rattle.sm_lock.specs.declared.view.QueuePlace.TheVariants.{Inside, Holding}
 use Rattle.sm_lock.specs.declared.view.View.{View}
 use Rattle.sm_lock.specs.Story.{times, made_by, Grows}
 use Rattle.sm_lock.specs.View.{has_ticket, has, holds, parks, wakes, ticket, turned, saw, numbers}

@@ -3,8 +3,8 @@ use Rattle.std.specs.Prelude.{◌≡◌, ◌⊎◌, ℕ, ◌+◌, ◌%◌, ◌^�
 use mathlib.Core.Option.{some, none}
 use lib.ListN.{get_elem?}
 use Rattle.atomic_table.specs.Table.{State}
-use Rattle.sm_lock.specs.declared.view.Turn.{Turn}
-use Rattle.sm_lock.specs.declared.view.Turn.TheVariants.{Out, Waiting, Flagged, Parked, Inside, Holding, Waking}
+use Rattle.sm_lock.specs.declared.view.QueuePlace.{QueuePlace}
+use Rattle.sm_lock.specs.declared.view.QueuePlace.TheVariants.{Out, Waiting, Flagged, Parked, Inside, Holding, Waking}
 use Rattle.sm_lock.specs.declared.view.View.{View}
 use Rattle.sm_lock.specs.Story.{times, made_by, Grows}
 use Rattle.sm_lock.specs.View.{has_ticket, has, holds, parks, wakes, numbers}
@@ -19,7 +19,7 @@ abbrev pub within : ℕ → ℕ → ℕ → ℕ
 within low high n = if nat_lt n low then 0 else (if nat_lt n high then 1 else 0)
 
 -- who is inside has the ticket that is served, and has seen the log
-abbrev pub IsServed : {E : Type 0} → List (ℕ × E) → ℕ → List (ℕ × E) → Turn → Type 0
+abbrev pub IsServed : {E : Type 0} → List (ℕ × E) → ℕ → List (ℕ × E) → QueuePlace → Type 0
 IsServed log served seen Out = Unit {0}
 IsServed log served seen (Waiting t) = Unit {0}
 IsServed log served seen (Flagged t) = Unit {0}

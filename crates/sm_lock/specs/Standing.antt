@@ -1,7 +1,7 @@
 -- Where the seat of a pass, of a note or of a held value stands.
 use Rattle.std.specs.Prelude.{◌≡◌, ◌⊎◌, ℕ, List, [], ◌∷◌, ◌++◌, Option, None}
 use Rattle.atomic_table.specs.Table.{Me}
-use Rattle.sm_lock.specs.declared.view.Turn.TheVariants.{Out, Holding}
+use Rattle.sm_lock.specs.declared.view.QueuePlace.TheVariants.{Out, Holding}
 use Rattle.sm_lock.specs.declared.view.View.{View}
 use Rattle.sm_lock.specs.View.{nothing, ticket}
 

@@ -1,7 +1,7 @@
 -- What each step tells its seat: of the step, the seat before, the word that was found and the seat after.
 use Rattle.std.specs.Prelude.{◌≡◌, ◌≢◌, ℕ, ◌+◌, ◌%◌, ◌^◌, List, ◌∷◌, length, Option, Some}
 use Rattle.atomic_table.specs.Table.{Me, Step, rest}
-use Rattle.sm_lock.specs.declared.view.Turn.TheVariants.{Out, Waiting, Flagged, Parked, Inside, Holding, Waking}
+use Rattle.sm_lock.specs.declared.view.QueuePlace.TheVariants.{Out, Waiting, Flagged, Parked, Inside, Holding, Waking}
 use Rattle.sm_lock.specs.declared.view.View.{View}
 use Rattle.sm_lock.specs.Story.{Grows}
 use Rattle.sm_lock.specs.View.{turned, saw, merged, ticket}

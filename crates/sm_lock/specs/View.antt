@@ -1,13 +1,13 @@
 -- What a seat knows, and what it knows after each step.
 use Rattle.std.specs.Prelude.{ℕ, ◌+◌, List, [], ◌∷◌, ◌++◌, Some, None, if◌then◌else◌, ◌==◌}
-use Rattle.sm_lock.specs.declared.view.Turn.{Turn}
-use Rattle.sm_lock.specs.declared.view.Turn.TheVariants.{Out, Waiting, Flagged, Parked, Inside, Holding, Waking}
+use Rattle.sm_lock.specs.declared.view.QueuePlace.{QueuePlace}
+use Rattle.sm_lock.specs.declared.view.QueuePlace.TheVariants.{Out, Waiting, Flagged, Parked, Inside, Holding, Waking}
 use Rattle.sm_lock.specs.declared.view.Known.{Known}
 use Rattle.sm_lock.specs.declared.view.View.{View}
 use Rattle.sm_lock.specs.Story.{longer}
 
 -- 1 where it stands in the queue, and else 0
-abbrev pub has_ticket : Turn → ℕ
+abbrev pub has_ticket : QueuePlace → ℕ
 has_ticket Out = 0
 has_ticket (Waiting t) = 1
 has_ticket (Flagged t) = 1
@@ -17,7 +17,7 @@ has_ticket (Holding t) = 1
 has_ticket (Waking t) = 0
 
 -- 1 where its ticket is n, and else 0
-abbrev pub has : ℕ → Turn → ℕ
+abbrev pub has : ℕ → QueuePlace → ℕ
 has n Out = 0
 has n (Waiting t) = if n == t then 1 else 0
 has n (Flagged t) = if n == t then 1 else 0
@@ -27,7 +27,7 @@ has n (Holding t) = if n == t then 1 else 0
 has n (Waking t) = 0
 
 -- 1 where the value is with it, and else 0
-abbrev pub holds : Turn → ℕ
+abbrev pub holds : QueuePlace → ℕ
 holds Out = 0
 holds (Waiting t) = 0
 holds (Flagged t) = 0
@@ -37,7 +37,7 @@ holds (Holding t) = 1
 holds (Waking t) = 0
 
 -- 1 where it may be parked with ticket n, and else 0
-abbrev pub parks : ℕ → Turn → ℕ
+abbrev pub parks : ℕ → QueuePlace → ℕ
 parks n Out = 0
 parks n (Waiting t) = 0
 parks n (Flagged t) = 0
@@ -47,7 +47,7 @@ parks n (Holding t) = 0
 parks n (Waking t) = 0
 
 -- 1 where it has yet to see to the flag of ticket n, and else 0
-abbrev pub wakes : ℕ → Turn → ℕ
+abbrev pub wakes : ℕ → QueuePlace → ℕ
 wakes n Out = 0
 wakes n (Waiting t) = 0
 wakes n (Flagged t) = 0
@@ -57,7 +57,7 @@ wakes n (Holding t) = 0
 wakes n (Waking t) = if n == t then 1 else 0
 
 -- its ticket, or the one that it served, and 0 where there is none
-abbrev pub ticket : Turn → ℕ
+abbrev pub ticket : QueuePlace → ℕ
 ticket Out = 0
 ticket (Waiting t) = t
 ticket (Flagged t) = t
@@ -97,7 +97,7 @@ module _ {O E : Type 0} where
   abbrev pub spent : View O E
   spent = record { turn = Out; origin = None; built = []; own = nothing; told = nothing; given = 0 }
 
-  abbrev pub turned : Turn → View O E → View O E
+  abbrev pub turned : QueuePlace → View O E → View O E
   turned turn v = record v { turn = turn }
 
   abbrev pub saw : List (ℕ × E) → View O E → View O E

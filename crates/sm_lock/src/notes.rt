@@ -1,6 +1,6 @@
 //! Telling another owner of a pass what one has seen.
 ghost use Rattle.std.specs.Prelude.{◌≡◌, [], ◌∷◌};
-ghost use Rattle.sm_lock.specs.declared.view.Turn.TheVariants.{Out};
+ghost use Rattle.sm_lock.specs.declared.view.QueuePlace.TheVariants.{Out};
 ghost use Rattle.sm_lock.specs.Story.{Grows};
 ghost use Rattle.sm_lock.specs.View.{nothing, beside, merged};
 ghost use Rattle.sm_lock.specs.Handles.{number, seen, mine, noted, IsIn, IsNoteOf, IsSeatOf};

@@ -1,6 +1,6 @@
 //! Entering and leaving.
 ghost use Rattle.std.specs.Prelude.{◌≡◌, ◌<◌, ◌⊎◌, ◌^◌, [], ◌∷◌, ◌++◌, length, Some, None};
-ghost use Rattle.sm_lock.specs.declared.view.Turn.TheVariants.{Out, Inside, Holding};
+ghost use Rattle.sm_lock.specs.declared.view.QueuePlace.TheVariants.{Out, Inside, Holding};
 ghost use Rattle.sm_lock.specs.Story.{Grows};
 ghost use Rattle.sm_lock.specs.Standing.{AddsOne};
 ghost use Rattle.sm_lock.specs.View.{turned, saw, ticket as ticket_of};

@@ -2,7 +2,7 @@
 use std::collections::LinkedList;
 
 /// Where a seat stands in the queue. Its ticket never wraps, while the words have it modulo 2^64.
-pub enum Turn {
+pub enum QueuePlace {
     Out,
     Waiting(u64),
     /// It waits, and has raised its ticket's flag.
@@ -25,7 +25,7 @@ pub struct Known<E> {
 
 /// What one seat knows.
 pub struct View<O, E> {
-    pub turn: Turn,
+    pub turn: QueuePlace,
     /// The origin of the value that was built in. A spent view has none.
     pub origin: Option<O>,
     /// The list of the value that was built in.

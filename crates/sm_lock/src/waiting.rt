@@ -10,7 +10,7 @@
 //! A leave that was held up may lower the flag of a later ticket with the same remainder. It wakes who has that one,
 //! which raises the flag again and looks again.
 ghost use Rattle.std.specs.Prelude.{◌≡◌, ◌%◌, ◌^◌};
-ghost use Rattle.sm_lock.specs.declared.view.Turn.TheVariants.{Out, Waiting, Parked, Inside, Waking};
+ghost use Rattle.sm_lock.specs.declared.view.QueuePlace.TheVariants.{Out, Waiting, Parked, Inside, Waking};
 ghost use Rattle.sm_lock.specs.Story.{Grows};
 ghost use Rattle.sm_lock.specs.View.{turned, saw, ticket as ticket_of};
 ghost use Rattle.sm_lock.specs.Rule.{flag_word};

@@ -31,12 +31,12 @@ use Rattle.sm_session.proofs.TurnLemmas.{turn_weaker}
 use Rattle.sm_server.specs.declared.asked.Task.{Task}
 use Rattle.sm_server.specs.declared.asked.Task.TheVariants.{Answer, Practise, Summarize}
 use Rattle.sm_server.specs.Asked.{WordsDecide, PeopleDecide}
-use Rattle.sm_server.specs.Complete.{Steady, NoneFailed, ModelTurn, ModelTurns, AnswersEach, ReadsWhole, Orders, Ran}
+use Rattle.sm_server.specs.Complete.{Steady, NoneFailed, ModelRound, ModelRounds, AnswersEach, ReadsWhole, Orders, Ran}
 use Rattle.sm_server.specs.Outside.{Outside, Trace, growth}
 use Rattle.sm_server.specs.Ran.{Course, AreAnswered, Answers, EndedAt, Ended, Story, course_of, Runs}
 use Rattle.sm_server.specs.Status.{WasOpened}
-use Rattle.sm_server.specs.Turns.{Turn, TurnOf, seat, marked, counts_first, Brought, Turns}
-use Rattle.sm_server.proofs.TurnsLemmas.{counts_last}
+use Rattle.sm_server.specs.MessageRounds.{MessageRound, MessageRoundOf, seat, marked, counts_first, Brought, MessageRounds}
+use Rattle.sm_server.proofs.MessageRoundsLemmas.{counts_last}
 
 -- known bytes in which something was read first
 known_parts : (input : List ℕ) (left : Option (List ℕ)) (bytes : List ℕ) → Some bytes ≡ prepend_known input left
@@ -46,7 +46,7 @@ known_parts input (Some rest) bytes is = (rest, refl, let h : Some bytes ≡ Som
 
 -- no count fell
 grew : (replies : Replies) (people : Persons) (base : Base) (history : History) (messages : List Message)
-    (brought : Brought) → Turns replies people base history messages brought
+    (brought : Brought) → MessageRounds replies people base history messages brought
     → NoneFell (counts_first brought) (counts_last brought)
 grew replies people base history [] brought is =
     subst (λ (b : Brought). NoneFell (counts_first b) (counts_last b)) (sym is)
@@ -64,9 +64,9 @@ steady_within : (from before now to : ℕ) → Steady from to → from ≤ befor
 steady_within from before now to steady first last rose = steady (omega (arith, rose, first, last))
 
 -- a turn in which nothing failed
-model_turn : (replies : Replies) (base : Base) (history : History) (asked : Result Asked Why) (turn : Turn)
-    → TurnOf replies base history asked turn → Steady turn.disk.before turn.disk.after
-    → Steady turn.random.before turn.random.after → ModelTurn replies base history asked turn
+model_turn : (replies : Replies) (base : Base) (history : History) (asked : Result Asked Why) (turn : MessageRound)
+    → MessageRoundOf replies base history asked turn → Steady turn.disk.before turn.disk.after
+    → Steady turn.random.before turn.random.after → ModelRound replies base history asked turn
 model_turn replies base history asked turn t disk random =
     let fell = rotated_fell replies base seat _ t.round _ t.rotated in
     record {
@@ -79,9 +79,9 @@ model_turn replies base history asked turn t disk random =
 
 -- turns in which nothing failed
 model_turns : (replies : Replies) (people : Persons) (base : Base) (history : History) (messages : List Message)
-    (brought : Brought) → Turns replies people base history messages brought
+    (brought : Brought) → MessageRounds replies people base history messages brought
     → Steady brought.disk.before brought.disk.after → Steady brought.random.before brought.random.after
-    → ModelTurns replies people base history messages brought.replies
+    → ModelRounds replies people base history messages brought.replies
 model_turns replies people base history [] brought is disk random = ap (λ (b : Brought). b.replies) is
 model_turns replies people base history (m ∷ messages) brought (turn, others, turned, goes, more, follow, is) disk
     random
@@ -125,7 +125,7 @@ module _ (course : Course) (before after : Outside) (trace : Trace)
   where
     -- the replies to messages that were answered, and something behind them, are the model's
     pub answers_model : (messages : List Message) (a : AreAnswered course messages trace)
-        → ModelTurns course.replies course.people course.base [] messages a.brought.replies
+        → ModelRounds course.replies course.people course.base [] messages a.brought.replies
     answers_model messages a =
         let disk : Steady trace.disk.before trace.disk.after =
         subst (λ (g : Growth). Steady g.before g.after) (sym disk_is) none.disk in
@@ -143,7 +143,7 @@ module _ (course : Course) (before after : Outside) (trace : Trace)
     each_of input messages a more writes first all end are = (
       a.brought.replies,
       more,
-      subst (λ ms. ModelTurns course.replies course.people course.base [] ms a.brought.replies)
+      subst (λ ms. ModelRounds course.replies course.people course.base [] ms a.brought.replies)
           (sym (first all end are))
           (answers_model messages a),
       writes,
@@ -164,8 +164,8 @@ module _ (course : Course) (before after : Outside) (trace : Trace)
     each_none input nothing all end are =
         let none : all ≡ [] = no_messages all end (subst (λ bytes. Messages bytes 0 all end) nothing are) in
         let no : List Answered = [] in
-        let turns : ModelTurns course.replies course.people course.base [] (take message_limit all) no =
-        subst (λ ms. ModelTurns course.replies course.people course.base [] (take message_limit ms) no) (sym none)
+        let turns : ModelRounds course.replies course.people course.base [] (take message_limit all) no =
+        subst (λ ms. ModelRounds course.replies course.people course.base [] (take message_limit ms) no) (sym none)
         refl in
         (no, trace.written, turns, refl)
 

@@ -28,7 +28,7 @@ use Rattle.sm_server.specs.Outside.{Outside, growth, Trace}
 use Rattle.sm_server.specs.Ran.{AreAnswered, Course, Ended, Runs}
 use Rattle.sm_server.specs.Status.{WasOpened}
 use Rattle.sm_http.specs.Reading.{content}
-use Rattle.sm_server.specs.Turns.{Brought, brought_nothing}
+use Rattle.sm_server.specs.MessageRounds.{Brought, brought_nothing}
 use Rattle.sm_server.proofs.RunLemmas.{Later, Step, Turned, brings_more, brought_more, counts_in, passed_by, trace_of}
 
 -- the outside where a reading was told, and only the sink moved

@@ -1,4 +1,4 @@
-pub mod TurnsLemmas
+pub mod MessageRoundsLemmas
 pub mod RunLemmas
 pub mod EndLemmas
 pub mod CompleteLemmas

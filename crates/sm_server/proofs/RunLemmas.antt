@@ -36,8 +36,8 @@ use Rattle.sm_server.specs.Brought.{Brings}
 use Rattle.sm_server.specs.Outside.{Outside, sides_of, growth, Trace, Passed}
 use Rattle.sm_server.specs.Ran.{Course, AreAnswered, passage_of, Ended as RunEnded, Runs}
 use Rattle.sm_server.specs.Status.{status_of, WasOpened}
-use Rattle.sm_server.specs.Turns.{seat, TakesTurns, Turn, TurnOf, Brought, GoesWell, brought_nothing, counts_before}
-use Rattle.sm_server.proofs.TurnsLemmas.{counts_last, turns_more, with_last}
+use Rattle.sm_server.specs.MessageRounds.{seat, TakesMessageRound, MessageRound, MessageRoundOf, Brought, GoesWell, brought_nothing, counts_before}
+use Rattle.sm_server.proofs.MessageRoundsLemmas.{counts_last, turns_more, with_last}
 
 -- what passed between two states of the outside, where this was written and told
 abbrev pub trace_of : Outside → Outside → List ℕ → Told → Trace
@@ -123,7 +123,7 @@ pub record Step : Type 0 where
   pub reply : Answered
 
 -- the turn of a reply, where this was told for it, with these marks
-abbrev pub turn_in : Step → Told → List Mark → Turn
+abbrev pub turn_in : Step → Told → List Mark → MessageRound
 turn_in s told marks = record {
   told = told;
   reply = s.reply;
@@ -144,7 +144,7 @@ standing_in outside history = record {
 
 -- a message's turn
 abbrev pub Turned : Replies → People → Base → Step → Type 0
-Turned replies people base s = TakesTurns replies base (heard people (content s.message))
+Turned replies people base s = TakesMessageRound replies base (heard people (content s.message))
     (standing_in s.now s.history) (standing_in s.after s.history') (growth (λ c. c.disk) s.now s.after)
     (growth (λ c. c.rotator) s.now s.after) s.reply
 
@@ -157,7 +157,7 @@ pub record Later (base : Base) (s : Step) : Type 0 where
 module _ (replies : Replies) (people : People) (base : Base) (before : Outside) (s : Step) (messages : List Message)
     (brought : Brought) (b : Brings replies people base before s.now s.history messages brought)
     (turned : Turned replies people base s) (later : Later base s) where
-  abbrev one : Turn
+  abbrev one : MessageRound
   one = turn_in s turned.told turned.marks
 
   abbrev pub brought_more : Brought
@@ -184,8 +184,8 @@ module _ (replies : Replies) (people : People) (base : Base) (before : Outside) 
       brought_more
   brings_more = record {
     turns = turns_more one replies people base (content s.message) [] messages brought
-        (subst (λ h. TurnOf replies base h (heard people (content s.message)) one) b.stands turned.turn) follows well
-        b.turns;
+        (subst (λ h. MessageRoundOf replies base h (heard people (content s.message)) one) b.stands turned.turn)
+        follows well b.turns;
     disk = ap (λ (g : Growth). record { before = g.before; after = s.after.counts.disk }) b.disk;
     random = ap (λ (g : Growth). record { before = g.before; after = s.after.counts.random }) b.random;
     rotator = ap (λ (g : Growth). record { before = g.before; after = s.after.counts.rotator }) b.rotator;

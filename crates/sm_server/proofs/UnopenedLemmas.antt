@@ -26,7 +26,7 @@ use Rattle.sm_server.specs.Outside.{Outside, Trace}
 use Rattle.sm_server.specs.Ran.{Course, Story, course_of, AreAnswered, EndedAt, Ended, Runs}
 use Rattle.sm_server.specs.Status.{WasFollowed, WasUnderstood}
 use Rattle.sm_server.specs.Stored.{status_unopened, disk_unopened, Leaves, StaysVouched, WantsBy}
-use Rattle.sm_server.specs.Turns.{brought_nothing}
+use Rattle.sm_server.specs.MessageRounds.{brought_nothing}
 use Rattle.sm_server.proofs.StoredLemmas.{none_vouched, nothing_held}
 use Rattle.sm_server.proofs.RunLemmas.{counts_in, trace_of, passed_by}
 

@@ -7,12 +7,12 @@ use Rattle.sm_principal.specs.declared.people.People.{People}
 use Rattle.sm_rotation.specs.Vouched.{Replies}
 use Rattle.sm_seat_traces.specs.SeatTraces.{History}
 use Rattle.sm_server.specs.Outside.{Outside, growth}
-use Rattle.sm_server.specs.Turns.{Brought, Turns}
+use Rattle.sm_server.specs.MessageRounds.{Brought, MessageRounds}
 
 -- what messages brought, from before to now, where the history is this now
 pub record Brings (replies : Replies) (people : People) (base : Base) (before now : Outside) (history : History)
     (messages : List Message) (brought : Brought) : Type 0 where
-  pub turns : Turns replies people base [] messages brought
+  pub turns : MessageRounds replies people base [] messages brought
   pub disk : growth (λ c. c.disk) before now ≡ brought.disk
   pub random : growth (λ c. c.random) before now ≡ brought.random
   pub rotator : growth (λ c. c.rotator) before now ≡ brought.rotator

@@ -25,7 +25,7 @@ use Rattle.sm_server.specs.Asked.{task_of_words, WordsDecide, PeopleDecide}
 use Rattle.sm_server.specs.Outside.{Counts, Outside, Trace}
 use Rattle.sm_server.specs.Ran.{Course, Drills, Story, course_of, Runs}
 use Rattle.sm_server.specs.Status.{WasOpened}
-use Rattle.sm_server.specs.Turns.{Turn, TurnOf, marked}
+use Rattle.sm_server.specs.MessageRounds.{MessageRound, MessageRoundOf, marked}
 
 -- the count did not rise
 abbrev pub Steady : ℕ → ℕ → Type 0
@@ -39,18 +39,18 @@ pub record NoneFailed (before now : Counts) : Type 0 where
   pub random : Steady before.random now.random
 
 -- a turn in whose message neither the disk nor the random source failed: the model's answer, or want of memory
-pub record ModelTurn (replies : Replies) (base : Base) (history : History) (asked : Result Asked Why) (turn : Turn)
-    : Type 0 where
-  pub of : TurnOf replies base history asked turn
+pub record ModelRound (replies : Replies) (base : Base) (history : History) (asked : Result Asked Why)
+    (turn : MessageRound) : Type 0 where
+  pub of : MessageRoundOf replies base history asked turn
   pub model : IsTurn ⊥ ⊥ base history asked of.own
 
 -- the replies to messages whose turns are such, each at the history that those before it made
-abbrev pub ModelTurns : Replies → People → Base → History → List Message → List Answered → Type 0
-ModelTurns may people base history [] replies = replies ≡ []
-ModelTurns may people base history (message ∷ messages) replies =
-    (turn : Turn) × (others : List Answered)
-    × ModelTurn may base history (heard people message) turn
-    × ModelTurns may people base (history ++ marked turn) messages others
+abbrev pub ModelRounds : Replies → People → Base → History → List Message → List Answered → Type 0
+ModelRounds may people base history [] replies = replies ≡ []
+ModelRounds may people base history (message ∷ messages) replies =
+    (turn : MessageRound) × (others : List Answered)
+    × ModelRound may base history (heard people message) turn
+    × ModelRounds may people base (history ++ marked turn) messages others
     × (replies ≡ turn.reply ∷ others)
 
 -- Each of the messages of the bytes that were read, of the first that are answered at most, got the model's reply or
@@ -58,13 +58,13 @@ ModelTurns may people base history (message ∷ messages) replies =
 abbrev pub AnswersEach : Course → List ℕ → List ℕ → Type 0
 AnswersEach course input written = (all : List Message) (end : End) → Messages input 0 all end
     → (replies : List Answered) × (more : List ℕ)
-    × ModelTurns course.replies course.people course.base [] (take message_limit all) replies ×
+    × ModelRounds course.replies course.people course.base [] (take message_limit all) replies ×
     (written ≡ joined replies ++ more)
 
 -- Each of the messages of a number that were answered got the model's reply or the one for want of memory.
 abbrev pub DrillsEach : Course → Status → List ℕ → Trace → Type 0
 DrillsEach course status input trace = (number : ℕ) → (drills : Drills course number status input trace)
-    → ModelTurns course.replies course.people course.base [] (messages_of number drills.count)
+    → ModelRounds course.replies course.people course.base [] (messages_of number drills.count)
     drills.answered.brought.replies
 
 -- a source that holds whole messages, fewer than are answered at most, is read to its end by a run that answers

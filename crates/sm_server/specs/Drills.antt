@@ -21,7 +21,7 @@ use Rattle.sm_server.specs.declared.status.Status.TheVariants.{Memory}
 use Rattle.sm_server.specs.Brought.{Brings}
 use Rattle.sm_server.specs.Checks.{WritesBy}
 use Rattle.sm_server.specs.Outside.{Outside}
-use Rattle.sm_server.specs.Turns.{Brought}
+use Rattle.sm_server.specs.MessageRounds.{Brought}
 
 -- what is counted of the replies to all messages of a drill; for want of memory it ended before one of them
 abbrev pub Counts : Result Drilled NoMemory → ℕ → List Answered → Type 0

@@ -1,6 +1,6 @@
 pub mod Asked
 pub mod Outside
-pub mod Turns
+pub mod MessageRounds
 pub mod Checks
 pub mod Brought
 pub mod Drills

@@ -26,7 +26,7 @@ use Rattle.sm_drill.specs.Messages.{messages_of}
 use Rattle.sm_server.specs.Checks.{ChecksBy}
 use Rattle.sm_server.specs.Drills.{EndsDrill}
 use Rattle.sm_server.specs.Outside.{Outside, Trace, Passed}
-use Rattle.sm_server.specs.Turns.{Brought, Turns}
+use Rattle.sm_server.specs.MessageRounds.{Brought, MessageRounds}
 
 -- what a run does, what its rotator may reply, who may ask, what its account goes on from, over how many entries, and
 -- the history since
@@ -45,7 +45,7 @@ NothingDone history trace = (history ≡ []) × (trace.written ≡ []) × (trace
 -- the messages that were answered, from the first mark on, and what that brought
 pub record AreAnswered (course : Course) (messages : List Message) (trace : Trace) : Type 0 where
   pub brought : Brought
-  pub turns : Turns course.replies course.people course.base [] messages brought
+  pub turns : MessageRounds course.replies course.people course.base [] messages brought
   pub history : course.history ≡ brought.history
   pub told : trace.told ≡ brought.told
   pub disk : Within brought.disk trace.disk

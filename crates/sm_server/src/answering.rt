@@ -12,7 +12,7 @@ ghost use Rattle.sm_server.specs.declared.asked.Task.TheVariants.{Answer};
 ghost use Rattle.sm_server.specs.Outside.{outside_by};
 ghost use Rattle.sm_server.specs.Ran.{Runs};
 ghost use Rattle.sm_server.specs.Status.{status_of};
-ghost use Rattle.sm_server.specs.Turns.{TakesTurns};
+ghost use Rattle.sm_server.specs.MessageRounds.{TakesMessageRound};
 
 use crate::turn::{SEAT, take_turn};
 use sm_account::Account;
@@ -104,7 +104,7 @@ fn answer_message<K: Sink, D: Disk, C: Clock, W: Words, R: Rotator>(
     rotator: &mut R,
 ) -> Sent
     ensures turn { (reply : Answered)
-        × TakesTurns R.replies (base account.old) (heard people.now (content message.now))
+        × TakesMessageRound R.replies (base account.old) (heard people.now (content message.now))
         (standing_by C.Clock W.Words (history account.old) clock.old random.old)
         (standing_by C.Clock W.Words (history account.new) clock.new random.new)
         (record { before = D.faults (disk account.old); after = D.faults (disk account.new) })

@@ -15,7 +15,7 @@ ghost use Rattle.sm_server.specs.Drills.{AnswersMade, Says, totals_after};
 ghost use Rattle.sm_server.specs.Outside.{outside_beside, outside_inside};
 ghost use Rattle.sm_server.specs.Ran.{Runs};
 ghost use Rattle.sm_server.specs.Status.{WasOpened};
-ghost use Rattle.sm_server.specs.Turns.{TakesTurns};
+ghost use Rattle.sm_server.specs.MessageRounds.{TakesMessageRound};
 
 use crate::checking::show;
 use crate::status::Status;
@@ -139,7 +139,7 @@ fn answer_one<D: Disk, C: Clock, W: Words, R: Rotator>(
     random: &mut W,
     rotator: &mut R,
 ) -> Said
-    ensures turn { TakesTurns R.replies (base account.old) (heard people.now (content message.now))
+    ensures turn { TakesMessageRound R.replies (base account.old) (heard people.now (content message.now))
         (standing_by C.Clock W.Words (history account.old) clock.old random.old)
         (standing_by C.Clock W.Words (history account.new) clock.new random.new)
         (record { before = D.faults (disk account.old); after = D.faults (disk account.new) })

@@ -8,7 +8,7 @@ ghost use Rattle.sm_session.specs.Answer.{heard};
 ghost use Rattle.sm_session.specs.Replies.{reply_of};
 ghost use Rattle.sm_session.specs.Sessions.{TakesTurnAlone};
 ghost use Rattle.sm_session.specs.Views.{standing_by};
-ghost use Rattle.sm_server.specs.Turns.{seat};
+ghost use Rattle.sm_server.specs.MessageRounds.{seat};
 
 use sm_account::Account;
 use sm_disk::Disk;

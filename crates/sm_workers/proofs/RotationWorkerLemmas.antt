@@ -12,15 +12,15 @@ use Rattle.sm_session.specs.Sessions.{Place}
 use Rattle.sm_seat_traces.specs.SeatTraces.{SeatTrace}
 use Rattle.sm_seat_traces.proofs.SeatTraceLaws.{traces_join}
 use Rattle.sm_workers.specs.Chains.{Chain}
-use Rattle.sm_workers.specs.RotationWorkers.{ComeToRest, NoneFell, Post, Turn, RotationWorkerDid, WaitsAt, holds_in, passing}
+use Rattle.sm_workers.specs.RotationWorkers.{ComeToRest, NoneFell, Post, RotationTurn, RotationWorkerDid, WaitsAt, holds_in, passing}
 use Rattle.sm_workers.proofs.ChainLemmas.{chain_more, chain_on, joins, waits_at_both, waits_at_still}
 
 module _ (replies : Replies) (place : Place) where
   abbrev Turns : Type 0
-  Turns = List (Turn replies place)
+  Turns = List (RotationTurn replies place)
 
   abbrev Follow : Post → Turns → Post → Type 0
-  Follow = Chain (WaitsAt place.seat) (λ (turn : Turn replies place). turn.from) (λ turn. turn.to)
+  Follow = Chain (WaitsAt place.seat) (λ (turn : RotationTurn replies place). turn.from) (λ turn. turn.to)
 
   -- the holds of turns are one trace
   pub turns_trace : (from to : Post) (turns : Turns) → Follow from turns to
@@ -50,7 +50,7 @@ module _ (replies : Replies) (place : Place) where
       }
 
   -- a turn more comes to rest
-  rests_more : (turns : Turns) (turn : Turn replies place) → ComesToRest turn.done
+  rests_more : (turns : Turns) (turn : RotationTurn replies place) → ComesToRest turn.done
       → ComeToRest replies place (turns ++ turn ∷ [])
   rests_more [] turn rests = rests
   rests_more (first ∷ []) turn rests = rests
@@ -69,18 +69,18 @@ module _ (replies : Replies) (place : Place) where
     pub so_far_waits : (to : Post) → WaitsAt place.seat mid to → SoFar from to
     so_far_waits to waits = record {
       turns = so_far.turns;
-      chain = chain_on (WaitsAt place.seat) (λ (t : Turn replies place). t.from) (λ t. t.to)
+      chain = chain_on (WaitsAt place.seat) (λ (t : RotationTurn replies place). t.from) (λ t. t.to)
           (waits_at_both place.seat) from mid to so_far.turns so_far.chain waits;
     }
 
     module _ (at : Post) (done : Done)
         (turn : TurnDone replies place.base (Grows (place.seat ∷ [])) place.seat (passing mid at) mid.own.seen
         at.own.seen done) (later : NoneFell mid at) (to : Post) (waits : WaitsAt place.seat at to) where
-      abbrev turned : Turn replies place
+      abbrev turned : RotationTurn replies place
       turned = record { from = mid; to = at; done = done; turn = turn; later = later }
 
       longer : Follow from (so_far.turns ++ turned ∷ []) to
-      longer = chain_more (WaitsAt place.seat) (λ (t : Turn replies place). t.from) (λ t. t.to)
+      longer = chain_more (WaitsAt place.seat) (λ (t : RotationTurn replies place). t.from) (λ t. t.to)
           (waits_at_both place.seat) from mid to so_far.turns turned so_far.chain (waits_at_still place.seat mid) waits
 
       -- one turn more, and a waiting

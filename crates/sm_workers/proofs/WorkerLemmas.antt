@@ -17,7 +17,7 @@ use Rattle.sm_workers.specs.declared.worker.Task.{Task}
 use Rattle.sm_workers.specs.declared.worker.Task.TheVariants.{Door, Turner}
 use Rattle.sm_workers.specs.declared.worker.WorkerBy.{WorkerBy}
 use Rattle.sm_workers.specs.Chains.{Waits}
-use Rattle.sm_workers.specs.RotationWorkers.{Turn, WaitsAt, holds_in}
+use Rattle.sm_workers.specs.RotationWorkers.{RotationTurn, WaitsAt, holds_in}
 use Rattle.sm_workers.specs.Views.{Views}
 use Rattle.sm_workers.specs.Visits.{Visit, turns_in}
 use Rattle.sm_workers.specs.Workers.{Did, EndsAs, HasWorked, Works, WorksWithItsPass, marks_by, marks_of, standing_of}
@@ -57,7 +57,7 @@ module _ {E K C W R : Type 0} (views : Views E K C W R) (people : People) (place
   did_later (Turner old) (Turner new) from to later did waits = record {
     turns = did.turns;
     rests = did.rests;
-    chain = chain_on (WaitsAt place.seat) (λ (t : Turn views.replies place). t.from) (λ t. t.to)
+    chain = chain_on (WaitsAt place.seat) (λ (t : RotationTurn views.replies place). t.from) (λ t. t.to)
         (waits_at_both place.seat) (record { own = from; rotator = views.rotator old })
         (record { own = to; rotator = views.rotator new }) (record { own = later; rotator = views.rotator new })
         did.turns did.chain (record { own = waits; rotator = refl });

@@ -37,7 +37,7 @@ pub record NoneFell (from to : Post) : Type 0 where
 
 module _ (replies : Replies) (place : Place) where
   -- a rotation turn of the seat, and what it did, from one post to another
-  pub record Turn : Type 0 where
+  pub record RotationTurn : Type 0 where
     pub from : Post
     pub to : Post
     pub done : Done
@@ -46,19 +46,19 @@ module _ (replies : Replies) (place : Place) where
     pub later : NoneFell from to
 
   -- the holds of turns, one after the other
-  abbrev pub holds_in : List Turn → List Hold
+  abbrev pub holds_in : List RotationTurn → List Hold
   holds_in [] = []
   holds_in (turn ∷ turns) = holds_of turn.turn.course ++ holds_in turns
 
   -- the last turn found nothing to do, or could not go on
-  abbrev pub ComeToRest : List Turn → Type 0
+  abbrev pub ComeToRest : List RotationTurn → Type 0
   ComeToRest [] = ⊥
   ComeToRest (turn ∷ []) = ComesToRest turn.done
   ComeToRest (turn ∷ next ∷ turns) = ComeToRest (next ∷ turns)
 
   -- The turns, one after the other, of which the last came to rest. Their holds are one trace of the seat.
   pub record RotationWorkerDid (from to : Post) : Type 0 where
-    pub turns : List Turn
+    pub turns : List RotationTurn
     pub rests : ComeToRest turns
     pub chain : Chain (WaitsAt place.seat) (λ turn. turn.from) (λ turn. turn.to) from turns to
     pub seat_trace : SeatTrace hold_shape (Grows (place.seat ∷ [])) place.seat (λ hold. ⊤) from.own.seen

@@ -1,4 +1,4 @@
-use Rattle.sm_agent.proofs.TurnLemmas.{replies_are_given}
+use Rattle.sm_agent.proofs.ExchangeLemmas.{replies_are_given}
 use Rattle.sm_agent.proofs.laws.replies_are_given.Goals as goal
 
 pub returns : goal.returns

@@ -1,7 +1,7 @@
 use Rattle.std.proofs.Common.{None, Some, refl, sym, arith}
 use Rattle.sm_agent.specs.Replies.{request_of, given_reply}
 use Rattle.sm_agent.specs.Runs.{Call}
-use Rattle.sm_agent.proofs.TurnLemmas.{answers, refuses}
+use Rattle.sm_agent.proofs.ExchangeLemmas.{answers, refuses}
 use Rattle.sm_agent.proofs.turns.turn.Goals as goal
 
 pub returns-in-Ok : goal.returns-in-Ok

@@ -5,7 +5,7 @@ use Rattle.sm_session.specs.Answer.{heard}
 use Rattle.sm_session.specs.Replies.{reply_of}
 use Rattle.sm_session.specs.Sessions.{Standing}
 use Rattle.sm_session.specs.Views.{standing_by}
-use Rattle.sm_server.proofs.TurnsLemmas.{turns_of}
+use Rattle.sm_server.proofs.MessageRoundsLemmas.{turns_of}
 use Rattle.sm_server.proofs.drilling.answer_one.Goals as goal
 
 pub returns-clause-turn : goal.returns-clause-turn

@@ -9,7 +9,7 @@ use Rattle.sm_session.specs.Told.{told_once}
 use Rattle.sm_session.specs.Views.{standing_by}
 use Rattle.sm_session.proofs.HoldLemmas.{passed_by}
 use Rattle.sm_session.proofs.TurnLemmas.{failed_turn, forgotten_turn, reached_turn}
-use Rattle.sm_server.specs.Turns.{seat}
+use Rattle.sm_server.specs.MessageRounds.{seat}
 use Rattle.sm_server.proofs.turn.draw_and_answer.Goals as goal
 
 pub returns-in-Bytes-clause-turn : goal.returns-in-Bytes-clause-turn

@@ -11,7 +11,7 @@ use Rattle.sm_session.specs.Turns.{IsTurn}
 use Rattle.sm_session.specs.Views.{standing_by}
 use Rattle.sm_session.proofs.HoldLemmas.{passed_by}
 use Rattle.sm_session.proofs.TurnLemmas.{refused_turn, forgotten_turn, untouched}
-use Rattle.sm_server.specs.Turns.{seat}
+use Rattle.sm_server.specs.MessageRounds.{seat}
 use Rattle.sm_server.proofs.turn.take_turn.Goals as goal
 
 pub returns-in-Ask-clause-turn : goal.returns-in-Ask-clause-turn

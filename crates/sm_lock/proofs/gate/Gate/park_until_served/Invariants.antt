@@ -1,5 +1,5 @@
 use Rattle.std.proofs.Common.{◌≡◌, ◌⊎◌}
-use Rattle.sm_lock.specs.declared.view.Turn.TheVariants.{Parked}
+use Rattle.sm_lock.specs.declared.view.QueuePlace.TheVariants.{Parked}
 use Rattle.sm_lock.specs.View.{turned, ticket}
 use Rattle.sm_lock.proofs.gate.Gate.park_until_served.Given as goal
 

@@ -1,6 +1,6 @@
 use Rattle.std.proofs.Common.{rules, ◌+◌, ◌∷◌, [], ap, ◌∙◌, sym, subst, arith, Some}
 use Rattle.atomic_table.specs.Table.{rest}
-use Rattle.sm_lock.specs.declared.view.Turn.TheVariants.{Out, Inside, Waking}
+use Rattle.sm_lock.specs.declared.view.QueuePlace.TheVariants.{Out, Inside, Waking}
 use Rattle.sm_lock.specs.View.{turned, saw, ticket}
 use Rattle.sm_lock.specs.Standing.{AddsOne}
 use Rattle.sm_lock.proofs.SlotSteps.{raises, returns_value}

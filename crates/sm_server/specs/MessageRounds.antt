@@ -26,7 +26,7 @@ seat = 1
 
 -- What one message brought, with the rotation turns behind it: what was told, its reply, the marks, and how the counts
 -- of the disk, of the random source and of the rotator grew.
-pub record Turn : Type 0 where
+pub record MessageRound : Type 0 where
   pub told : Told
   pub reply : Answered
   pub marks : List Mark
@@ -35,15 +35,15 @@ pub record Turn : Type 0 where
   pub rotator : Growth
 
 -- the marks of a turn beside the seat
-abbrev pub marked : Turn → History
+abbrev pub marked : MessageRound → History
 marked turn = by_seat seat turn.marks
 
 -- the counts before a turn and after it
-abbrev pub counts_before : Turn → Counts
+abbrev pub counts_before : MessageRound → Counts
 counts_before turn =
     record { disk = turn.disk.before; words = turn.random.before; rotator = turn.rotator.before }
 
-abbrev pub counts_after : Turn → Counts
+abbrev pub counts_after : MessageRound → Counts
 counts_after turn = record { disk = turn.disk.after; words = turn.random.after; rotator = turn.rotator.after }
 
 -- what was told for the rotation turns
@@ -52,8 +52,8 @@ told_for round = record { readings = readings_in (courses_in round); drawn = dra
 
 -- The turn of a message that asks for this, or is refused so: its own part, at this history, and then rotation turns.
 -- Each fault comes only where its count rose.
-pub record TurnOf (replies : Replies) (base : Base) (history : History) (asked : Result Asked Why) (turn : Turn)
-    : Type 0 where
+pub record MessageRoundOf (replies : Replies) (base : Base) (history : History) (asked : Result Asked Why)
+    (turn : MessageRound) : Type 0 where
   pub own : sessions.Turn
   pub between : Counts
   pub answered : sessions.IsTurn (Rose turn.disk.before between.disk) (Rose turn.random.before between.words) base
@@ -69,13 +69,13 @@ pub record TurnOf (replies : Replies) (base : Base) (history : History) (asked :
 
 -- A message's turn by an account's only caller and the rotation turns behind it, from one standing to another, and how
 -- the counts of the disk and of the rotator grew.
-pub record TakesTurns (replies : Replies) (base : Base) (asked : Result Asked Why) (old new : Standing)
+pub record TakesMessageRound (replies : Replies) (base : Base) (asked : Result Asked Why) (old new : Standing)
     (disk rotator : Growth) (reply : Answered) : Type 0 where
   pub told : Told
   pub marks : List Mark
   pub readings : new.readings ≡ append_known old.readings told.readings
   pub drawn : new.drawn ≡ append_known old.drawn told.drawn
-  pub turn : TurnOf replies base old.seen asked (record {
+  pub turn : MessageRoundOf replies base old.seen asked (record {
     told = told;
     reply = reply;
     marks = marks;
@@ -99,7 +99,7 @@ abbrev pub growth_both : Growth → Growth → Growth
 growth_both a b = record { before = a.before; after = b.after }
 
 -- what a turn and the messages after it brought
-abbrev pub with_others : Turn → Brought → Brought
+abbrev pub with_others : MessageRound → Brought → Brought
 with_others turn others = record {
   told = told_both turn.told others.told;
   replies = turn.reply ∷ others.replies;
@@ -124,7 +124,7 @@ brought_nothing counts = record {
 }
 
 -- no count fell in a turn, and the rows that its marks make are sound
-pub record GoesWell (base : Base) (history : History) (turn : Turn) : Type 0 where
+pub record GoesWell (base : Base) (history : History) (turn : MessageRound) : Type 0 where
   pub fell : NoneFell (counts_before turn) (counts_after turn)
   pub sound : Sound (replay base.rows (entries_in (history ++ marked turn)))
 
@@ -135,12 +135,12 @@ counts_first brought =
 
 -- The messages one after the other, each at the history that those before it made, of these people, and with these
 -- replies of the rotator.
-abbrev pub Turns : Replies → People → Base → History → List Message → Brought → Type 0
-Turns replies people base history [] brought = brought ≡ brought_nothing (counts_first brought)
-Turns replies people base history (message ∷ messages) brought =
-    (turn : Turn) × (others : Brought)
-    × TurnOf replies base history (heard people message) turn
+abbrev pub MessageRounds : Replies → People → Base → History → List Message → Brought → Type 0
+MessageRounds replies people base history [] brought = brought ≡ brought_nothing (counts_first brought)
+MessageRounds replies people base history (message ∷ messages) brought =
+    (turn : MessageRound) × (others : Brought)
+    × MessageRoundOf replies base history (heard people message) turn
     × GoesWell base history turn
-    × Turns replies people base (history ++ marked turn) messages others
+    × MessageRounds replies people base (history ++ marked turn) messages others
     × (counts_after turn ≡ counts_first others)
     × (brought ≡ with_others turn others)

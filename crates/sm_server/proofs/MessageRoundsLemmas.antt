@@ -18,10 +18,10 @@ use Rattle.sm_session.specs.Answer.{Asked, heard}
 use Rattle.sm_session.specs.Sessions.{Standing, TakesTurnAlone}
 use Rattle.sm_session.specs.Told.{Told, nothing_told, told_both}
 use Rattle.sm_session.specs.Turns as sessions
-use Rattle.sm_server.specs.Turns.{seat, TakesTurns, Turn, TurnOf, marked, told_for, counts_before, counts_after, counts_first, Brought, growth_both, with_others, brought_nothing, GoesWell, Turns}
+use Rattle.sm_server.specs.MessageRounds.{seat, TakesMessageRound, MessageRound, MessageRoundOf, marked, told_for, counts_before, counts_after, counts_first, Brought, growth_both, with_others, brought_nothing, GoesWell, MessageRounds}
 
 -- what some messages and a turn after them brought
-abbrev pub with_last : Brought → Turn → Brought
+abbrev pub with_last : Brought → MessageRound → Brought
 with_last brought turn = record {
   told = told_both brought.told turn.told;
   replies = brought.replies ++ turn.reply ∷ [];
@@ -47,7 +47,7 @@ told_nothing a =
     let of : List ℕ → List ℕ → Told = λ readings drawn. record { readings = readings; drawn = drawn } in
     ap (λ r. of r (a.drawn ++ [])) (append-nil a.readings) ∙ ap (of a.readings) (append-nil a.drawn)
 
-module _ (turn : Turn) where
+module _ (turn : MessageRound) where
   -- the turn behind nothing
   abbrev alone_with : Told → List (ℕ × Mark) → Brought
   alone_with told history = record {
@@ -66,7 +66,7 @@ module _ (turn : Turn) where
       ∙ ap (λ told. alone_with told (marked turn)) (sym (told_nothing turn.told))
       ∙ ap (alone_with (told_both turn.told nothing_told)) (sym (append-nil (marked turn)))
 
-  behind : (first : Turn) (others : Brought) → with_last (with_others first others) turn
+  behind : (first : MessageRound) (others : Brought) → with_last (with_others first others) turn
       ≡ with_others first (with_last others turn)
   behind first others =
       let of : Told → List (ℕ × Mark) → Brought
@@ -86,18 +86,18 @@ module _ (turn : Turn) where
   module _ (replies : Replies) (people : People) (base : Base) (m : Message) where
     -- one turn more
     pub turns_more : (history : List (ℕ × Mark)) (messages : List Message) (brought : Brought)
-        → TurnOf replies base (history ++ brought.history) (heard people m) turn
+        → MessageRoundOf replies base (history ++ brought.history) (heard people m) turn
         → counts_last brought ≡ counts_before turn
         → GoesWell base (history ++ brought.history) turn
-        → Turns replies people base history messages brought
-        → Turns replies people base history (messages ++ m ∷ []) (with_last brought turn)
+        → MessageRounds replies people base history messages brought
+        → MessageRounds replies people base history (messages ++ m ∷ []) (with_last brought turn)
     turns_more history [] brought turned next well is =
         let nil : history ++ brought.history ≡ history =
         ap (λ (b : Brought). history ++ b.history) is ∙ append-nil history in
         let same : counts_first brought ≡ counts_before turn = sym (ap counts_last is) ∙ next in (
           turn,
           brought_nothing (counts_after turn),
-          subst (λ h. TurnOf replies base h (heard people m) turn) nil turned,
+          subst (λ h. MessageRoundOf replies base h (heard people m) turn) nil turned,
           subst (λ h. GoesWell base h turn) nil well,
           refl,
           refl,
@@ -111,7 +111,7 @@ module _ (turn : Turn) where
           turned_first,
           goes,
           turns_more (history ++ marked first) messages others
-              (subst (λ h. TurnOf replies base h (heard people m) turn) same turned)
+              (subst (λ h. MessageRoundOf replies base h (heard people m) turn) same turned)
               (sym (ap counts_last is) ∙ next)
               (subst (λ h. GoesWell base h turn) same well) more,
           follows,
@@ -141,7 +141,7 @@ module _ (replies : Replies) (base : Base) (asked : Result Asked Why) (old mid :
       → new.drawn ≡ append_known mid.drawn (drawn_in (courses_in round))
       → Rotated replies base' seat (record { history = mid.seen; counts = between }) round
       (record { history = new.seen; counts = record { disk = disk''; words = new.random; rotator = rotator' } })
-      → TakesTurns replies base asked old new (record { before = disk; after = disk'' })
+      → TakesMessageRound replies base asked old new (record { before = disk; after = disk'' })
       (record { before = rotator; after = rotator' }) reply
   turns_of new disk'' rotator' round base' same later readings drawn turns =
       let own_history : History = old.seen ++ by_seat seat t.marks in

@@ -66,17 +66,17 @@ pub record Passes (call : Option Call) (told told' : Option (List Told)) (readin
 -- ---- requests, one after the other
 
 -- a request and what came of it
-pub record Turn : Type 0 where
+pub record Exchange : Type 0 where
   pub method : List ℕ
   pub path : List ℕ
   pub call : Option Call
   pub answer : Option Answer
 
 -- each turn follows the one before it
-abbrev pub Turns : AgentState → List Turn → AgentState → Type 0
-Turns old [] new = new ≡ old
-Turns old (turn ∷ turns) new = (next : AgentState) × Came turn.method turn.path turn.call turn.answer old next
-    × Turns next turns new
+abbrev pub Exchanges : AgentState → List Exchange → AgentState → Type 0
+Exchanges old [] new = new ≡ old
+Exchanges old (turn ∷ turns) new = (next : AgentState) × Came turn.method turn.path turn.call turn.answer old next
+    × Exchanges next turns new
 
 -- with the call of a turn, where it has one, in front
 abbrev pub call_first : Option Call → List Call → List Call
@@ -84,7 +84,7 @@ call_first None calls = calls
 call_first (Some call) calls = call ∷ calls
 
 -- the calls of turns
-abbrev pub calls_of : List Turn → List Call
+abbrev pub calls_of : List Exchange → List Call
 calls_of [] = []
 calls_of (turn ∷ turns) = call_first turn.call (calls_of turns)
 
@@ -110,6 +110,6 @@ pub record WasFault (call : Call) (answer : Answer) : Type 0 where
 
 -- in any run of requests since the agent was built, each reply to a question is one of the three
 abbrev pub RepliesAreGiven : Type 0
-RepliesAreGiven = (size ttl : ℕ) (turns : List Turn) (old new : AgentState) (method path : List ℕ) (call : Call)
-    (answer : Answer) → Turns (empty_agent size ttl) turns old → Came method path (Some call) (Some answer) old new
+RepliesAreGiven = (size ttl : ℕ) (turns : List Exchange) (old new : AgentState) (method path : List ℕ) (call : Call)
+    (answer : Answer) → Exchanges (empty_agent size ttl) turns old → Came method path (Some call) (Some answer) old new
     → WasKept ttl (calls_of turns) call answer ⊎ (WasGiven call answer ⊎ WasFault call answer)

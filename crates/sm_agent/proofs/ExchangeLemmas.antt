@@ -13,7 +13,7 @@ use Rattle.sm_agent.specs.Agents.{AgentState, empty_agent, HasStatus}
 use Rattle.sm_agent.specs.Queries.{read_told}
 use Rattle.sm_agent.specs.Replies.{reply, upstream_fault, refused_reply, given_reply}
 use Rattle.sm_agent.specs.Runs.{Call, Run}
-use Rattle.sm_agent.specs.Turns.{reply_by, IsReply, GoesBy, Turn, Turns, call_first, calls_of, WasKept, WasGiven, WasFault, RepliesAreGiven}
+use Rattle.sm_agent.specs.Exchanges.{reply_by, IsReply, GoesBy, Exchange, Exchanges, call_first, calls_of, WasKept, WasGiven, WasFault, RepliesAreGiven}
 use Rattle.sm_agent.proofs.RunLemmas.{kept_was_asked}
 
 -- the reply to a call, where there was memory
@@ -36,7 +36,7 @@ refuses asked refused.Memory (Err e) is h = tt
 -- ---- runs
 
 -- the calls of turns are a run
-goes_on : (old : AgentState) (turns : List Turn) (new : AgentState) → Turns old turns new
+goes_on : (old : AgentState) (turns : List Exchange) (new : AgentState) → Exchanges old turns new
     → Run old (calls_of turns) new
 goes_on old [] new h = h
 goes_on old (turn ∷ turns) new h = by turn.call h.1.goes (goes_on h.0 turns new h.2)
