@@ -7,10 +7,10 @@ use Rattle.sm_model.specs.declared.entry.Mark.TheVariants.{Claim}
 use Rattle.sm_model.specs.declared.rows.Job.{Job}
 use Rattle.sm_model.specs.declared.rows.Rows.{Rows}
 use Rattle.sm_model.specs.declared.rows.SecretRow.{SecretRow}
-use Rattle.sm_claims.specs.declared.claims.Claim.{Claim as standing}
+use Rattle.sm_claims.specs.declared.claims.Claim.{Claim as live}
 use Rattle.sm_claims.specs.Ready.{first_ready}
-use Rattle.sm_claims.specs.Standing.{claim_mark, claim_marks, standing_with}
-use Rattle.sm_claims.proofs.StandingLemmas.{ready_alike}
+use Rattle.sm_claims.specs.LiveClaims.{claim_mark, claim_marks, live_claims_with}
+use Rattle.sm_claims.proofs.LiveClaimLemmas.{ready_alike}
 use Rattle.sm_claims.specs.Works.{AreWorkOf, IsWorkOf, IsWorkOfJob}
 use Rattle.sm_rotation.specs.Step.{at_of}
 use Rattle.sm_rotator.specs.declared.work.Work.{Work}
@@ -64,7 +64,7 @@ none_is found ready none are = of found (subst (AreWorkOf found) none are)
 
 -- what is ready by the claims that stand is ready by the history
 pub ready_same : {D : Type 0} {G : Ghosts D} (inner : AccountState D G) (kept : Kept G inner) (moment : Moment)
-    (claims : List standing) → claims ≡ inner.claims.items → inner.last.0 ≤ moment.0
+    (claims : List live) → claims ≡ inner.claims.items → inner.last.0 ≤ moment.0
     → first_ready (claim_marks claims) moment inner.table.secrets
     ≡ first_ready (history_in inner) moment inner.table.secrets
 ready_same inner kept moment claims are later =
@@ -77,7 +77,7 @@ module _ {D : Type 0} {G : Ghosts D} (old new : AccountState D G) (seat : ℕ) (
     (history : history_in new ≡ history_in old ++ (seat, Claim work.arn work.at moment) ∷ [])
     (counted : new.marks ≡ old.marks + 1)
     (added : new.claims.items
-    ≡ standing_with old.claims.items (claim_by work moment) old.last)
+    ≡ live_claims_with old.claims.items (claim_by work moment) old.last)
     (kept : Kept G old)
     (ready : IsSomeAnd (first_ready (history_in old) moment old.table.secrets) (λ row. IsWorkOf row work)) where
   all_is : all_held (record old { claims = new.claims; told = new.told; marks = new.marks }) ≡ all_held old

@@ -31,14 +31,14 @@ use Rattle.sm_account.specs.States.{base_of, state_after, state_at}
 -- what each part of the account's state is made of
 pub record AreOver {D : Type 0} {G : Ghosts D} (opened : Opened D G) (limit : ℕ) (inner : AccountState D G) : Type
     0 where
-  pub table : inner.table ≡ opened.standing.rows
+  pub table : inner.table ≡ opened.replayed.rows
   pub store_is : inner.store ≡ opened.store
   pub based : inner.base ≡ base_under opened.taken.base
   pub entries_are : inner.entries.items ≡ opened.taken.entries
   pub claims_are : inner.claims.items ≡ []
   pub history_is : history_in inner ≡ []
   pub marks : inner.marks ≡ 0
-  pub last : inner.last ≡ opened.standing.last
+  pub last : inner.last ≡ opened.replayed.last
   pub made : inner.made ≡ 0
   pub limit_is : inner.limit ≡ limit
   pub taken_is : inner.taken.value ≡ opened.taken
@@ -47,9 +47,9 @@ pub record AreOver {D : Type 0} {G : Ghosts D} (opened : Opened D G) (limit : �
 module _ {D : Type 0} {G : Ghosts D} (opened : Opened D G) (limit : ℕ)
     (store : stores.IsOpened limit opened.taken opened.store)
     (second : stores.format_of opened.store ≡ formats.Second)
-    (lawful : IsLawful opened.taken) (standing : opened.standing ≡ made_of opened.taken) (inner : AccountState D G)
+    (lawful : IsLawful opened.taken) (replayed : opened.replayed ≡ made_of opened.taken) (inner : AccountState D G)
     (limits : (9 ≤ limit) × (limit ≤ JOURNAL_LIMIT)) (is : AreOver opened limit inner)
-    (sound : IsSound opened.standing)
+    (sound : IsSound opened.replayed)
     (later : G.faults inner.began.value ≤ G.faults (stores.disk_of opened.store)) where
   -- nothing stands behind it yet
   all_is : all_held inner ≡ opened.taken
@@ -63,8 +63,8 @@ module _ {D : Type 0} {G : Ghosts D} (opened : Opened D G) (limit : ℕ)
 
   state_is : state_in inner ≡ state_at (base_in inner) (history_in inner)
   state_is =
-      let rows = is.table ∙ ap (λ (b : Base). b.rows) standing in
-      let last = is.last ∙ ap (λ (b : Base). b.last) standing in
+      let rows = is.table ∙ ap (λ (b : Base). b.rows) replayed in
+      let last = is.last ∙ ap (λ (b : Base). b.last) replayed in
       let before = ap (λ (t : Held). (made_of t).entries) is.taken_is in
       let bytes : stores.length_of inner.store ≡ 9 + size (bodies_in (edition_of formats.Second) opened.taken) + 0 =
       omega (arith, ap (λ (s : BaseStore D G). stores.length_of s) is.store_is, length_is) in

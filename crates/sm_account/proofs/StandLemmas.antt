@@ -7,8 +7,8 @@ use Rattle.sm_model.specs.declared.entry.Mark.{Mark}
 use Rattle.sm_model.specs.declared.entry.Mark.TheVariants.{Entry, Fault}
 use Rattle.sm_claims.specs.declared.claims.Claim.{Claim}
 use Rattle.sm_claims.specs.Claims.{is_claim_of, is_claimed}
-use Rattle.sm_claims.specs.Standing.{claim_mark, standing_with}
-use Rattle.sm_claims.proofs.StandingLemmas.{claimed_more, stands_with}
+use Rattle.sm_claims.specs.LiveClaims.{claim_mark, live_claims_with}
+use Rattle.sm_claims.proofs.LiveClaimLemmas.{claimed_more, stands_with}
 use Rattle.sm_account.specs.Claims.{ClaimsStand}
 
 -- one mark more is counted
@@ -32,7 +32,7 @@ module _ (history : List (ℕ × Mark)) (claims : List Claim) (from : Moment) (s
       ∙ stand arn job moment after
 
   pub stand_claimed : (claim : Claim)
-      → ClaimsStand (history ++ (seat, claim_mark claim) ∷ []) (standing_with claims claim from) from
+      → ClaimsStand (history ++ (seat, claim_mark claim) ∷ []) (live_claims_with claims claim from) from
   stand_claimed claim = λ arn job moment after.
       claimed_more history seat (claim_mark claim) arn job moment
       ∙ ap (λ b. b || is_claim_of (claim_mark claim) arn job moment) (stand arn job moment after)

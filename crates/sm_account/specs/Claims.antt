@@ -9,7 +9,7 @@ use Rattle.sm_model.specs.declared.rows.Job.{Job}
 use Rattle.sm_model.specs.declared.rows.SecretRow.{SecretRow}
 use Rattle.sm_claims.specs.Claims.{is_claimed}
 use Rattle.sm_claims.specs.Ready.{first_ready}
-use Rattle.sm_claims.specs.Standing.{claim_marks}
+use Rattle.sm_claims.specs.LiveClaims.{claim_marks}
 use Rattle.sm_claims.specs.declared.claims.Claim.{Claim as claims}
 use Rattle.sm_core.specs.Histories.{replay}
 use Rattle.sm_rotation.specs.Step.{at_of}
@@ -41,5 +41,5 @@ ClaimsReady base history = ClaimsReadyBehind base [] history
 
 -- from the moment on, the history has a claim of a step that has not ended exactly where one of these claims is such
 abbrev pub ClaimsStand : List (ℕ × Mark) → List claims → Moment → Type 0
-ClaimsStand history standing from = (arn : List ℕ) (job : Job) (moment : Moment) → from.0 ≤ moment.0
-    → is_claimed history arn job moment ≡ is_claimed (claim_marks standing) arn job moment
+ClaimsStand history live from = (arn : List ℕ) (job : Job) (moment : Moment) → from.0 ≤ moment.0
+    → is_claimed history arn job moment ≡ is_claimed (claim_marks live) arn job moment

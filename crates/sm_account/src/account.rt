@@ -167,7 +167,7 @@ impl<D: Disk, R: Rotator> Account<D, R> {
     }
 
     /// What always holds of an account. It takes no memory, and does nothing.
-    pub fn standing(&self)
+    pub fn invariants(&self)
         // Each image of the disk recovers to what was taken at the opening and all entries since, or while the tail is
         // unsure to these, or to these and the entry whose write failed last. Both are lawful: the base is sound, and
         // each entry is legal where it stands.

@@ -2,7 +2,7 @@
 ghost use Rattle.std.specs.Prelude.{◌≡◌, ◌≤◌, ◌+◌, ◌++◌, ◌∷◌, [], IsSomeAnd, IfOk, OnOk, OnErr};
 ghost use Rattle.sm_base.specs.declared.moment.TheConstants.{LAST_READING};
 ghost use Rattle.sm_claims.specs.Ready.{first_ready};
-ghost use Rattle.sm_claims.specs.Standing.{standing_with};
+ghost use Rattle.sm_claims.specs.LiveClaims.{live_claims_with};
 ghost use Rattle.sm_claims.specs.Works.{IsWorkOf};
 ghost use Rattle.sm_core.specs.Histories.{later};
 ghost use Rattle.sm_model.specs.declared.entry.Mark.TheVariants as mark;
@@ -74,7 +74,7 @@ fn claim<D: Disk>(
         ≡ history_in inner.old ++ (seat, mark.Claim work.now.arn work.now.at moment) ∷ []) }
     ensures counted { OnOk result (inner.new.marks ≡ inner.old.marks + 1) }
     ensures added { OnOk result (inner.new.claims.items
-        ≡ standing_with inner.old.claims.items (claim_by work.now moment) inner.old.last) }
+        ≡ live_claims_with inner.old.claims.items (claim_by work.now moment) inner.old.last) }
     ensures same { OnErr result (SameButRoom inner.old inner.new) }
     ensures rest { inner.new ≡ record inner.old {
       claims = inner.new.claims;

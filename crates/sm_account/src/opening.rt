@@ -53,7 +53,7 @@ fn account_state_over<D: Disk>(alloc: Global, opened: Opened<D>, began: Snapshot
     requires store { stores.IsOpened limit opened.taken opened.store }
     requires second { stores.format_of opened.store ≡ formats.Second }
     requires lawful { IsLawful opened.taken }
-    requires standing { opened.standing ≡ made_of opened.taken }
+    requires replayed { opened.replayed ≡ made_of opened.taken }
     requires limits { (9 ≤ limit) × (limit ≤ JOURNAL_LIMIT) }
     requires later { D.faults began.value ≤ D.faults (stores.disk_of opened.store) }
     ensures { IsAccountStateOver D.Disk opened began.value limit result }
@@ -61,10 +61,10 @@ fn account_state_over<D: Disk>(alloc: Global, opened: Opened<D>, began: Snapshot
     let Opened {
         store,
         taken,
-        standing,
+        replayed,
         ..
     } = opened;
-    let (table, last, _) = standing.into_parts();
+    let (table, last, _) = replayed.into_parts();
     let found = Snapshot::of(&taken);
     let Taken { base, entries } = taken;
     AccountState {

@@ -3,7 +3,7 @@ ghost use Rattle.std.specs.Prelude.{◌≡◌, ◌++◌, ◌∷◌, [], List, �
 ghost use Rattle.std.specs.Borrow.{ftrue};
 ghost use Rattle.sm_model.specs.declared.entry.Mark.{Mark};
 ghost use Rattle.sm_model.specs.declared.entry.Mark.TheVariants as mark;
-ghost use Rattle.sm_claims.specs.Standing.{claim_mark};
+ghost use Rattle.sm_claims.specs.LiveClaims.{claim_mark};
 
 use sm_claims::Claim;
 use sm_model::Entry;

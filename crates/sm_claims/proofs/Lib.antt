@@ -1,5 +1,5 @@
 pub mod PlaceLemmas
-pub mod StandingLemmas
+pub mod LiveClaimLemmas
 pub mod ReadyLemmas
 pub mod DueLemmas
 pub mod WorkLemmas

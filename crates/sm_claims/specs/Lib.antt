@@ -1,5 +1,5 @@
 pub mod Claims
-pub mod Standing
+pub mod LiveClaims
 pub mod Ready
 pub mod Works
 pub mod Due

@@ -3,7 +3,7 @@ ghost use Rattle.std.specs.Prelude.{◌≡◌, ◌<◌};
 ghost use Rattle.std.specs.List.{list_any};
 ghost use Rattle.sm_base.specs.Texts.{same_text};
 ghost use Rattle.sm_claims.specs.Claims.{is_open, is_claim_of, is_claimed};
-ghost use Rattle.sm_claims.specs.Standing.{claim_mark, claim_marks};
+ghost use Rattle.sm_claims.specs.LiveClaims.{claim_mark, claim_marks};
 ghost use Rattle.sm_claims.specs.declared.claims.TheConstants.{CLAIM_SECONDS};
 ghost use Rattle.sm_rotator.specs.declared.link.TheConstants.{STEP_SECONDS};
 
@@ -57,7 +57,7 @@ fn has_claim_of(claims: &[Claim], arn: &Arn, job: &Job, moment: Moment) -> bool
 }
 
 /// Whether one of the claims is of the step that the job of the secret with this ARN is at, and has not ended.
-#[tactic(auto, using(crate::proofs::StandingLemmas::any_marks))]
+#[tactic(auto, using(crate::proofs::LiveClaimLemmas::any_marks))]
 pub fn is_claimed(claims: &[Claim], arn: &Arn, job: &Job, moment: Moment) -> bool
     ensures { result ≡ is_claimed (claim_marks claims.now) arn.now job.now moment }
 {

@@ -4,7 +4,7 @@ ghost use Rattle.sm_table.specs.Changes.{row_with};
 ghost use Rattle.sm_table.specs.Sound.{Sound};
 ghost use Rattle.sm_versions.specs.Sound.{RowSound};
 ghost use Rattle.sm_claims.specs.Ready.{is_ready, is_ready_job, ready_of, first_ready, first_ready_of};
-ghost use Rattle.sm_claims.specs.Standing.{claim_marks};
+ghost use Rattle.sm_claims.specs.LiveClaims.{claim_marks};
 ghost use Rattle.sm_claims.specs.Works.{AreWorkOf};
 
 use crate::claims::{Claim, is_claimed};

@@ -43,7 +43,7 @@ use Rattle.sm_drive.specs.Going.{Came, HasCome, IsFresh}
 use Rattle.sm_drive.specs.Openings.{Begins, Tells, beginning}
 use Rattle.sm_drive.specs.Refused.{IsRefusedAt, IsStopped, StopsBehind}
 use Rattle.sm_drive.specs.Runs.{Runs}
-use Rattle.sm_drive.specs.Standing.{Stands}
+use Rattle.sm_drive.specs.RunInvariant.{Stands}
 use Rattle.sm_drive.specs.Stands.{Stand, all_at, base_at, stand_of}
 use Rattle.sm_drive.specs.Stepping.{Calls, Counts, stand_in}
 use Rattle.sm_drive.specs.declared.call.Call.{Call}

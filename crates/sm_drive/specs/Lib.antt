@@ -6,7 +6,7 @@ pub mod Steps
 pub mod Runs
 pub mod Openings
 pub mod Working
-pub mod Standing
+pub mod RunInvariant
 pub mod Stepping
 pub mod Refused
 pub mod Drives

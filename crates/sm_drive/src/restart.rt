@@ -30,7 +30,7 @@ pub fn restart<D: Disk, R: Rotator>(
         verdicts,
         first,
     } = run;
-    account.standing();
+    account.invariants();
     match Account::open(alloc, account.close(), 1, JOURNAL_LIMIT) {
         Ok(account) => Ok(Run {
             account,

@@ -14,13 +14,13 @@ pub struct Run<D: Disk, R: Rotator> {
 }
 
 impl<D: Disk, R: Rotator> Run<D, R> {
-    ghost use Rattle.sm_drive.specs.Standing.{Stands};
+    ghost use Rattle.sm_drive.specs.RunInvariant.{Stands};
 
     /// What always holds of its account. It takes no memory, and does nothing.
     pub fn stand(&self)
         ensures { Stands D.Disk R.Rotator self.now }
     {
-        self.account.standing();
+        self.account.invariants();
     }
 }
 

@@ -2,7 +2,7 @@
 ghost use Rattle.std.specs.Prelude.{◌≡◌, ◌≤◌, IfOk, IfErr};
 ghost use Rattle.sm_drive.specs.Asked.{MayBeMade};
 ghost use Rattle.sm_drive.specs.Refused.{IsRefusedAt};
-ghost use Rattle.sm_drive.specs.Standing.{Stands};
+ghost use Rattle.sm_drive.specs.RunInvariant.{Stands};
 ghost use Rattle.sm_drive.specs.Stepping.{Calls};
 
 use crate::call::Call;
@@ -37,32 +37,32 @@ pub fn step<D: Disk, R: Rotator>(
         Call::Handle(person, now, drawn, request) => {
             let mut run = run;
             let outcome = handle(&mut run, person, *now, drawn.as_slice(), request);
-            Ok(standing(run, outcome))
+            Ok(with_invariants(run, outcome))
         }
         Call::Work(now) => {
             let mut run = run;
             let outcome = work(&mut run, rotator, *now);
-            Ok(standing(run, outcome))
+            Ok(with_invariants(run, outcome))
         }
         Call::Report(place, now) => {
             let mut run = run;
             let outcome = report(&mut run, *place, *now);
-            Ok(standing(run, outcome))
+            Ok(with_invariants(run, outcome))
         }
         Call::Due(now, drawn) => {
             let mut run = run;
             let outcome = start_due(&mut run, *now, drawn);
-            Ok(standing(run, outcome))
+            Ok(with_invariants(run, outcome))
         }
         Call::Restart => match restart(alloc, run) {
-            Ok(run) => Ok(standing(run, Outcome::Reopened)),
+            Ok(run) => Ok(with_invariants(run, Outcome::Reopened)),
             Err(refused) => Err(refused),
         },
     }
 }
 
 /// The run with an outcome, and what always holds of it.
-fn standing<D: Disk, R: Rotator>(run: Run<D, R>, outcome: Outcome) -> (Run<D, R>, Outcome)
+fn with_invariants<D: Disk, R: Rotator>(run: Run<D, R>, outcome: Outcome) -> (Run<D, R>, Outcome)
     ensures same { result ≡ (run, outcome) }
     ensures stands { Stands D.Disk R.Rotator result.0 }
 {

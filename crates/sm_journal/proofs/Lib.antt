@@ -3,6 +3,6 @@ pub mod Tears
 pub mod Settings
 pub mod Readings
 pub mod PlaceRuns
-pub mod Standing
+pub mod StandsLemmas
 pub mod OpeningRuns
 pub mod OneProof

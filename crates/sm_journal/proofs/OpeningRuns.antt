@@ -11,7 +11,7 @@ use Rattle.sm_journal.specs.Openings.{Equal, Untouched, ReadsAs, FailsFrom, IsRe
 use Rattle.sm_journal.specs.declared.format.Format.{Format}
 use Rattle.sm_journal.specs.declared.answers.OpenRefused.{OpenRefused}
 use Rattle.sm_journal.specs.declared.answers.OpenRefused.TheVariants.{Damaged, Failed, Memory}
-use Rattle.sm_journal.proofs.Standing.{keeps_list}
+use Rattle.sm_journal.proofs.StandsLemmas.{keeps_list}
 
 -- a file that is made new has no records before and afterwards
 pub short_run : (file : ℕ) (bytes : List ℕ) (old now : Sight) → length bytes ≤ 9

@@ -14,7 +14,7 @@ use Rattle.sm_lock.specs.declared.view.View.{View}
 use Rattle.sm_lock.specs.Story.{times, made_by, Grows}
 use Rattle.sm_lock.specs.View.{has_ticket, has, holds, parks, wakes, ticket, turned, saw, numbers}
 use Rattle.sm_lock.specs.Rule.{IsServed, IsHome, IsAway}
-use Rattle.sm_lock.specs.Standing.{AddsOne}
+use Rattle.sm_lock.specs.SeatStates.{AddsOne}
 use Rattle.sm_lock.specs.Told.{took, raised, returned}
 use Rattle.sm_lock.proofs.Sums.{total-set, term_le, terms_le, some_term, if_same, times-append, times-here, times-else, within_le, within-is}
 use Rattle.sm_lock.proofs.Stories.{made-append, grows-same, grows-trans}

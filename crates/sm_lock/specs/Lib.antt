@@ -2,5 +2,5 @@ pub mod Story
 pub mod View
 pub mod Rule
 pub mod Told
-pub mod Standing
+pub mod SeatStates
 pub mod Handles

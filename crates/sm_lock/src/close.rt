@@ -1,7 +1,7 @@
 //! Closing the lock.
 ghost use Rattle.std.specs.Prelude.{◌≡◌, [], ◌∷◌, ◌++◌, All, Contains, map, length, drop, Some};
 ghost use Rattle.sm_lock.specs.Story.{Grows};
-ghost use Rattle.sm_lock.specs.Standing.{Outside};
+ghost use Rattle.sm_lock.specs.SeatStates.{Outside};
 ghost use Rattle.sm_lock.specs.Handles.{built_with, seats, number, seen, IsIn, IsSeatOf, StandsWithItsSeat};
 
 use crate::board::Place;

@@ -1,6 +1,6 @@
 //! What is passed from hand to hand: passes, notes and the value while somebody has it.
 ghost use Rattle.std.specs.Prelude.{◌≡◌, [], ◌∷◌, length, take};
-ghost use Rattle.sm_lock.specs.Standing.{Outside, Carries};
+ghost use Rattle.sm_lock.specs.SeatStates.{Outside, Carries};
 
 use crate::board::Place;
 use crate::storied::Storied;

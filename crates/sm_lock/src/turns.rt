@@ -2,7 +2,7 @@
 ghost use Rattle.std.specs.Prelude.{◌≡◌, ◌<◌, ◌⊎◌, ◌^◌, [], ◌∷◌, ◌++◌, length, Some, None};
 ghost use Rattle.sm_lock.specs.declared.view.QueuePlace.TheVariants.{Out, Inside, Holding};
 ghost use Rattle.sm_lock.specs.Story.{Grows};
-ghost use Rattle.sm_lock.specs.Standing.{AddsOne};
+ghost use Rattle.sm_lock.specs.SeatStates.{AddsOne};
 ghost use Rattle.sm_lock.specs.View.{turned, saw, ticket as ticket_of};
 ghost use Rattle.sm_lock.specs.Handles.{built_with, number, seen, mine, holder, entered, holder_made, IsIn, IsOutOf, IsSeatOf};
 

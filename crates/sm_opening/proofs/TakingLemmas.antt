@@ -98,13 +98,13 @@ second_of First limit behind state none = absurd (none_is_some state none)
 second_of Second limit behind state none = refl
 
 module _ {D : Type 0} {G : Ghosts D} (store : BaseStore D G) (h : Held) (limit : ℕ) (holds : IsOpened limit h store)
-    (opened : Opened D G) (standing : opened.standing ≡ made_of h) where
+    (opened : Opened D G) (replayed : opened.replayed ≡ made_of h) where
   -- what was found
   pub takes_found : None ≡ new_base (format_of store) limit (length h.entries) (made_of h)
       → opened.store ≡ store → opened.taken ≡ h → opened.replaced ≡ None → TakesOver (format_of store) h limit opened
   takes_found none same taken replaced = record {
     taken = taken ∙ ap (taken_with h) none;
-    standing = standing;
+    replayed = replayed;
     store = subst (λ s. IsOpened limit opened.taken s) (sym same)
         (subst (λ t. IsOpened limit t store) (sym taken) holds);
     second = ap format_of same ∙ second_of (format_of store) limit (length h.entries) (made_of h) none;
@@ -117,7 +117,7 @@ module _ {D : Type 0} {G : Ghosts D} (store : BaseStore D G) (h : Held) (limit :
       → opened.replaced ≡ Some (length_of store, file_size base) → TakesOver (format_of store) h limit opened
   takes_base base new at second taken replaced = record {
     taken = taken ∙ ap (taken_with h) new;
-    standing = standing;
+    replayed = replayed;
     store = subst (λ t. IsOpened limit t opened.store) (sym taken) at;
     second = second;
     replaced = replaced ∙ ap (λ n. Some (n, file_size base)) holds.holds.stands.length

@@ -33,18 +33,18 @@ pub record IsFound (format : Format) (h : Held) (old : Sight) : Type 0 where
 pub record TakesOver {D : Type 0} {G : Ghosts D} (format : Format) (h : Held) (limit : ℕ)
     (opened : Opened D G) : Type 0 where
   pub taken : opened.taken ≡ taken_of format limit h
-  pub standing : opened.standing ≡ made_of h
+  pub replayed : opened.replayed ≡ made_of h
   pub store : IsOpened limit opened.taken opened.store
   pub second : format_of opened.store ≡ Second
   pub replaced : opened.replaced ≡ lengths_of format limit h
 
 -- A base took the place of all that a store held, and what makes it stays.
-pub record Replaces {D : Type 0} {G : Ghosts D} (old : BaseStore D G) (standing base : Base) (opened : Opened D G) :
+pub record Replaces {D : Type 0} {G : Ghosts D} (old : BaseStore D G) (replayed base : Base) (opened : Opened D G) :
     Type 0 where
   pub store : IsOpened (limit_of old) (only base) opened.store
   pub second : format_of opened.store ≡ Second
   pub taken : opened.taken ≡ only base
-  pub standing_is : opened.standing ≡ standing
+  pub replayed_is : opened.replayed ≡ replayed
   pub replaced : opened.replaced ≡ Some (length_of old, file_size base)
 
 -- what was found on the disk, and what was made of it

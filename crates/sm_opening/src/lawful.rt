@@ -14,7 +14,7 @@ ghost use Rattle.sm_opening.specs.Unlawful.{IsUnsoundBase, IsUnlawful, IsToldBeh
 use sm_journal::{HEADER_SIZE, record_size};
 use sm_model::{Bytes, Entry, NoMemory, SecretRow};
 use sm_record::{Base, Edition, encode, encode_first};
-use sm_replay::{Standing, Stopped};
+use sm_replay::{ReplayState, Stopped};
 use sm_sound::is_sound;
 use sm_store::{Damage, Loaded};
 use std::alloc::Global;
@@ -36,36 +36,36 @@ impl From<NoMemory> for Unlawful {
 }
 
 /// What a disk holds makes this, where the base is sound and each of the entries legal at the rows of those before it.
-pub fn lawful(alloc: Global, edition: Edition, loaded: &Loaded) -> Result<Standing, Unlawful>
+pub fn lawful(alloc: Global, edition: Edition, loaded: &Loaded) -> Result<ReplayState, Unlawful>
     requires spelled { IsSpelledIn edition (held_of loaded.now) }
     requires gate { loaded.now.gate ≡ place_behind (base_bodies edition loaded.now.base) }
     requires short { place_behind (bodies_in edition (held_of loaded.now)) < 2 ^ 64 }
-    ensures made { IfOk result (λ standing. standing ≡ made_of (held_of loaded.now)) }
-    ensures lawful { IfOk result (λ standing. IsLawful (held_of loaded.now)) }
+    ensures made { IfOk result (λ replayed. replayed ≡ made_of (held_of loaded.now)) }
+    ensures lawful { IfOk result (λ replayed. IsLawful (held_of loaded.now)) }
     ensures refused { IfErr result (OnDamaged (IsUnlawful edition (held_of loaded.now))) }
 {
-    match standing_under(alloc, &loaded.base) {
-        Ok(standing) => go_behind(alloc, edition, loaded, standing),
+    match replayed_under(alloc, &loaded.base) {
+        Ok(replayed) => go_behind(alloc, edition, loaded, replayed),
         Err(why) => Err(why),
     }
 }
 
 /// Where entries begin that are counted from the base, if there is one and it is sound.
-fn standing_under(alloc: Global, base: &Option<Base>) -> Result<Standing, Unlawful>
-    ensures standing { IfOk result (λ standing. standing ≡ base_under base.now) }
-    ensures sound { IfOk result (λ standing. IsSound (base_under base.now)) }
+fn replayed_under(alloc: Global, base: &Option<Base>) -> Result<ReplayState, Unlawful>
+    ensures replayed { IfOk result (λ replayed. replayed ≡ base_under base.now) }
+    ensures sound { IfOk result (λ replayed. IsSound (base_under base.now)) }
     ensures refused { IfErr result (OnDamaged (IsUnsoundBase (base_under base.now))) }
 {
     match base {
-        Some(base) => standing_on(alloc, base),
-        None => Ok(Standing::new(alloc)),
+        Some(base) => replayed_on(alloc, base),
+        None => Ok(ReplayState::new(alloc)),
     }
 }
 
 /// The same of a base.
-fn standing_on(alloc: Global, base: &Base) -> Result<Standing, Unlawful>
-    ensures standing { IfOk result (λ standing. standing ≡ base.now) }
-    ensures sound { IfOk result (λ standing. IsSound base.now) }
+fn replayed_on(alloc: Global, base: &Base) -> Result<ReplayState, Unlawful>
+    ensures replayed { IfOk result (λ replayed. replayed ≡ base.now) }
+    ensures sound { IfOk result (λ replayed. IsSound base.now) }
     ensures refused { IfErr result (OnDamaged (IsUnsoundBase base.now)) }
 {
     if !is_sound(alloc, base)? {
@@ -74,7 +74,7 @@ fn standing_on(alloc: Global, base: &Base) -> Result<Standing, Unlawful>
             entry: 0,
         }));
     }
-    Ok(Standing::of(alloc, base)?)
+    Ok(ReplayState::of(alloc, base)?)
 }
 
 /// What the entries make that begin there.
@@ -82,19 +82,19 @@ fn go_behind(
     alloc: Global,
     edition: Edition,
     loaded: &Loaded,
-    standing: Standing,
-) -> Result<Standing, Unlawful>
+    replayed: ReplayState,
+) -> Result<ReplayState, Unlawful>
     requires spelled { IsSpelledIn edition (held_of loaded.now) }
     requires gate { loaded.now.gate ≡ place_behind (base_bodies edition loaded.now.base) }
     requires short { place_behind (bodies_in edition (held_of loaded.now)) < 2 ^ 64 }
-    requires begins { standing ≡ base_under loaded.now.base }
+    requires begins { replayed ≡ base_under loaded.now.base }
     requires sound { IsSound (base_under loaded.now.base) }
-    ensures made { IfOk result (λ standing. standing ≡ made_of (held_of loaded.now)) }
-    ensures lawful { IfOk result (λ standing. IsLawful (held_of loaded.now)) }
+    ensures made { IfOk result (λ replayed. replayed ≡ made_of (held_of loaded.now)) }
+    ensures lawful { IfOk result (λ replayed. IsLawful (held_of loaded.now)) }
     ensures refused { IfErr result (OnDamaged (IsUnlawful edition (held_of loaded.now))) }
 {
-    match standing.go_on(alloc, loaded.entries.as_slice()) {
-        Ok(standing) => Ok(standing),
+    match replayed.go_on(alloc, loaded.entries.as_slice()) {
+        Ok(replayed) => Ok(replayed),
         Err(stopped) => Err(stopped_behind(alloc, edition, loaded, stopped)),
     }
 }

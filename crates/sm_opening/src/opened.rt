@@ -5,7 +5,7 @@ ghost use Rattle.sm_opening.specs.Lawful.{base_under};
 use sm_disk::Disk;
 use sm_model::{Entry, List, Moment, Rows};
 use sm_record::Base;
-use sm_replay::Standing;
+use sm_replay::ReplayState;
 use sm_store::BaseStore;
 use std::alloc::Global;
 use std::marker::Model;
@@ -33,7 +33,7 @@ pub struct Opened<D: Disk> {
     /// What it holds.
     pub taken: Taken,
     /// What that makes.
-    pub standing: Standing,
+    pub replayed: ReplayState,
     /// Where a base was put in the place of what was found: the length of the file before and that of the new one, in
     /// bytes.
     pub replaced: Option<(u64, u64)>,

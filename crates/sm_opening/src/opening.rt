@@ -17,7 +17,7 @@ use sm_disk::Disk;
 use sm_journal::Format;
 use sm_model::NoMemory;
 use sm_record::Edition;
-use sm_replay::Standing;
+use sm_replay::ReplayState;
 use sm_store::{BaseStore, Loaded, OpenRefused};
 use std::alloc::Global;
 
@@ -31,7 +31,7 @@ pub fn open<D: Disk>(alloc: Global, disk: D, limit: u64) -> Result<Opened<D>, Op
     requires { (9 ≤ limit) × (limit ≤ JOURNAL_LIMIT) }
     ensures opened { IfOk result (Opens disk limit) }
     ensures lawful { IfOk result (λ opened. IsLawful opened.taken) }
-    ensures made { IfOk result (λ opened. opened.standing ≡ made_of opened.taken) }
+    ensures made { IfOk result (λ opened. opened.replayed ≡ made_of opened.taken) }
 
     // A crash at any moment of the call leaves each image with the state that it had.
     ensures any_moment { IfOk result (λ opened. StateStays (D.sight disk) (D.sight (disk_of opened.store))) }
@@ -63,7 +63,7 @@ fn take_over<D: Disk>(
     ensures refused { IfErr result (IsUntaken store (held_of loaded)) }
 {
     match lawful(alloc, edition_in(&store), &loaded) {
-        Ok(standing) => go_over(alloc, store, loaded, standing, limit),
+        Ok(replayed) => go_over(alloc, store, loaded, replayed, limit),
         Err(why) => Err(untaken(store, why)),
     }
 }
@@ -73,12 +73,12 @@ fn go_over<D: Disk>(
     alloc: Global,
     store: BaseStore<D>,
     loaded: Loaded,
-    standing: Standing,
+    replayed: ReplayState,
     limit: u64,
 ) -> Result<Opened<D>, OpenRefused<D>>
     requires limit { limit ≤ JOURNAL_LIMIT }
     requires opened { IsOpened limit (held_of loaded) store }
-    requires made { standing ≡ made_of (held_of loaded) }
+    requires made { replayed ≡ made_of (held_of loaded) }
     ensures takes { IfOk result (TakesOver (format_of store) (held_of loaded) limit) }
     ensures any_moment { IfOk result (λ opened.
         StateStays (D.sight (disk_of store)) (D.sight (disk_of opened.store))) }
@@ -92,26 +92,26 @@ fn go_over<D: Disk>(
         store.format(),
         limit,
         loaded.entries.len(),
-        &standing,
+        &replayed,
     ) {
-        Ok(Some(base)) => replace(alloc, store, standing, base),
-        Ok(None) => Ok(opened_with(store, loaded, standing)),
+        Ok(Some(base)) => replace(alloc, store, replayed, base),
+        Ok(None) => Ok(opened_with(store, loaded, replayed)),
         Err(NoMemory) => Err(OpenRefused::Memory(store.close())),
     }
 }
 
 /// The store with what it was opened with.
-fn opened_with<D: Disk>(store: BaseStore<D>, loaded: Loaded, standing: Standing) -> Opened<D>
+fn opened_with<D: Disk>(store: BaseStore<D>, loaded: Loaded, replayed: ReplayState) -> Opened<D>
     ensures store { result.store ≡ store }
     ensures taken { result.taken ≡ held_of loaded }
-    ensures standing { result.standing ≡ standing }
+    ensures replayed { result.replayed ≡ replayed }
     ensures replaced { result.replaced ≡ None }
 {
     let Loaded { base, entries, .. } = loaded;
     Opened {
         store,
         taken: Taken { base, entries },
-        standing,
+        replayed,
         replaced: None,
     }
 }

@@ -16,7 +16,7 @@ use sm_disk::Disk;
 use sm_journal::Format;
 use sm_model::{List, NoMemory};
 use sm_record::Base;
-use sm_replay::Standing;
+use sm_replay::ReplayState;
 use sm_store::{BaseStore, OpenRefused};
 use std::alloc::Global;
 
@@ -30,14 +30,14 @@ pub fn new_base(
     format: Format,
     limit: u64,
     behind: usize,
-    standing: &Standing,
+    replayed: &ReplayState,
 ) -> Result<Option<Base>, NoMemory>
-    ensures base { IfOk result (λ base. base ≡ replacing.new_base format limit behind standing.now) }
+    ensures base { IfOk result (λ base. base ≡ replacing.new_base format limit behind replayed.now) }
     ensures sound { IfOk result (λ base. IfSome base IsSound) }
 {
     match format {
-        Format::First => Ok(Some(standing.base()?)),
-        Format::Second => shorter_base(alloc, limit, behind, standing),
+        Format::First => Ok(Some(replayed.base()?)),
+        Format::Second => shorter_base(alloc, limit, behind, replayed),
     }
 }
 
@@ -46,15 +46,15 @@ fn shorter_base(
     alloc: Global,
     limit: u64,
     behind: usize,
-    standing: &Standing,
+    replayed: &ReplayState,
 ) -> Result<Option<Base>, NoMemory>
-    ensures base { IfOk result (λ base. base ≡ replacing.new_base formats.Second limit behind standing.now) }
+    ensures base { IfOk result (λ base. base ≡ replacing.new_base formats.Second limit behind replayed.now) }
     ensures sound { IfOk result (λ base. IfSome base IsSound) }
 {
     if behind <= MOST_BEHIND {
         return Ok(None);
     }
-    let base = standing.base()?;
+    let base = replayed.base()?;
     if file_size(alloc, &base)? > limit {
         return Ok(None);
     }
@@ -65,13 +65,13 @@ fn shorter_base(
 pub fn replace<D: Disk>(
     alloc: Global,
     store: BaseStore<D>,
-    standing: Standing,
+    replayed: ReplayState,
     base: Base,
 ) -> Result<Opened<D>, OpenRefused<D>>
     requires sure { is_unsure store ≡ false }
     requires limit { limit_of store ≤ JOURNAL_LIMIT }
     requires sound { IsSound base }
-    ensures replaces { IfOk result (Replaces store standing base) }
+    ensures replaces { IfOk result (Replaces store replayed base) }
     ensures any_moment { IfOk result (λ opened. (h : Held) → Holds store h None → made_of h ≡ base →
         StateStays (D.sight (disk_of store)) (D.sight (disk_of opened.store))) }
     ensures later { IfOk result (λ opened. D.faults (disk_of store) ≤ D.faults (disk_of opened.store)) }
@@ -90,7 +90,7 @@ pub fn replace<D: Disk>(
                     base: Some(base),
                     entries: List::empty(alloc),
                 },
-                standing,
+                replayed,
                 replaced: Some((before, after)),
             })
         }

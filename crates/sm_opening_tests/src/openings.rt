@@ -68,7 +68,7 @@ fn taken(alloc: Global, opened: &Opened<MemoryDisk>) -> Result<String, Fail> {
         "none"
     };
     let behind = opened.taken.entries.len();
-    let made = opened.standing.base()?;
+    let made = opened.replayed.base()?;
     let secrets = made.rows.secrets.len();
     Ok(format!(in alloc; "{base} {behind} {} {secrets}", made.entries)?)
 }

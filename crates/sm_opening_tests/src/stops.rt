@@ -34,7 +34,7 @@ fn left_by(alloc: Global, disk: MemoryDisk) -> MemoryDisk {
 fn state_of(alloc: Global, disk: MemoryDisk) -> Result<String, Fail> {
     match open(alloc, disk, LIMIT) {
         Ok(opened) => {
-            let made = opened.standing.base()?;
+            let made = opened.replayed.base()?;
             let secrets = made.rows.secrets.len();
             Ok(format!(in alloc; "{} {} {secrets}", made.entries, made.last.0)?)
         }

@@ -4,10 +4,10 @@ use Rattle.sm_model.specs.declared.entry.Entry.{Entry}
 use Rattle.sm_record.specs.declared.base.Base.{Base}
 use Rattle.sm_core.specs.Effects.{effect}
 use Rattle.sm_core.specs.Histories.{no_rows, Legal}
-use Rattle.sm_replay.specs.declared.standing.Refusal.{Refusal}
-use Rattle.sm_replay.specs.declared.standing.Refusal.TheVariants as refusals
-use Rattle.sm_replay.specs.declared.standing.Stopped.{Stopped}
-use Rattle.sm_replay.specs.declared.standing.Stopped.TheVariants.{Illegal, Memory}
+use Rattle.sm_replay.specs.declared.replay_state.Refusal.{Refusal}
+use Rattle.sm_replay.specs.declared.replay_state.Refusal.TheVariants as refusals
+use Rattle.sm_replay.specs.declared.replay_state.Stopped.{Stopped}
+use Rattle.sm_replay.specs.declared.replay_state.Stopped.TheVariants.{Illegal, Memory}
 
 -- before all entries
 abbrev pub origin : Base

@@ -3,6 +3,6 @@
 #![tactic(auto)]
 
 pub mod laws;
-pub mod standing;
+pub mod replay_state;
 
-pub use standing::{Refusal, Standing, Stopped};
+pub use replay_state::{Refusal, ReplayState, Stopped};

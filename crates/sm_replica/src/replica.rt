@@ -16,7 +16,7 @@ use sm_frame::Frame;
 use sm_judging::Judged;
 use sm_model::{Moment, NoMemory, Person, Request, SecretId, Text};
 use sm_record::Base;
-use sm_replay::Standing;
+use sm_replay::ReplayState;
 use std::alloc::Global;
 use std::marker::Model;
 
@@ -48,7 +48,7 @@ pub enum PromoteRefused {
 pub struct Replica {
     alloc: Global,
     region: Text,
-    standing: Standing,
+    replayed: ReplayState,
     promoted: bool,
 }
 
@@ -58,9 +58,9 @@ impl Model for Replica {
 
     ghost Value = { Replica };
 
-    ghost view = { λ r. record { region = r.region; base = r.standing; promoted = r.promoted } };
+    ghost view = { λ r. record { region = r.region; base = r.replayed; promoted = r.promoted } };
 
-    ghost invariant = { λ r. IsSound r.standing };
+    ghost invariant = { λ r. IsSound r.replayed };
 }
 
 impl Replica {
@@ -72,7 +72,7 @@ impl Replica {
         Replica {
             alloc,
             region,
-            standing: Standing::new(alloc),
+            replayed: ReplayState::new(alloc),
             promoted: false,
         }
     }
@@ -81,7 +81,7 @@ impl Replica {
     pub fn position(&self) -> u64
         ensures { result ≡ self.now.base.entries }
     {
-        self.standing.entries()
+        self.replayed.entries()
     }
 
     /// The moment of the last entry that it followed, or 0 where there was none. It takes no memory.
@@ -89,7 +89,7 @@ impl Replica {
         ensures last { result ≡ self.now.base.last }
         ensures bound { result.0 ≤ LAST_READING }
     {
-        self.standing.last()
+        self.replayed.last()
     }
 
     /// Whether it was promoted. It takes no memory.
@@ -111,11 +111,11 @@ impl Replica {
         match frame {
             Frame::Entries(at, entries) => take_entries(
                 self.alloc,
-                &mut self.standing,
+                &mut self.replayed,
                 *at,
                 entries.as_slice(),
             ),
-            Frame::Rows(at, base) => take_rows(self.alloc, &mut self.standing, *at, base),
+            Frame::Rows(at, base) => take_rows(self.alloc, &mut self.replayed, *at, base),
         }
     }
 
@@ -130,7 +130,7 @@ impl Replica {
         answer_request(
             self.alloc,
             &self.region,
-            self.standing.table(),
+            self.replayed.table(),
             person,
             moment,
             request,
@@ -143,10 +143,10 @@ impl Replica {
         ensures promotes { Promotes self.old id.now moment result self.new }
         ensures sound { IfOk result IsSound }
     {
-        if !shows(&self.region, self.standing.table(), id, moment) {
+        if !shows(&self.region, self.replayed.table(), id, moment) {
             return Err(PromoteRefused::NoSecret);
         }
-        match self.standing.base() {
+        match self.replayed.base() {
             Ok(base) => {
                 self.promoted = true;
                 Ok(base)

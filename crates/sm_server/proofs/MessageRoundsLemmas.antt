@@ -15,7 +15,7 @@ use Rattle.sm_rotation.specs.Vouched.{Replies}
 use Rattle.sm_seat_traces.specs.SeatTraces.{History}
 use Rattle.sm_seat_traces.proofs.KnownLemmas.{told_more}
 use Rattle.sm_session.specs.Answer.{Asked, heard}
-use Rattle.sm_session.specs.Sessions.{Standing, TakesTurnAlone}
+use Rattle.sm_session.specs.Sessions.{LocalState, TakesTurnAlone}
 use Rattle.sm_session.specs.Told.{Told, nothing_told, told_both}
 use Rattle.sm_session.specs.Turns as sessions
 use Rattle.sm_server.specs.MessageRounds.{seat, TakesMessageRound, MessageRound, MessageRoundOf, marked, told_for, counts_before, counts_after, counts_first, Brought, growth_both, with_others, brought_nothing, GoesWell, MessageRounds}
@@ -119,7 +119,7 @@ module _ (turn : MessageRound) where
         )
 
 -- a message's own part, by what an account's only caller did, and then rotation turns
-module _ (replies : Replies) (base : Base) (asked : Result Asked Why) (old mid : Standing) (reply : Answered)
+module _ (replies : Replies) (base : Base) (asked : Result Asked Why) (old mid : LocalState) (reply : Answered)
     (disk disk' rotator : ℕ) (t : TakesTurnAlone (Rose disk disk') (record { base = base; seat = seat }) asked old mid
     reply) where
   abbrev own : sessions.Turn
@@ -136,7 +136,7 @@ module _ (replies : Replies) (base : Base) (asked : Result Asked Why) (old mid :
   grew = t.stands ∙ ap (λ h. h ++ by_seat seat t.marks) t.gap
 
   -- where the base is still that, and these were the rotation turns
-  pub turns_of : (new : Standing) (disk'' rotator' : ℕ) (round : Round) (base' : Base) → base' ≡ base → disk ≤ disk'
+  pub turns_of : (new : LocalState) (disk'' rotator' : ℕ) (round : Round) (base' : Base) → base' ≡ base → disk ≤ disk'
       → new.readings ≡ append_known mid.readings (readings_in (courses_in round))
       → new.drawn ≡ append_known mid.drawn (drawn_in (courses_in round))
       → Rotated replies base' seat (record { history = mid.seen; counts = between }) round

@@ -26,7 +26,7 @@ use Rattle.sm_session.specs.Answer.{heard}
 use Rattle.sm_session.specs.Endings as streams
 use Rattle.sm_session.specs.Endings.{Sides, StopsBy, Finishes, Streamed}
 use Rattle.sm_session.specs.Replies.{framed_answer}
-use Rattle.sm_session.specs.Sessions.{Standing}
+use Rattle.sm_session.specs.Sessions.{LocalState}
 use Rattle.sm_session.specs.Streams.{message_limit}
 use Rattle.sm_session.specs.Told.{Told, Growth, Within}
 use Rattle.sm_seat_traces.proofs.KnownLemmas.{append_known-nil, told_more}
@@ -133,9 +133,9 @@ turn_in s told marks = record {
   rotator = growth (λ c. c.rotator) s.now s.after;
 }
 
--- the standing of a run's only caller
-abbrev pub standing_in : Outside → History → Standing
-standing_in outside history = record {
+-- the local state of a run's only caller
+abbrev pub local_state_in : Outside → History → LocalState
+local_state_in outside history = record {
   seen = history;
   readings = outside.readings;
   drawn = outside.drawn;
@@ -145,7 +145,7 @@ standing_in outside history = record {
 -- a message's turn
 abbrev pub Turned : Replies → People → Base → Step → Type 0
 Turned replies people base s = TakesMessageRound replies base (heard people (content s.message))
-    (standing_in s.now s.history) (standing_in s.after s.history') (growth (λ c. c.disk) s.now s.after)
+    (local_state_in s.now s.history) (local_state_in s.after s.history') (growth (λ c. c.disk) s.now s.after)
     (growth (λ c. c.rotator) s.now s.after) s.reply
 
 -- what holds after it

@@ -16,7 +16,7 @@ use Rattle.sm_principal.specs.declared.people.People.{People}
 use Rattle.sm_reply.specs.Shown.{Answered}
 use Rattle.sm_seat_traces.specs.SeatTraces.{History}
 use Rattle.sm_session.specs.Answer.{Asked, heard}
-use Rattle.sm_session.specs.Sessions.{Standing}
+use Rattle.sm_session.specs.Sessions.{LocalState}
 use Rattle.sm_session.specs.Told.{Told, nothing_told, told_both, Growth}
 use Rattle.sm_session.specs.Turns as sessions
 
@@ -67,9 +67,9 @@ pub record MessageRoundOf (replies : Replies) (base : Base) (history : History) 
   pub reply : turn.reply ≡ own.reply
   pub told : turn.told ≡ told_both own.told (told_for round)
 
--- A message's turn by an account's only caller and the rotation turns behind it, from one standing to another, and how
--- the counts of the disk and of the rotator grew.
-pub record TakesMessageRound (replies : Replies) (base : Base) (asked : Result Asked Why) (old new : Standing)
+-- A message's turn by an account's only caller and the rotation turns behind it, from one local state to another, and
+-- how the counts of the disk and of the rotator grew.
+pub record TakesMessageRound (replies : Replies) (base : Base) (asked : Result Asked Why) (old new : LocalState)
     (disk rotator : Growth) (reply : Answered) : Type 0 where
   pub told : Told
   pub marks : List Mark

@@ -7,7 +7,7 @@ ghost use Rattle.sm_http.specs.Reading.{content};
 ghost use Rattle.sm_reply.specs.Shown.{Answered};
 ghost use Rattle.sm_session.specs.Answer.{heard};
 ghost use Rattle.sm_session.specs.Replies.{framed_answer};
-ghost use Rattle.sm_session.specs.Views.{standing_by};
+ghost use Rattle.sm_session.specs.Views.{local_state_by};
 ghost use Rattle.sm_server.specs.declared.asked.Task.TheVariants.{Answer};
 ghost use Rattle.sm_server.specs.Outside.{outside_by};
 ghost use Rattle.sm_server.specs.Ran.{Runs};
@@ -81,7 +81,7 @@ pub fn answer_source<Q: Source, K: Sink, D: Disk, C: Clock, W: Words, R: Rotator
             random,
             rotator,
         );
-        account.standing();
+        account.invariants();
         count = count.saturating_add(sent.taken);
         if !sent.whole {
             return Ended::WriteFault(count);
@@ -105,8 +105,8 @@ fn answer_message<K: Sink, D: Disk, C: Clock, W: Words, R: Rotator>(
 ) -> Sent
     ensures turn { (reply : Answered)
         × TakesMessageRound R.replies (base account.old) (heard people.now (content message.now))
-        (standing_by C.Clock W.Words (history account.old) clock.old random.old)
-        (standing_by C.Clock W.Words (history account.new) clock.new random.new)
+        (local_state_by C.Clock W.Words (history account.old) clock.old random.old)
+        (local_state_by C.Clock W.Words (history account.new) clock.new random.new)
         (record { before = D.faults (disk account.old); after = D.faults (disk account.new) })
         (record { before = R.faults rotator.old; after = R.faults rotator.new }) reply
         × Sends result (framed_answer reply) (K.taken sink.old) (K.taken sink.new)

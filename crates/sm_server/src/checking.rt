@@ -30,7 +30,7 @@ pub fn summarize<K: Sink, D: Disk, C: Clock, R: Rotator>(
         (made_of (all_of account.now)).entries result written }
     ensures later { K.sink_faults sink.old ≤ K.sink_faults sink.new }
 {
-    account.standing();
+    account.invariants();
     let now = clock.now();
     match summary(alloc, account.table(), now, account.entries()) {
         Ok(text) => show(sink, text.as_bytes()),

@@ -8,7 +8,7 @@ ghost use Rattle.sm_drill.specs.Lines.{lines, shown_by};
 ghost use Rattle.sm_http.specs.Reading.{content};
 ghost use Rattle.sm_session.specs.Answer.{heard};
 ghost use Rattle.sm_session.specs.Replies.{reply_of};
-ghost use Rattle.sm_session.specs.Views.{standing_by};
+ghost use Rattle.sm_session.specs.Views.{local_state_by};
 ghost use Rattle.sm_opening.specs.Lawful.{made_of};
 ghost use Rattle.sm_server.specs.declared.asked.Task.TheVariants.{Practise};
 ghost use Rattle.sm_server.specs.Drills.{AnswersMade, Says, totals_after};
@@ -121,7 +121,7 @@ fn answer_made<D: Disk, C: Clock, W: Words, R: Rotator>(
             random,
             rotator,
         );
-        account.standing();
+        account.invariants();
         refused += refusals_in(&said);
         last = Some(said);
     }
@@ -140,8 +140,8 @@ fn answer_one<D: Disk, C: Clock, W: Words, R: Rotator>(
     rotator: &mut R,
 ) -> Said
     ensures turn { TakesMessageRound R.replies (base account.old) (heard people.now (content message.now))
-        (standing_by C.Clock W.Words (history account.old) clock.old random.old)
-        (standing_by C.Clock W.Words (history account.new) clock.new random.new)
+        (local_state_by C.Clock W.Words (history account.old) clock.old random.old)
+        (local_state_by C.Clock W.Words (history account.new) clock.new random.new)
         (record { before = D.faults (disk account.old); after = D.faults (disk account.new) })
         (record { before = R.faults rotator.old; after = R.faults rotator.new }) (reply_of result) }
     ensures origin { SameOrigin account.old account.new }
@@ -203,7 +203,7 @@ fn lines_at<D: Disk, R: Rotator>(
         (totals_after (base account.now) (made_of (taken account.now)).entries (history account.now) now)
         (shown_by (option_map reply_of drilled.now.last))) }
 {
-    account.standing();
+    account.invariants();
     let totals = totals(alloc, account.table(), now, account.entries())?;
     let shown = shown_by(alloc, &drilled.last)?;
     lines(alloc, drilled.refused, totals.as_str(), &shown)

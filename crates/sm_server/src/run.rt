@@ -238,7 +238,7 @@ fn answer_opened<Q: Source, K: Sink, D: Disk, C: Clock, W: Words, R: Rotator>(
         random,
         rotator,
     );
-    account.standing();
+    account.invariants();
     (status_of(ended), account.close())
 }
 
@@ -267,7 +267,7 @@ fn check_opened<K: Sink, D: Disk, C: Clock, R: Rotator>(
     ensures vouched { ∥ StaysVouched R.replies (taken account) (history account) (failed account) ∥₁ }
     ensures sink_later { K.sink_faults sink.old ≤ K.sink_faults sink.new }
 {
-    account.standing();
+    account.invariants();
     let status = summarize(alloc, &account, sink, clock);
     (status, account.close())
 }
@@ -310,6 +310,6 @@ fn practise_opened<K: Sink, D: Disk, C: Clock, W: Words, R: Rotator>(
         random,
         rotator,
     );
-    account.standing();
+    account.invariants();
     (status, account.close())
 }

@@ -188,11 +188,11 @@ where
 {
     match run_at(rt, alloc, account, workers, people) {
         Ok(account) => {
-            account.standing();
+            account.invariants();
             (end_of_workers(workers), account)
         }
         Err(BuildRefused::Memory(account)) => {
-            account.standing();
+            account.invariants();
             (Status::Memory, account)
         }
     }

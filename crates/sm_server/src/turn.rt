@@ -7,7 +7,7 @@ ghost use Rattle.sm_http.specs.Reading.{content};
 ghost use Rattle.sm_session.specs.Answer.{heard};
 ghost use Rattle.sm_session.specs.Replies.{reply_of};
 ghost use Rattle.sm_session.specs.Sessions.{TakesTurnAlone};
-ghost use Rattle.sm_session.specs.Views.{standing_by};
+ghost use Rattle.sm_session.specs.Views.{local_state_by};
 ghost use Rattle.sm_server.specs.MessageRounds.{seat};
 
 use sm_account::Account;
@@ -36,8 +36,8 @@ pub fn take_turn<D: Disk, C: Clock, W: Words, R: Rotator>(
 ) -> Said
     ensures turn { TakesTurnAlone (Rose (D.faults (disk account.old)) (D.faults (disk account.new)))
         (record { base = base account.old; seat = seat }) (heard people.now (content message.now))
-        (standing_by C.Clock W.Words (history account.old) clock.old random.old)
-        (standing_by C.Clock W.Words (history account.new) clock.new random.new) (reply_of result) }
+        (local_state_by C.Clock W.Words (history account.old) clock.old random.old)
+        (local_state_by C.Clock W.Words (history account.new) clock.new random.new) (reply_of result) }
     ensures origin { SameOrigin account.old account.new }
     ensures unsure { IsSome (failed account.new) → IsSome (failed account.old)
         ⊎ Rose (D.faults (disk account.old)) (D.faults (disk account.new)) }
@@ -65,8 +65,8 @@ fn draw_and_answer<D: Disk, C: Clock, W: Words, R: Rotator>(
     requires { HasShortTexts person.now }
     ensures turn { TakesTurnAlone (Rose (D.faults (disk account.old)) (D.faults (disk account.new)))
         (record { base = base account.old; seat = seat }) (Ok (record { person = person.now; request = request.now }))
-        (standing_by C.Clock W.Words (history account.old) clock.old random.old)
-        (standing_by C.Clock W.Words (history account.new) clock.new random.new) (reply_of result) }
+        (local_state_by C.Clock W.Words (history account.old) clock.old random.old)
+        (local_state_by C.Clock W.Words (history account.new) clock.new random.new) (reply_of result) }
     ensures origin { SameOrigin account.old account.new }
     ensures unsure { IsSome (failed account.new) → IsSome (failed account.old)
         ⊎ Rose (D.faults (disk account.old)) (D.faults (disk account.new)) }

@@ -24,7 +24,7 @@ use Rattle.sm_session.specs.declared.said.Said.{Said}
 use Rattle.sm_session.specs.declared.trace.TraceItem.{TraceItem}
 use Rattle.sm_session.specs.Answer.{Asked}
 use Rattle.sm_session.specs.Replies.{reply_of}
-use Rattle.sm_session.specs.Sessions.{Place, Standing, MessageTurn, turn_shape, item_at, TakesTurn, TakesTurnBy}
+use Rattle.sm_session.specs.Sessions.{Place, LocalState, MessageTurn, turn_shape, item_at, TakesTurn, TakesTurnBy}
 use Rattle.sm_session.specs.Told.{nothing_told, told_once}
 use Rattle.sm_session.specs.Turns.{Untouched, IsTurn}
 use Rattle.sm_seat_traces.proofs.KnownLemmas.{append_known-nil}
@@ -75,7 +75,7 @@ traced_by position position' now drawn status status' placed same =
 
 -- a turn that did not reach the account
 pub passed_by : (Gap : History → History → Type 0) (Cause : Type 0) (place : Place) (wanted : Result Asked Why)
-    (old new : Standing) (reply : Answered) → Gap old.seen old.seen → new.seen ≡ old.seen
+    (old new : LocalState) (reply : Answered) → Gap old.seen old.seen → new.seen ≡ old.seen
     → new.readings ≡ old.readings → new.drawn ≡ old.drawn → old.random ≤ new.random
     → IsTurn Cause (Rose old.random new.random) place.base old.seen wanted (untouched reply)
     → TakesTurnBy Gap Cause place wanted old new reply
@@ -93,7 +93,7 @@ passed_by Gap Cause place wanted old new reply none seen readings drawn later ri
 }
 
 -- the same behind a lock, where this is said
-pub passed_behind : (place : Place) (wanted : Result Asked Why) (old new : Standing) (said said' : Said)
+pub passed_behind : (place : Place) (wanted : Result Asked Why) (old new : LocalState) (said said' : Said)
     (item : TraceItem) → new.seen ≡ old.seen → new.readings ≡ old.readings → new.drawn ≡ old.drawn
     → old.random ≤ new.random → said' ≡ said
     → IsTurn (Unit {0}) (Rose old.random new.random) place.base old.seen wanted (untouched (reply_of said))

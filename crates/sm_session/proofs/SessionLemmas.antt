@@ -25,7 +25,7 @@ use Rattle.sm_session.specs.declared.trace.TraceItem.{TraceItem}
 use Rattle.sm_session.specs.Answer.{heard}
 use Rattle.sm_session.specs.Endings.{Sides, StopsBy, Finishes, Streamed}
 use Rattle.sm_session.specs.Replies.{framed_answer}
-use Rattle.sm_session.specs.Sessions.{Place, Standing, Around, MessageTurn, brought, turn_shape, IsRight, after_turn, seen_after, StandStill, CountsOn, told_of, item_of, TakesTurn, Serves}
+use Rattle.sm_session.specs.Sessions.{Place, LocalState, Around, MessageTurn, brought, turn_shape, IsRight, after_turn, seen_after, StandStill, CountsOn, told_of, item_of, TakesTurn, Serves}
 use Rattle.sm_session.specs.Streams.{message_limit}
 use Rattle.sm_session.specs.Told.{Told, nothing_told, told_both}
 use Rattle.sm_session.specs.Turns.{Untouched}
@@ -77,7 +77,7 @@ abbrev replies_of : List MessageTurn → List Answered
 replies_of turns = map (λ turn. turn.reply) turns
 
 -- What was done for some messages: the turns, all but their stream.
-pub record Done (people : People) (place : Place) (old now : Standing) (turns : List MessageTurn)
+pub record Done (people : People) (place : Place) (old now : LocalState) (turns : List MessageTurn)
     (items : List TraceItem) : Type 0 where
   pub seat_trace : SeatTrace turn_shape (Grows (place.seat ∷ [])) place.seat (IsRight people place.base) old.seen turns
       now.seen
@@ -122,7 +122,7 @@ module _ (people : People) (place : Place) where
   }
 
   -- one turn more
-  module _ (old now new : Standing) (turns : List MessageTurn) (items : List TraceItem)
+  module _ (old now new : LocalState) (turns : List MessageTurn) (items : List TraceItem)
       (done : Done people place old now turns items) (message : Message) (reply : Answered) (item : TraceItem)
       (t : TakesTurn place (heard people message) now new reply item) where
     abbrev pub turn_taken : MessageTurn
@@ -205,7 +205,7 @@ module _ (people : People) (place : Place) where
           (omega (arith, few_messages s.turns number s.size, few)) why e reads stops finishes)
 
       -- a message was read, its turn taken, and its reply sent
-      module _ (message : owned) (own : Standing) (reply : Answered) (item : TraceItem)
+      module _ (message : owned) (own : LocalState) (reply : Answered) (item : TraceItem)
           (t : TakesTurn place (heard people (content message)) now.own own reply item)
           (reads : Reads reader (next.Message message) reader' now.sides.left sides.left)
           (source : now.sides.source ≤ sides.source) (sink : now.sides.sink ≤ sides.sink) (sent : Sent)

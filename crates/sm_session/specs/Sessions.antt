@@ -28,7 +28,7 @@ pub record Place : Type 0 where
   pub seat : ℕ
 
 -- the history that the seat has seen, what its clock and its random source told, and how often the source failed
-pub record Standing : Type 0 where
+pub record LocalState : Type 0 where
   pub seen : History
   pub readings : Option (List ℕ)
   pub drawn : Option (List ℕ)
@@ -37,7 +37,7 @@ pub record Standing : Type 0 where
 -- that, and the two sides of the connection
 pub record Around : Type 0 where
   pub sides : Sides
-  pub own : Standing
+  pub own : LocalState
 
 -- a message's turn: the history at which it stands, what it brought, and how the count of the random source grew
 pub record MessageTurn : Type 0 where
@@ -122,7 +122,7 @@ pub record Serves (people : People) (place : Place) (old new : Around) (ended : 
 -- One message's turn, which asks for this or is refused so: what it brought, and where. `Gap` holds from the history
 -- that the seat had seen to that at which the turn stands, and `Fault` where the disk failed.
 pub record TakesTurnBy (Gap : History → History → Type 0) (Fault : Type 0) (place : Place) (wanted : Result Asked Why)
-    (old new : Standing) (reply : Answered) : Type 0 where
+    (old new : LocalState) (reply : Answered) : Type 0 where
   pub before : History
   pub told : Told
   pub marks : List Mark
@@ -137,13 +137,13 @@ pub record TakesTurnBy (Gap : History → History → Type 0) (Fault : Type 0) (
 
 -- Behind a lock: others alone added to the history before it, a disk's fault has no cause but its mark, and a trace has
 -- this of it.
-pub record TakesTurn (place : Place) (wanted : Result Asked Why) (old new : Standing) (reply : Answered)
+pub record TakesTurn (place : Place) (wanted : Result Asked Why) (old new : LocalState) (reply : Answered)
     (item : TraceItem) : Type 0 where
   pub taken : TakesTurnBy (Grows (place.seat ∷ [])) ⊤ place wanted old new reply
   pub traced : item ≡ item_at (length taken.before) taken.told reply.status
 
 -- By an account's only caller: nothing lies before it, and this holds where the disk failed.
-abbrev pub TakesTurnAlone : Type 0 → Place → Result Asked Why → Standing → Standing → Answered → Type 0
+abbrev pub TakesTurnAlone : Type 0 → Place → Result Asked Why → LocalState → LocalState → Answered → Type 0
 TakesTurnAlone Fault place wanted old new reply = TakesTurnBy NoGap Fault place wanted old new reply
 
 -- One hold of the lock by a seat, from the history that it had seen to that which it has seen then: the question was

@@ -5,7 +5,7 @@ use Rattle.sm_io.specs.declared.source.Source.{Ghosts as SourceGhosts}
 use Rattle.sm_io.specs.declared.random.Words.{Ghosts as WordsGhosts}
 use Rattle.sm_seat_traces.specs.SeatTraces.{History}
 use Rattle.sm_session.specs.Endings.{Sides}
-use Rattle.sm_session.specs.Sessions.{Around, Standing}
+use Rattle.sm_session.specs.Sessions.{Around, LocalState}
 
 -- the two sides of a connection
 abbrev pub sides_by : {K : Type 0} → SourceGhosts K → SinkGhosts K → K → Sides
@@ -16,9 +16,9 @@ sides_by source sink conn = record {
   sink = sink.sink_faults conn;
 }
 
--- the standing of a seat that has seen this history, with its clock and its random source
-abbrev pub standing_by : {C W : Type 0} → ClockGhosts C → WordsGhosts W → History → C → W → Standing
-standing_by clocks sources seen clock words = record {
+-- the local state of a seat that has seen this history, with its clock and its random source
+abbrev pub local_state_by : {C W : Type 0} → ClockGhosts C → WordsGhosts W → History → C → W → LocalState
+local_state_by clocks sources seen clock words = record {
   seen = seen;
   readings = clocks.readings clock;
   drawn = sources.drawn words;
@@ -30,5 +30,5 @@ abbrev pub around_by : {K C W : Type 0} → SourceGhosts K → SinkGhosts K → 
     → C → W → Around
 around_by source sink clocks sources seen conn clock words = record {
   sides = sides_by source sink conn;
-  own = standing_by clocks sources seen clock words;
+  own = local_state_by clocks sources seen clock words;
 }

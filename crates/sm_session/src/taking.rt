@@ -7,7 +7,7 @@ ghost use Rattle.sm_lock.specs.Handles.{built_with, number, seen, IsIn};
 ghost use Rattle.sm_session.specs.Answer.{heard};
 ghost use Rattle.sm_session.specs.Replies.{reply_of};
 ghost use Rattle.sm_session.specs.Sessions.{TakesTurn};
-ghost use Rattle.sm_session.specs.Views.{standing_by};
+ghost use Rattle.sm_session.specs.Views.{local_state_by};
 
 use crate::drawing::draw;
 use crate::heard::Heard;
@@ -53,8 +53,8 @@ pub(crate) fn take_turn<D: Disk, R: Rotator, C: Clock, W: Words, H: Wait>(
     ensures number { number result.pass ≡ number pass }
     ensures turn { TakesTurn (record { base = base (built_with gate.now); seat = number pass })
         (heard people.now (content message.now))
-        (standing_by C.Clock W.Words (seen pass) clock.old words.old)
-        (standing_by C.Clock W.Words (seen result.pass) clock.new words.new) (reply_of result.said) result.item }
+        (local_state_by C.Clock W.Words (seen pass) clock.old words.old)
+        (local_state_by C.Clock W.Words (seen result.pass) clock.new words.new) (reply_of result.said) result.item }
     ensures later { W.faults words.old ≤ W.faults words.new }
 {
     match read(scratch, alloc, people, message) {
@@ -84,8 +84,8 @@ fn ask<D: Disk, R: Rotator, C: Clock, W: Words, H: Wait>(
     ensures number { number result.pass ≡ number pass }
     ensures turn { TakesTurn (record { base = base (built_with gate.now); seat = number pass })
         (Ok (record { person = person.now; request = request.now }))
-        (standing_by C.Clock W.Words (seen pass) clock.old words.old)
-        (standing_by C.Clock W.Words (seen result.pass) clock.new words.new) (reply_of result.said) result.item }
+        (local_state_by C.Clock W.Words (seen pass) clock.old words.old)
+        (local_state_by C.Clock W.Words (seen result.pass) clock.new words.new) (reply_of result.said) result.item }
     ensures later { W.faults words.old ≤ W.faults words.new }
 {
     match draw(alloc, words, need(request)) {

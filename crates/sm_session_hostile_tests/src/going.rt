@@ -3,7 +3,7 @@ use crate::rows::{BODIES, ENDS, FIELDS, FIRST, LENGTHS, NOT_DENIED, REQUESTS, Ro
 use crate::sessions::{
     Heard, Kept, Reply, account_over, asked, disk, input_of, reply_bytes, session,
 };
-use crate::standing::{Seen, Standing, look, standing_of};
+use crate::left_behind::{Seen, LeftBehind, look, left_behind_of};
 use sm_model::NoMemory;
 use sm_session::Ended;
 use std::alloc::Global;
@@ -26,7 +26,7 @@ const DISK_FAULT: Reply = (
 #[derive(Drop)]
 struct Gone {
     heard: Heard,
-    left: Standing,
+    left: LeftBehind,
     before: Seen,
     made: Seen,
 }
@@ -51,7 +51,7 @@ fn go<R: Wait>(rt: &R, alloc: Global, row: &Row) -> Result<Gone, NoMemory> {
         input.as_slice(),
         &row.behaviour,
     )?;
-    let left = standing_of(rt, alloc, account)?;
+    let left = left_behind_of(rt, alloc, account)?;
     Ok(Gone {
         heard,
         left,

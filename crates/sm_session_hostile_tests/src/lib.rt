@@ -9,4 +9,4 @@ mod rows;
 #[cfg(test)]
 mod sessions;
 #[cfg(test)]
-mod standing;
+mod left_behind;

@@ -2,7 +2,7 @@
 use Rattle.std.proofs.Common.{◌≡◌, ℕ, List, [], ◌∷◌, ◌++◌, refl, sym, ◌∙◌, subst}
 use Rattle.sm_lock.specs.Story.{Grows}
 use Rattle.sm_lock.proofs.Stories.{grows-same, grows-trans}
-use Rattle.sm_session.specs.Sessions.{Standing}
+use Rattle.sm_session.specs.Sessions.{LocalState}
 use Rattle.sm_seat_traces.proofs.SeatTraceLaws.{Joins}
 use Rattle.sm_workers.specs.Chains.{Chain, Waits}
 use Rattle.sm_workers.specs.RotationWorkers.{Post, WaitsAt}
@@ -27,10 +27,10 @@ module _ (seat : ℕ) where
   pub joins : Joins (Grows (seat ∷ []))
   joins = record { still = grows-same (seat ∷ []); both = grows-trans (seat ∷ []) }
 
-  pub waits_still : (at : Standing) → Waits seat at at
+  pub waits_still : (at : LocalState) → Waits seat at at
   waits_still at = record { seen = grows-same (seat ∷ []) at.seen; readings = refl; drawn = refl; random = refl }
 
-  pub waits_both : (a b c : Standing) → Waits seat a b → Waits seat b c → Waits seat a c
+  pub waits_both : (a b c : LocalState) → Waits seat a b → Waits seat b c → Waits seat a c
   waits_both a b c first then = record {
     seen = grows-trans (seat ∷ []) a.seen b.seen c.seen first.seen then.seen;
     readings = then.readings ∙ first.readings;
@@ -39,8 +39,8 @@ module _ (seat : ℕ) where
   }
 
   -- one and the same
-  pub waits_same : (a b : Standing) → b ≡ a → Waits seat a b
-  waits_same a b same = subst (λ (s : Standing). Waits seat a s) (sym same) (waits_still a)
+  pub waits_same : (a b : LocalState) → b ≡ a → Waits seat a b
+  waits_same a b same = subst (λ (s : LocalState). Waits seat a s) (sym same) (waits_still a)
 
   pub waits_at_still : (at : Post) → WaitsAt seat at at
   waits_at_still at = record { own = waits_still at.own; rotator = refl }

@@ -7,7 +7,7 @@ use Rattle.sm_account.specs.States.{Base}
 use Rattle.sm_lock.specs.Story.{Grows}
 use Rattle.sm_principal.specs.declared.people.People.{People}
 use Rattle.sm_session.specs.Endings.{Sides}
-use Rattle.sm_session.specs.Sessions.{Place, Standing, IsRight, turn_shape}
+use Rattle.sm_session.specs.Sessions.{Place, LocalState, IsRight, turn_shape}
 use Rattle.sm_seat_traces.specs.SeatTraces.{SeatTrace}
 use Rattle.sm_seat_traces.proofs.SeatTraceLaws.{traces_join}
 use Rattle.sm_workers.specs.declared.worker.ConnEnd.{ConnEnd}
@@ -22,11 +22,11 @@ module _ {K : Type 0} (sides : K → Sides) (people : People) (place : Place) wh
   abbrev Visits : Type 0
   Visits = List (Visit sides people place)
 
-  abbrev Follow : Standing → Visits → Standing → Type 0
+  abbrev Follow : LocalState → Visits → LocalState → Type 0
   Follow = Chain (Waits place.seat) (λ (visit : Visit sides people place). visit.from) (λ visit. visit.to)
 
   -- the turns of visits are one trace
-  pub visits_trace : (from to : Standing) (visits : Visits) → Follow from visits to
+  pub visits_trace : (from to : LocalState) (visits : Visits) → Follow from visits to
       → SeatTrace turn_shape (Grows (place.seat ∷ [])) place.seat (IsRight people place.base) from.seen
       (turns_in sides people place visits) to.seen
   visits_trace from to [] chain = chain.seen
@@ -40,13 +40,13 @@ module _ {K : Type 0} (sides : K → Sides) (people : People) (place : Place) wh
       (visits_trace visit.to to visits chain.1))
 
   -- the count of the random source does not fall
-  pub visits_random : (from to : Standing) (visits : Visits) → Follow from visits to → from.random ≤ to.random
+  pub visits_random : (from to : LocalState) (visits : Visits) → Follow from visits to → from.random ≤ to.random
   visits_random from to [] chain = omega (arith, chain.random)
   visits_random from to (visit ∷ visits) chain =
       omega (arith, chain.0.random, visit.later.random, visits_random visit.to to visits chain.1)
 
   -- the visits so far
-  pub record SoFar (old now : EdgeState K) (from to : Standing) : Type 0 where
+  pub record SoFar (old now : EdgeState K) (from to : LocalState) : Type 0 where
     pub visits : Visits
     pub left : old.left ≡ told_ahead (map (λ visit. visit.conn) visits) now.left
     pub handed : now.handed ≡ told_behind old.handed (map (λ visit. visit.conn) visits)
@@ -54,7 +54,7 @@ module _ {K : Type 0} (sides : K → Sides) (people : People) (place : Place) wh
     pub chain : Follow from visits to
     pub later : old.faults ≤ now.faults
 
-  pub so_far_first : (edge : EdgeState K) (from : Standing) → SoFar edge edge from from
+  pub so_far_first : (edge : EdgeState K) (from : LocalState) → SoFar edge edge from from
   so_far_first edge from = record {
     visits = [];
     left = sym (ahead-nil edge.left);
@@ -64,9 +64,9 @@ module _ {K : Type 0} (sides : K → Sides) (people : People) (place : Place) wh
     later = omega arith;
   }
 
-  module _ (old at : EdgeState K) (from mid : Standing) (so_far : SoFar old at from mid) where
+  module _ (old at : EdgeState K) (from mid : LocalState) (so_far : SoFar old at from mid) where
     -- no connection was handed out
-    pub so_far_waits : (now : EdgeState K) (to : Standing) → now.left ≡ at.left → now.handed ≡ at.handed
+    pub so_far_waits : (now : EdgeState K) (to : LocalState) → now.left ≡ at.left → now.handed ≡ at.handed
         → now.back ≡ at.back → at.faults ≤ now.faults → Waits place.seat mid to → SoFar old now from to
     so_far_waits now to left handed back later waits = record {
       visits = so_far.visits;
@@ -79,7 +79,7 @@ module _ {K : Type 0} (sides : K → Sides) (people : People) (place : Place) wh
     }
 
     -- one visit more
-    pub so_far_more : (now : EdgeState K) (to : Standing) (visit : Visit sides people place)
+    pub so_far_more : (now : EdgeState K) (to : LocalState) (visit : Visit sides people place)
         → at.left ≡ told_first visit.conn now.left → now.handed ≡ told_more at.handed visit.conn
         → now.back ≡ told_more at.back (visit.came, visit.note) → at.faults ≤ now.faults → visit.from ≡ mid
         → visit.to ≡ to → SoFar old now from to
@@ -118,7 +118,7 @@ module _ {K : Type 0} (sides : K → Sides) (people : People) (place : Place) wh
 
 -- The same, where the seat's number has two names.
 module _ {K : Type 0} (sides : K → Sides) (people : People) (base : Base) (own seat : ℕ) (same : own ≡ seat)
-    (old at now : EdgeState K) (from mid to : Standing)
+    (old at now : EdgeState K) (from mid to : LocalState)
     (so_far : SoFar sides people (record { base = base; seat = seat }) old at from mid) where
   -- a visit of this connection, beside what the edge told of it before and after
   abbrev pub Brings : K → Option (List (K × ConnEnd)) → ℕ → Type 0
@@ -146,9 +146,9 @@ module _ {K : Type 0} (sides : K → Sides) (people : People) (base : Base) (own
       let place : Place = record { base = base; seat = seat } in
       let waits : Waits seat mid to = record {
         seen = subst (λ n. Grows (n ∷ []) mid.seen to.seen) same seen;
-        readings = ap (λ (s : Standing). s.readings) stays;
-        drawn = ap (λ (s : Standing). s.drawn) stays;
-        random = ap (λ (s : Standing). s.random) stays;
+        readings = ap (λ (s : LocalState). s.readings) stays;
+        drawn = ap (λ (s : LocalState). s.drawn) stays;
+        random = ap (λ (s : LocalState). s.random) stays;
       } in
       connection_worker_did sides people place old now from to
       (so_far_waits sides people place old at from mid so_far now to left handed back later waits)

@@ -10,7 +10,7 @@ use Rattle.sm_lock.specs.declared.storied.Storied.{Ghosts}
 use Rattle.sm_model.specs.declared.entry.Mark.{Mark}
 use Rattle.sm_pool.specs.Holds.{hold_shape}
 use Rattle.sm_principal.specs.declared.people.People.{People}
-use Rattle.sm_session.specs.Sessions.{IsRight, Place, Standing, turn_shape}
+use Rattle.sm_session.specs.Sessions.{IsRight, Place, LocalState, turn_shape}
 use Rattle.sm_seat_traces.specs.SeatTraces.{History}
 use Rattle.sm_seat_traces.proofs.SeatTraceLaws.{trace_mine, trace_goes_on}
 use Rattle.sm_workers.specs.declared.worker.Task.{Task}
@@ -20,12 +20,12 @@ use Rattle.sm_workers.specs.Chains.{Waits}
 use Rattle.sm_workers.specs.RotationWorkers.{RotationTurn, WaitsAt, holds_in}
 use Rattle.sm_workers.specs.Views.{Views}
 use Rattle.sm_workers.specs.Visits.{Visit, turns_in}
-use Rattle.sm_workers.specs.Workers.{Did, EndsAs, HasWorked, Works, WorksWithItsPass, marks_by, marks_of, standing_of}
+use Rattle.sm_workers.specs.Workers.{Did, EndsAs, HasWorked, Works, WorksWithItsPass, marks_by, marks_of, local_state_of}
 use Rattle.sm_workers.proofs.ChainLemmas.{chain_on, joins, waits_at_both, waits_both}
 
 module _ {E K C W R : Type 0} (views : Views E K C W R) (people : People) (place : Place) where
   -- the marks of the seat since a list that the history began with
-  pub did_mine : (built : History) (old new : Task E R) (from to : Standing)
+  pub did_mine : (built : History) (old new : Task E R) (from to : LocalState)
       (did : Did views people place old new from to) → take (length built) from.seen ≡ built
       → entries_of place.seat (drop (length built) to.seen)
       ≡ entries_of place.seat (drop (length built) from.seen) ++ marks_by views people place old new from to did
@@ -39,7 +39,7 @@ module _ {E K C W R : Type 0} (views : Views E K C W R) (people : People) (place
   did_mine built (Turner old) (Door new) from to did begins = absurd did
 
   -- seen from a later history
-  pub did_later : (old new : Task E R) (from to later : Standing) → Did views people place old new from to
+  pub did_later : (old new : Task E R) (from to later : LocalState) → Did views people place old new from to
       → Waits place.seat to later → Did views people place old new from later
   did_later (Door old) (Door new) from to later did waits = record {
     visits = did.visits;
@@ -85,8 +85,8 @@ module _ {E K C W R : Type 0} (views : Views E K C W R) (people : People) {A O :
       → Works views people place old new from to → Grows (place.seat ∷ []) to later
       → Works views people place old new from later
   works_later place old new from to later works grows = record {
-    did = did_later views people place old.task new.task (standing_of views old from) (standing_of views new to)
-        (standing_of views new later) works.did
+    did = did_later views people place old.task new.task (local_state_of views old from) (local_state_of views new to)
+        (local_state_of views new later) works.did
         (record { seen = grows; readings = refl; drawn = refl; random = refl });
     ends = works.ends;
   }
@@ -97,7 +97,7 @@ module _ {E K C W R : Type 0} (views : Views E K C W R) (people : People) {A O :
       → entries_of place.seat (drop (length begun) to)
       ≡ entries_of place.seat (drop (length begun) from) ++ marks_of views people works
   works_mine place begun old new from to works begins =
-      did_mine views people place begun old.task new.task (standing_of views old from) (standing_of views new to)
+      did_mine views people place begun old.task new.task (local_state_of views old from) (local_state_of views new to)
       works.did begins
 
   module _ (base : Base) (gate : Gate A O Mark) (before after : Pass A O Mark g) (was_in : IsIn gate before)
@@ -123,7 +123,7 @@ module _ {E K C W R : Type 0} (views : Views E K C W R) (people : People) {A O :
         → old.pass ≡ Some before → out ≡ record old { pass = None }
         → new ≡ record { task = task; clock = clock; words = words; pass = Some after; failed = failed }
         → Did views people (record { base = base; seat = number before }) out.task task
-        (standing_of views out (seen before))
+        (local_state_of views out (seen before))
         (record {
           seen = seen after;
           readings = views.readings clock;

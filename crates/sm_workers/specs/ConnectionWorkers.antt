@@ -5,7 +5,7 @@ use Rattle.sm_io.specs.Edge.{NoneLeft}
 use Rattle.sm_lock.specs.Story.{Grows}
 use Rattle.sm_principal.specs.declared.people.People.{People}
 use Rattle.sm_session.specs.Endings.{Sides}
-use Rattle.sm_session.specs.Sessions.{Place, Standing, IsRight, turn_shape}
+use Rattle.sm_session.specs.Sessions.{Place, LocalState, IsRight, turn_shape}
 use Rattle.sm_seat_traces.specs.SeatTraces.{SeatTrace}
 use Rattle.sm_workers.specs.declared.worker.ConnEnd.{ConnEnd}
 use Rattle.sm_workers.specs.Chains.{Chain, Waits}
@@ -27,7 +27,7 @@ EndsConnectionWorker false old new = NoneLeft new.left
 module _ {K : Type 0} (sides : K → Sides) (people : People) (place : Place) where
   -- The visits of a connection worker, one after the other. They are of the first connections that were left, in their
   -- order; each of these was handed out and came back. The turns of all visits are one trace of the seat.
-  pub record ConnectionWorkerDid (old new : EdgeState K) (from to : Standing) : Type 0 where
+  pub record ConnectionWorkerDid (old new : EdgeState K) (from to : LocalState) : Type 0 where
     pub visits : List (Visit sides people place)
     pub left : old.left ≡ told_ahead (map (λ visit. visit.conn) visits) new.left
     pub handed : new.handed ≡ told_behind old.handed (map (λ visit. visit.conn) visits)

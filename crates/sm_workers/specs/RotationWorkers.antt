@@ -7,13 +7,13 @@ use Rattle.sm_pool.specs.Holds.{Hold, hold_shape}
 use Rattle.sm_pool.specs.Rounds.{ComesToRest}
 use Rattle.sm_pool.specs.Turns.{Passing, TurnDone, holds_of}
 use Rattle.sm_rotation.specs.Vouched.{Replies}
-use Rattle.sm_session.specs.Sessions.{Place, Standing}
+use Rattle.sm_session.specs.Sessions.{Place, LocalState}
 use Rattle.sm_seat_traces.specs.SeatTraces.{SeatTrace}
 use Rattle.sm_workers.specs.Chains.{Chain, Waits}
 
--- a standing, and how often the rotator has failed
+-- a local state, and how often the rotator has failed
 pub record Post : Type 0 where
-  pub own : Standing
+  pub own : LocalState
   pub rotator : ℕ
 
 -- what passes between a turn and the outside from one post to another

@@ -3,11 +3,11 @@ use Rattle.std.specs.Prelude.{◌≤◌, List, [], ◌∷◌, ◌++◌}
 use Rattle.sm_principal.specs.declared.people.People.{People}
 use Rattle.sm_session.specs.Complete.{Completes}
 use Rattle.sm_session.specs.Endings.{Sides}
-use Rattle.sm_session.specs.Sessions.{Place, Standing, Around, MessageTurn, Serves}
+use Rattle.sm_session.specs.Sessions.{Place, LocalState, Around, MessageTurn, Serves}
 use Rattle.sm_workers.specs.declared.worker.ConnEnd.{ConnEnd}
 
--- a standing with the two sides of a connection
-abbrev pub around : Sides → Standing → Around
+-- a local state with the two sides of a connection
+abbrev pub around : Sides → LocalState → Around
 around sides own = record { sides = sides; own = own }
 
 -- no count of a connection, or of the random source, falls
@@ -18,13 +18,13 @@ pub record NoneFell (old new : Around) : Type 0 where
 
 module _ {K : Type 0} (sides : K → Sides) (people : People) (place : Place) where
   -- A connection as it was handed out and as it came back, with its note, and what its session did between two
-  -- standings of the seat.
+  -- local states of the seat.
   pub record Visit : Type 0 where
     pub conn : K
     pub came : K
     pub note : ConnEnd
-    pub from : Standing
-    pub to : Standing
+    pub from : LocalState
+    pub to : LocalState
     pub session : Serves people place (around (sides conn) from) (around (sides came) to) note.ended note.trace.items
     pub complete : Completes session
     pub later : NoneFell (around (sides conn) from) (around (sides came) to)

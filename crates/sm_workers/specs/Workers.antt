@@ -9,7 +9,7 @@ use Rattle.sm_model.specs.declared.entry.Mark.{Mark}
 use Rattle.sm_account.specs.States.{Base}
 use Rattle.sm_pool.specs.Holds.{hold_shape}
 use Rattle.sm_principal.specs.declared.people.People.{People}
-use Rattle.sm_session.specs.Sessions.{Place, Standing, turn_shape}
+use Rattle.sm_session.specs.Sessions.{Place, LocalState, turn_shape}
 use Rattle.sm_seat_traces.specs.SeatTraces.{History, marks_in}
 use Rattle.sm_workers.specs.declared.worker.Task.{Task}
 use Rattle.sm_workers.specs.declared.worker.Task.TheVariants.{Door, Turner}
@@ -47,8 +47,8 @@ module _ {E C W R A O M : Type 0} {g : Ghosts A O M} where
   NoneFailed workers = All (λ worker. worker.failed ≡ false) workers
 
 module _ {E K C W R : Type 0} (views : Views E K C W R) where
-  -- a standing with the rotator
-  abbrev pub post : R → Standing → Post
+  -- a local state with the rotator
+  abbrev pub post : R → LocalState → Post
   post rotator own = record { own = own; rotator = views.rotator rotator }
 
   -- A connection worker fails only where its edge's count rose, and else no connection is left. A rotation worker does
@@ -61,7 +61,7 @@ module _ {E K C W R : Type 0} (views : Views E K C W R) where
 
   module _ (people : People) (place : Place) where
     -- what came of a task: a connection worker's visits, or a rotation worker's turns
-    abbrev pub Did : Task E R → Task E R → Standing → Standing → Type 0
+    abbrev pub Did : Task E R → Task E R → LocalState → LocalState → Type 0
     Did (Door old) (Door new) from to =
         ConnectionWorkerDid views.sides people place (views.edge old) (views.edge new) from to
     Did (Turner old) (Turner new) from to = RotationWorkerDid views.replies place (post old from) (post new to)
@@ -69,7 +69,7 @@ module _ {E K C W R : Type 0} (views : Views E K C W R) where
     Did (Turner old) (Door new) from to = ⊥
 
     -- the marks that it left
-    abbrev pub marks_by : (old new : Task E R) (from to : Standing) → Did old new from to → List Mark
+    abbrev pub marks_by : (old new : Task E R) (from to : LocalState) → Did old new from to → List Mark
     marks_by (Door old) (Door new) from to did =
         marks_in turn_shape (turns_in views.sides people place did.visits)
     marks_by (Turner old) (Turner new) from to did = marks_in hold_shape (holds_in views.replies place did.turns)
@@ -77,9 +77,9 @@ module _ {E K C W R : Type 0} (views : Views E K C W R) where
     marks_by (Turner old) (Door new) from to did = absurd did
 
   module _ {A O : Type 0} {g : Ghosts A O Mark} where
-    -- the standing of a worker that has seen this history
-    abbrev pub standing_of : WorkerBy E C W R A O Mark g → History → Standing
-    standing_of worker seen = record {
+    -- the local state of a worker that has seen this history
+    abbrev pub local_state_of : WorkerBy E C W R A O Mark g → History → LocalState
+    local_state_of worker seen = record {
       seen = seen;
       readings = views.readings worker.clock;
       drawn = views.drawn worker.words;
@@ -89,14 +89,14 @@ module _ {E K C W R : Type 0} (views : Views E K C W R) where
     module _ (people : People) where
       -- what a worker did under its seat, from one history to another, and how it ended
       pub record Works (place : Place) (old new : WorkerBy E C W R A O Mark g) (from to : History) : Type 0 where
-        pub did : Did people place old.task new.task (standing_of old from) (standing_of new to)
+        pub did : Did people place old.task new.task (local_state_of old from) (local_state_of new to)
         pub ends : EndsAs new.failed old.task new.task
 
       -- the marks that a worker left
       abbrev pub marks_of : {place : Place} {old new : WorkerBy E C W R A O Mark g} {from to : History}
           → Works place old new from to → List Mark
       marks_of {place} {old} {new} {from} {to} works =
-          marks_by people place old.task new.task (standing_of old from) (standing_of new to) works.did
+          marks_by people place old.task new.task (local_state_of old from) (local_state_of new to) works.did
 
       -- A worker took out one pass and put one back, of the same gate and seat. Its own marks are those that it left.
       pub record HasWorked (base : Base) (gate : Gate A O Mark) (before after : Pass A O Mark g)

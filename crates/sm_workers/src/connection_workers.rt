@@ -5,7 +5,7 @@ ghost use Rattle.sm_io.specs.Edge.{IsFewer, told_more};
 ghost use Rattle.sm_lock.specs.Handles.{built_with, number, seen, IsIn};
 ghost use Rattle.sm_lock.specs.Story.{Grows};
 ghost use Rattle.sm_workers.specs.ConnectionWorkers.{ConnectionWorkerDid, EndsConnectionWorker};
-ghost use Rattle.sm_session.specs.Views.{sides_by, standing_by};
+ghost use Rattle.sm_session.specs.Views.{sides_by, local_state_by};
 ghost use Rattle.sm_workers.specs.Views.{edge_by};
 ghost use Rattle.sm_workers.specs.Visits.{Visit};
 
@@ -44,8 +44,8 @@ pub(crate) fn serve_connections<E: Edge<ConnEnd>, C: Clock, W: Words, D: Disk, R
     ensures did { ConnectionWorkerDid (sides_by E.C.Source E.C.Sink) people.now
         (record { base = base (built_with gate.now); seat = number pass })
         (edge_by E.Edge edge.old) (edge_by E.Edge edge.new)
-        (standing_by C.Clock W.Words (seen pass) clock.old words.old)
-        (standing_by C.Clock W.Words (seen result.pass) clock.new words.new) }
+        (local_state_by C.Clock W.Words (seen pass) clock.old words.old)
+        (local_state_by C.Clock W.Words (seen result.pass) clock.new words.new) }
     ensures ends { EndsConnectionWorker result.failed (edge_by E.Edge edge.old) (edge_by E.Edge edge.new) }
 {
     let mut pass = pass;
@@ -92,8 +92,8 @@ fn visit<E: Edge<ConnEnd>, C: Clock, W: Words, D: Disk, R: Rotator, H: Wait>(
         (record { base = base (built_with gate.now); seat = number pass }))
         × (visit.conn ≡ conn)
         × (E.back edge.new ≡ told_more (E.back edge.old) (visit.came, visit.note))
-        × (visit.from ≡ standing_by C.Clock W.Words (seen pass) clock.old words.old)
-        × (visit.to ≡ standing_by C.Clock W.Words (seen result) clock.new words.new) }
+        × (visit.from ≡ local_state_by C.Clock W.Words (seen pass) clock.old words.old)
+        × (visit.to ≡ local_state_by C.Clock W.Words (seen result) clock.new words.new) }
     ensures left { E.left edge.new ≡ E.left edge.old }
     ensures handed { E.handed edge.new ≡ E.handed edge.old }
     ensures faults { E.edge_faults edge.new ≡ E.edge_faults edge.old }

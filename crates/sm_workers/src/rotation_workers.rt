@@ -5,7 +5,7 @@ ghost use Rattle.sm_lock.specs.Handles.{built_with, number, seen, IsIn};
 ghost use Rattle.sm_lock.specs.Story.{Grows};
 ghost use Rattle.sm_pool.specs.Rounds.{ComesToRest};
 ghost use Rattle.sm_workers.specs.RotationWorkers.{RotationWorkerDid};
-ghost use Rattle.sm_session.specs.Views.{standing_by};
+ghost use Rattle.sm_session.specs.Views.{local_state_by};
 
 use sm_account::Account;
 use sm_disk::Disk;
@@ -29,11 +29,11 @@ pub(crate) fn take_turns<C: Clock, W: Words, D: Disk, R: Rotator, H: Wait>(
     ensures number { number result ≡ number pass }
     ensures did { RotationWorkerDid R.replies (record { base = base (built_with gate.now); seat = number pass })
         (record {
-          own = standing_by C.Clock W.Words (seen pass) clock.old words.old;
+          own = local_state_by C.Clock W.Words (seen pass) clock.old words.old;
           rotator = R.faults rotator.old;
         })
         (record {
-          own = standing_by C.Clock W.Words (seen result) clock.new words.new;
+          own = local_state_by C.Clock W.Words (seen result) clock.new words.new;
           rotator = R.faults rotator.new;
         }) }
 {

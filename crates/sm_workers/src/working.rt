@@ -2,7 +2,7 @@
 ghost use Rattle.std.specs.Prelude.{◌≡◌, Some};
 ghost use Rattle.sm_account.specs.Accounts.{base};
 ghost use Rattle.sm_lock.specs.Handles.{built_with, number, seen, IsIn};
-ghost use Rattle.sm_session.specs.Views.{standing_by};
+ghost use Rattle.sm_session.specs.Views.{local_state_by};
 ghost use Rattle.sm_workers.specs.Views.{views_by};
 ghost use Rattle.sm_workers.specs.Workers.{Did, EndsAs, IsReady, WorksWithItsPass};
 
@@ -34,8 +34,8 @@ fn do_task<E: Edge<ConnEnd>, C: Clock, W: Words, D: Disk, R: Rotator, H: Wait>(
     ensures number { number result.pass ≡ number pass }
     ensures did { Did (views_by E.Edge E.C.Source E.C.Sink C.Clock W.Words R.Rotator) people.now
         (record { base = base (built_with gate.now); seat = number pass }) task.old task.new
-        (standing_by C.Clock W.Words (seen pass) clock.old words.old)
-        (standing_by C.Clock W.Words (seen result.pass) clock.new words.new) }
+        (local_state_by C.Clock W.Words (seen pass) clock.old words.old)
+        (local_state_by C.Clock W.Words (seen result.pass) clock.new words.new) }
     ensures ends { EndsAs (views_by E.Edge E.C.Source E.C.Sink C.Clock W.Words R.Rotator) result.failed task.old
         task.new }
 {

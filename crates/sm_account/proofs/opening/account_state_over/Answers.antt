@@ -7,7 +7,7 @@ use Rattle.sm_account.proofs.opening.account_state_over.Goals as goal
 pub returns : goal.returns
 returns g c = record {
   kept = opened_kept c.args.opened c.args.limit c.requires.store c.requires.second c.requires.lawful
-      c.requires.standing _ c.requires.limits
+      c.requires.replayed _ c.requires.limits
       (record {
         table = c.into_parts-table.ensures.rows;
         store_is = refl;

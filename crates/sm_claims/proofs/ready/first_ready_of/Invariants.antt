@@ -1,6 +1,6 @@
 use Rattle.std.proofs.Common.{◌≡◌, drop}
 use Rattle.sm_claims.specs.Ready.{first_ready_of}
-use Rattle.sm_claims.specs.Standing.{claim_marks}
+use Rattle.sm_claims.specs.LiveClaims.{claim_marks}
 use Rattle.sm_claims.proofs.ready.first_ready_of.Given as goal
 
 abbrev pub invariant-loop-serial : goal.invariant-loop-serial

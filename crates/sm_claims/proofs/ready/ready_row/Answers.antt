@@ -1,5 +1,5 @@
 use Rattle.std.proofs.Common.{option_copied}
-use Rattle.sm_claims.specs.Standing.{claim_marks}
+use Rattle.sm_claims.specs.LiveClaims.{claim_marks}
 use Rattle.sm_claims.proofs.ReadyLemmas.{ready_has_job}
 use Rattle.sm_claims.proofs.ready.ready_row.Goals as goal
 

@@ -31,20 +31,20 @@ returns-in-Handle-clause-calls g c =
     let now = c.in-Handle.now in
     let request = c.in-Handle.request in
     called c.args.run c.handle-outcome.new.run c.args.call.now (calls.Handle person now c.in-Handle.drawn request)
-    c.handle-outcome.result c.standing.result c.in-Handle.is c.standing.ensures.same
+    c.handle-outcome.result c.with_invariants.result c.in-Handle.is c.with_invariants.ensures.same
     (subst (λ (drawn : List ℕ). Calls g.D.Disk g.R.Rotator c.args.run (calls.Handle person now drawn request)
     c.handle-outcome.result c.handle-outcome.new.run) c.as_slice.ensures c.handle-outcome.ensures)
 
 pub returns-in-Handle-clause-behind : goal.returns-in-Handle-clause-behind
-returns-in-Handle-clause-behind g c = c.standing.ensures.stands
+returns-in-Handle-clause-behind g c = c.with_invariants.ensures.stands
 
 pub returns-in-Work-clause-calls : goal.returns-in-Work-clause-calls
 returns-in-Work-clause-calls g c =
     called c.args.run c.work-outcome.new.run c.args.call.now (calls.Work c.in-Work.now) c.work-outcome.result
-    c.standing-in-Work.result c.in-Work.is c.standing-in-Work.ensures.same c.work-outcome.ensures.calls
+    c.with_invariants-in-Work.result c.in-Work.is c.with_invariants-in-Work.ensures.same c.work-outcome.ensures.calls
 
 pub returns-in-Work-clause-behind : goal.returns-in-Work-clause-behind
-returns-in-Work-clause-behind g c = c.standing-in-Work.ensures.stands
+returns-in-Work-clause-behind g c = c.with_invariants-in-Work.ensures.stands
 
 pub returns-in-Work-clause-later : goal.returns-in-Work-clause-later
 returns-in-Work-clause-later g c = c.work-outcome.ensures.later
@@ -52,28 +52,28 @@ returns-in-Work-clause-later g c = c.work-outcome.ensures.later
 pub returns-in-Report-clause-calls : goal.returns-in-Report-clause-calls
 returns-in-Report-clause-calls g c =
     called c.args.run c.report-outcome.new.run c.args.call.now (calls.Report c.in-Report.place c.in-Report.now)
-    c.report-outcome.result c.standing-in-Report.result c.in-Report.is c.standing-in-Report.ensures.same
+    c.report-outcome.result c.with_invariants-in-Report.result c.in-Report.is c.with_invariants-in-Report.ensures.same
     c.report-outcome.ensures
 
 pub returns-in-Report-clause-behind : goal.returns-in-Report-clause-behind
-returns-in-Report-clause-behind g c = c.standing-in-Report.ensures.stands
+returns-in-Report-clause-behind g c = c.with_invariants-in-Report.ensures.stands
 
 pub returns-in-Due-clause-calls : goal.returns-in-Due-clause-calls
 returns-in-Due-clause-calls g c =
     called c.args.run c.start_due-outcome.new.run c.args.call.now (calls.Due c.in-Due.now c.in-Due.drawn)
-    c.start_due-outcome.result c.standing-in-Due.result c.in-Due.is c.standing-in-Due.ensures.same
+    c.start_due-outcome.result c.with_invariants-in-Due.result c.in-Due.is c.with_invariants-in-Due.ensures.same
     c.start_due-outcome.ensures
 
 pub returns-in-Due-clause-behind : goal.returns-in-Due-clause-behind
-returns-in-Due-clause-behind g c = c.standing-in-Due.ensures.stands
+returns-in-Due-clause-behind g c = c.with_invariants-in-Due.ensures.stands
 
 pub returns-in-Ok-clause-calls : goal.returns-in-Ok-clause-calls
 returns-in-Ok-clause-calls g c =
-    called c.args.run c.in-Ok.run' c.args.call.now calls.Restart outcomes.Reopened c.standing-in-Ok.result
-    c.in-Restart.is c.standing-in-Ok.ensures.same c.in-Ok.ensures.calls
+    called c.args.run c.in-Ok.run' c.args.call.now calls.Restart outcomes.Reopened c.with_invariants-in-Ok.result
+    c.in-Restart.is c.with_invariants-in-Ok.ensures.same c.in-Ok.ensures.calls
 
 pub returns-in-Ok-clause-behind : goal.returns-in-Ok-clause-behind
-returns-in-Ok-clause-behind g c = c.standing-in-Ok.ensures.stands
+returns-in-Ok-clause-behind g c = c.with_invariants-in-Ok.ensures.stands
 
 pub returns-in-Err-clause-refused : goal.returns-in-Err-clause-refused
 returns-in-Err-clause-refused g c = record {

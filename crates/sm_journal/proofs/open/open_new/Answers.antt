@@ -2,7 +2,7 @@ use Rattle.std.proofs.Common.{◌≡◌, ℕ, List, [], refl, sym, subst}
 use Rattle.sm_disk.specs.OneFile.{EachHas}
 use Rattle.sm_journal.specs.Records.{Whole}
 use Rattle.sm_journal.specs.Journals.{IsOpened}
-use Rattle.sm_journal.proofs.Standing.{whole_rests}
+use Rattle.sm_journal.proofs.StandsLemmas.{whole_rests}
 use Rattle.sm_journal.proofs.open.open_new.Goals as goal
 
 pub returns-in-Ok-clause-opened : goal.returns-in-Ok-clause-opened

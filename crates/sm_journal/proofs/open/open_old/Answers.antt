@@ -3,7 +3,7 @@ use Rattle.sm_disk.specs.OneFile.{Leaves}
 use Rattle.sm_journal.specs.Places.{bodies_at}
 use Rattle.sm_journal.specs.Records.{front, Loose, SameList}
 use Rattle.sm_journal.proofs.Front.{length-front, loose_recovers}
-use Rattle.sm_journal.proofs.Standing.{keeps_list, one_kept}
+use Rattle.sm_journal.proofs.StandsLemmas.{keeps_list, one_kept}
 use Rattle.sm_journal.proofs.open.open_old.Goals as goal
 
 pub returns-in-Ok-settle-clause-opened : goal.returns-in-Ok-settle-clause-opened

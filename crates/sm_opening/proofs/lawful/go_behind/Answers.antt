@@ -11,15 +11,15 @@ go_on-requires c = subst InTime (sym c.as_slice.ensures)
 
 pub returns-in-Ok-clause-made : goal.returns-in-Ok-clause-made
 returns-in-Ok-clause-made c =
-    made_as (held_of c.args.loaded.now) c.args.standing c.as_slice.result.now c.requires.begins c.as_slice.ensures
-    c.in-Ok.standing c.in-Ok.ensures.after
+    made_as (held_of c.args.loaded.now) c.args.replayed c.as_slice.result.now c.requires.begins c.as_slice.ensures
+    c.in-Ok.replayed c.in-Ok.ensures.after
 
 pub returns-in-Ok-clause-lawful : goal.returns-in-Ok-clause-lawful
 returns-in-Ok-clause-lawful c =
-    lawful_as (held_of c.args.loaded.now) c.args.standing c.as_slice.result.now c.requires.begins c.as_slice.ensures
+    lawful_as (held_of c.args.loaded.now) c.args.replayed c.as_slice.result.now c.requires.begins c.as_slice.ensures
     c.args.edition c.requires.sound c.in-Ok.ensures.legal c.requires.spelled.entries
 
 pub stopped_behind-requires-clause-stops : goal.stopped_behind-requires-clause-stops
 stopped_behind-requires-clause-stops c =
-    stops_as (held_of c.args.loaded.now) c.args.standing c.as_slice.result.now c.requires.begins c.as_slice.ensures
+    stops_as (held_of c.args.loaded.now) c.args.replayed c.as_slice.result.now c.requires.begins c.as_slice.ensures
     c.in-Err.stopped c.in-Err.ensures.stopped

@@ -13,7 +13,7 @@ returns-in-Ok-Some-clause-takes g c =
     ∙ new_as _ _ _ _ _ _ _ _ c.in-Ok-Some.ensures.base c.format.ensures c.len.ensures c.requires.made in
     IfOk-weaker c.replace.result _ _
     (λ opened said. takes_base c.args.store (held_of c.args.loaded) c.args.limit c.requires.opened opened
-    (said.standing_is ∙ c.requires.made) c.in-Ok-Some.base new
+    (said.replayed_is ∙ c.requires.made) c.in-Ok-Some.base new
     (subst (λ limit. IsOpened limit (only c.in-Ok-Some.base) opened.store) c.requires.opened.under said.store)
     said.second said.taken said.replaced)
     c.replace.ensures.replaces
@@ -43,7 +43,7 @@ returns-in-Ok-None-clause-takes g c =
     let new = sym c.in-Ok-None.field-0-is
     ∙ new_as _ _ _ _ _ _ _ _ c.in-Ok-None.ensures.base c.format.ensures c.len.ensures c.requires.made in
     takes_found c.args.store (held_of c.args.loaded) c.args.limit c.requires.opened c.opened_with.result
-    (c.opened_with.ensures.standing ∙ c.requires.made) new c.opened_with.ensures.store c.opened_with.ensures.taken
+    (c.opened_with.ensures.replayed ∙ c.requires.made) new c.opened_with.ensures.store c.opened_with.ensures.taken
     c.opened_with.ensures.replaced
 
 pub returns-in-Ok-None-clause-any_moment : goal.returns-in-Ok-None-clause-any_moment

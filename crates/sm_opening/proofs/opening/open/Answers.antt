@@ -25,7 +25,7 @@ returns-in-Ok-clause-lawful g c =
 pub returns-in-Ok-clause-made : goal.returns-in-Ok-clause-made
 returns-in-Ok-clause-made g c =
     IfOk-weaker c.take_over.result _ _
-    (λ opened takes. takes.standing
+    (λ opened takes. takes.replayed
     ∙ sym (taken_makes (format_of c.in-Ok.store) c.args.limit (held_of c.in-Ok.loaded))
     ∙ ap made_of (sym takes.taken))
     c.take_over.ensures.takes

@@ -11,7 +11,7 @@ returns-in-Ok-clause-replaces g c =
       store = c.in-Ok.ensures.opened;
       second = c.in-Ok.ensures.format;
       taken = λ i. record { base = Some c.args.base; entries = c.empty.ensures i };
-      standing_is = refl;
+      replayed_is = refl;
       replaced = ap (λ n. Some (n, c.length-after.result)) c.length-before.ensures
           ∙ ap (λ n. Some (length_of c.args.store, n)) size;
     }

@@ -9,7 +9,7 @@ returns-in-Err-Illegal c =
         0,
         record {
           within = omega arith;
-          legal = none_come c.args.standing.now (omega (arith, c.requires.counted));
+          legal = none_come c.args.replayed.now (omega (arith, c.requires.counted));
           not = λ come. none come;
         },
         omega arith,

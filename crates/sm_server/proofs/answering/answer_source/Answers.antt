@@ -88,7 +88,7 @@ returns-then-not-sent-clause-runs g c =
       };
       sound = subst (λ (b : Base). Sound (replay b.rows (entries_in (history c.answer_message-sent.new.account))))
           (c.answer_message-sent.ensures.origin.base_stays ∙ stays)
-          (subst Sound c.standing.ensures.rows c.standing.ensures.sound);
+          (subst Sound c.invariants.ensures.rows c.invariants.ensures.sound);
     } in
     run_cut g.R.Rotator.replies c.args.people.now (base c.args.account.now) before c.loop-number.number at i.progress
     c.next_message.new.reader step refl refl turned later c.in-Ok.ensures.reads c.next_message.ensures.later
@@ -140,7 +140,7 @@ loop-number-preserved g c =
       };
       sound = subst (λ (b : Base). Sound (replay b.rows (entries_in (history c.answer_message-sent.new.account))))
           (c.answer_message-sent.ensures.origin.base_stays ∙ stays)
-          (subst Sound c.standing.ensures.rows c.standing.ensures.sound);
+          (subst Sound c.invariants.ensures.rows c.invariants.ensures.sound);
     } in
     record {
       origin = same_origin _ _ _ i.origin c.answer_message-sent.ensures.origin;

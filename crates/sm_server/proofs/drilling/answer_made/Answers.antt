@@ -70,7 +70,7 @@ loop-index-preserved g c =
             };
             sound = subst (λ (b : Base). Sound (replay b.rows (entries_in (history said.new.account))))
                 (said.ensures.origin.base_stays ∙ stays)
-                (subst Sound c.standing.ensures.rows c.standing.ensures.sound);
+                (subst Sound c.invariants.ensures.rows c.invariants.ensures.sound);
           } in
           made_more g.R.Rotator.replies c.args.people.now (base c.args.account.now) c.args.number c.loop-index.index
           outside step c.loop-index.refused (option_map reply_of c.loop-index.last) (i.made left taken source sink)

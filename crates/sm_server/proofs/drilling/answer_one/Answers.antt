@@ -3,8 +3,8 @@ use Rattle.sm_http.specs.Reading.{content}
 use Rattle.sm_seat_traces.proofs.OriginLemmas.{same_origin, unsure_since}
 use Rattle.sm_session.specs.Answer.{heard}
 use Rattle.sm_session.specs.Replies.{reply_of}
-use Rattle.sm_session.specs.Sessions.{Standing}
-use Rattle.sm_session.specs.Views.{standing_by}
+use Rattle.sm_session.specs.Sessions.{LocalState}
+use Rattle.sm_session.specs.Views.{local_state_by}
 use Rattle.sm_server.proofs.MessageRoundsLemmas.{turns_of}
 use Rattle.sm_server.proofs.drilling.answer_one.Goals as goal
 
@@ -13,10 +13,11 @@ returns-clause-turn g c =
     let said = c.take_turn-said in
     let r = c.turns.ensures.rotated in
     let before = c.args.account.now in
-    let old : Standing = standing_by g.C.Clock g.W.Words (history before) c.args.clock.now c.args.random.now in
-    let mid : Standing = standing_by g.C.Clock g.W.Words (history said.new.account) said.new.clock said.new.random in
-    let new : Standing =
-    standing_by g.C.Clock g.W.Words (history c.turns.new.account) c.turns.new.clock c.turns.new.words in
+    let old : LocalState = local_state_by g.C.Clock g.W.Words (history before) c.args.clock.now c.args.random.now in
+    let mid : LocalState =
+        local_state_by g.C.Clock g.W.Words (history said.new.account) said.new.clock said.new.random in
+    let new : LocalState =
+    local_state_by g.C.Clock g.W.Words (history c.turns.new.account) c.turns.new.clock c.turns.new.words in
     turns_of g.R.Rotator.replies (base before) (heard c.args.people.now (content c.args.message.now)) old mid
     (reply_of said.result) (g.D.Disk.faults (disk before)) (g.D.Disk.faults (disk said.new.account))
     (g.R.Rotator.faults c.args.rotator.now) said.ensures.turn new (g.D.Disk.faults (disk c.turns.new.account))

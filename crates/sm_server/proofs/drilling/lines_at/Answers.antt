@@ -19,7 +19,7 @@ returns g c =
     totals_after (base account) (made_of (taken account)).entries (history account) c.args.now in
     let totals : c.as_str.result.now ≡ after =
     c.as_str.ensures.value ∙ c.in_ok-totals.ensures
-    ∙ ap (λ (r : Rows). totals_of r c.args.now c.entries.result) (c.table.ensures ∙ c.standing.ensures.rows)
+    ∙ ap (λ (r : Rows). totals_of r c.args.now c.entries.result) (c.table.ensures ∙ c.invariants.ensures.rows)
     ∙ ap (totals_of (replay (base account).rows (entries_in (history account))) c.args.now)
     (c.entries.ensures ∙ made_count (taken account) (entries_in (history account))) in
     subst (λ (text : List ℕ). IfOk c.lines.result (λ made. string_bytes made ≡ text))

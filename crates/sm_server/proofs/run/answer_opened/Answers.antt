@@ -50,11 +50,11 @@ returns-clause-ran g c =
     (before (g.D.Disk.faults (disk old))) (after (g.D.Disk.faults (disk new))) first c.requires.later status
     (status_opened answered.result) (answered.ensures.runs (made_of (taken new)).entries)) in
     let stands : Stands g.D.Disk story (began old) (disk new) = record {
-      on_disk = c.standing.ensures.on_disk;
+      on_disk = c.invariants.ensures.on_disk;
       cause = cause_since (failed old) (failed new) first (g.D.Disk.faults (disk old)) (g.D.Disk.faults (disk new))
           c.requires.sure answered.ensures.unsure c.requires.later;
       faults = subst (λ d. FaultsBound (g.D.Disk.faults d) (history new) (g.D.Disk.faults (disk new)))
-          answered.ensures.origin.began_stays c.standing.ensures.faults;
+          answered.ensures.origin.began_stays c.invariants.ensures.faults;
     } in (
       story,
       refl,
@@ -65,7 +65,7 @@ returns-clause-ran g c =
           (subst (λ d. Runs (course_of replies story) status (before first) (after (g.D.Disk.faults d)))
           (sym c.close.ensures) runs),
       subst (Stands g.D.Disk story (began old)) (sym c.close.ensures) stands,
-      stays_vouched replies new c.standing.ensures.rows c.standing.ensures.vouched,
+      stays_vouched replies new c.invariants.ensures.rows c.invariants.ensures.vouched,
     )
 
 pub returns-clause-opened : goal.returns-clause-opened

@@ -16,7 +16,7 @@ returns-clause-shows g c =
     let s = c.summarize-status.ensures.shows in
     let cause = Rose (g.K.Sink.sink_faults c.args.sink.now) (g.K.Sink.sink_faults c.summarize-status.new.sink) in
     let same : rows account ≡ (base account).rows =
-    c.standing.ensures.rows ∙ ap (λ h. replay (base account).rows (entries_in h)) c.requires.fresh in
+    c.invariants.ensures.rows ∙ ap (λ h. replay (base account).rows (entries_in h)) c.requires.fresh in
     let many : (made_of (all_of account)).entries ≡ (made_of (taken account)).entries =
     made_count (taken account) (entries_in (history account))
     ∙ ap (λ h. (made_of (taken account)).entries + length (entries_in h)) c.requires.fresh ∙ omega arith in (
@@ -31,13 +31,13 @@ returns-clause-shows g c =
 
 pub returns-clause-stands : goal.returns-clause-stands
 returns-clause-stands g c people =
-    let standing = c.standing.ensures in
+    let holds = c.invariants.ensures in
     record {
-      on_disk = standing.on_disk;
+      on_disk = holds.on_disk;
       cause = λ some. absurd (let h : is_some (failed c.args.account) ≡ false = ap is_some c.requires.sure in cc);
-      faults = standing.faults;
+      faults = holds.faults;
     }
 
 pub returns-clause-vouched : goal.returns-clause-vouched
 returns-clause-vouched g c =
-    stays_vouched g.R.Rotator.replies c.args.account c.standing.ensures.rows c.standing.ensures.vouched
+    stays_vouched g.R.Rotator.replies c.args.account c.invariants.ensures.rows c.invariants.ensures.vouched

@@ -53,11 +53,11 @@ returns-clause-ran g c left source =
     (subst (λ (n : ℕ). Runs (course (base old) n) status (before first) (after (g.D.Disk.faults (disk new))))
     (ap (λ t. (made_of t).entries) (sym kept)) ran) in
     let stands : Stands g.D.Disk story (began old) (disk new) = record {
-      on_disk = c.standing.ensures.on_disk;
+      on_disk = c.invariants.ensures.on_disk;
       cause = cause_since (failed old) (failed new) first (g.D.Disk.faults (disk old)) (g.D.Disk.faults (disk new))
           c.requires.sure practised.ensures.unsure c.requires.later;
       faults = subst (λ d. FaultsBound (g.D.Disk.faults d) (history new) (g.D.Disk.faults (disk new)))
-          practised.ensures.origin.began_stays c.standing.ensures.faults;
+          practised.ensures.origin.began_stays c.invariants.ensures.faults;
     } in (
       story,
       refl,
@@ -66,5 +66,5 @@ returns-clause-ran g c left source =
       subst (λ d. Runs (course_of replies story) status (before first) (after (g.D.Disk.faults d)))
           (sym c.close.ensures) runs,
       subst (Stands g.D.Disk story (began old)) (sym c.close.ensures) stands,
-      stays_vouched replies new c.standing.ensures.rows c.standing.ensures.vouched,
+      stays_vouched replies new c.invariants.ensures.rows c.invariants.ensures.vouched,
     )

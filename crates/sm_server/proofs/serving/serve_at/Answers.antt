@@ -9,9 +9,9 @@ returns-in-Ok g c =
         taken_stays = at.taken_stays;
         began_stays = at.began_stays;
         base_stays = at.base_stays;
-        on_disk = c.standing.ensures.on_disk;
-        told = c.standing.ensures.told;
-        faults = c.standing.ensures.faults;
+        on_disk = c.invariants.ensures.on_disk;
+        told = c.invariants.ensures.told;
+        faults = c.invariants.ensures.faults;
         ends = ends_closed _ g.D.Disk c.args.people.now c.args.workers.now c.run_at.new.workers c.args.account
             c.in-Ok.account c.end_of_workers.result c.end_of_workers.ensures c.requires.empty at.base_stays
             at.closed at.left;

@@ -4,9 +4,9 @@ use Rattle.sm_account.specs.Accounts.{base, history, disk}
 use Rattle.sm_seat_traces.specs.SeatTraces.{NoGap}
 use Rattle.sm_session.specs.Answer.{Asked}
 use Rattle.sm_session.specs.Replies.{reply_of, unavailable}
-use Rattle.sm_session.specs.Sessions.{Place, Standing}
+use Rattle.sm_session.specs.Sessions.{Place, LocalState}
 use Rattle.sm_session.specs.Told.{told_once}
-use Rattle.sm_session.specs.Views.{standing_by}
+use Rattle.sm_session.specs.Views.{local_state_by}
 use Rattle.sm_session.proofs.HoldLemmas.{passed_by}
 use Rattle.sm_session.proofs.TurnLemmas.{failed_turn, forgotten_turn, reached_turn}
 use Rattle.sm_server.specs.MessageRounds.{seat}
@@ -38,10 +38,10 @@ returns-in-Failed-clause-turn g c =
     let faults = g.D.Disk.faults (disk c.args.account.now) in
     let place : Place = record { base = base c.args.account.now; seat = seat } in
     let asked : Asked = record { person = c.args.person.now; request = c.args.request.now } in
-    let old : Standing =
-    standing_by g.C.Clock g.W.Words (history c.args.account.now) c.args.clock.now c.args.random.now in
-    let new : Standing =
-    standing_by g.C.Clock g.W.Words (history c.args.account.now) c.args.clock.now c.draw.new.random in
+    let old : LocalState =
+    local_state_by g.C.Clock g.W.Words (history c.args.account.now) c.args.clock.now c.args.random.now in
+    let new : LocalState =
+    local_state_by g.C.Clock g.W.Words (history c.args.account.now) c.args.clock.now c.draw.new.random in
     passed_by NoGap (Rose faults faults) place (Ok asked) old new (reply_of c.say_refusal.result) refl refl refl
     c.in-Failed.ensures.bytes c.draw.ensures.later
     (failed_turn (Rose faults faults) (Rose old.random new.random) place.base old.seen asked c.say_refusal.result
@@ -52,10 +52,10 @@ returns-in-Memory-clause-turn g c =
     let faults = g.D.Disk.faults (disk c.args.account.now) in
     let place : Place = record { base = base c.args.account.now; seat = seat } in
     let asked : Asked = record { person = c.args.person.now; request = c.args.request.now } in
-    let old : Standing =
-    standing_by g.C.Clock g.W.Words (history c.args.account.now) c.args.clock.now c.args.random.now in
-    let new : Standing =
-    standing_by g.C.Clock g.W.Words (history c.args.account.now) c.args.clock.now c.draw.new.random in
+    let old : LocalState =
+    local_state_by g.C.Clock g.W.Words (history c.args.account.now) c.args.clock.now c.args.random.now in
+    let new : LocalState =
+    local_state_by g.C.Clock g.W.Words (history c.args.account.now) c.args.clock.now c.draw.new.random in
     passed_by NoGap (Rose faults faults) place (Ok asked) old new unavailable refl refl refl
     c.in-Memory.ensures.bytes c.draw.ensures.later
     (forgotten_turn (Rose faults faults) (Rose old.random new.random) place.base old.seen (Ok asked))

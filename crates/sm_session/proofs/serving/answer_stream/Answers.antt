@@ -11,8 +11,8 @@ use Rattle.sm_session.specs.declared.ended.Ended.TheVariants as ended
 use Rattle.sm_session.specs.declared.trace.TraceItem.{TraceItem}
 use Rattle.sm_session.specs.Endings.{Sides, Finishes, StopsBy}
 use Rattle.sm_session.specs.Replies.{reply_of, framed_answer}
-use Rattle.sm_session.specs.Sessions.{Place, Standing, Around, Serves, TakesTurn}
-use Rattle.sm_session.specs.Views.{around_by, sides_by, standing_by}
+use Rattle.sm_session.specs.Sessions.{Place, LocalState, Around, Serves, TakesTurn}
+use Rattle.sm_session.specs.Views.{around_by, sides_by, local_state_by}
 use Rattle.sm_session.proofs.CompleteLemmas.{listed}
 use Rattle.sm_session.proofs.SessionLemmas.{so_far_first, so_far_listed, so_far_more, session_cut, session_enough, session_memory, session_stops}
 use Rattle.sm_session.proofs.serving.answer_stream.Goals as goal
@@ -85,7 +85,8 @@ returns-then-not-sent-clause-served g c =
     c.loop-number.clock c.loop-number.words in
     let taken = c.take_turn-after in
     let sides : Sides = sides_by g.K.Source g.K.Sink c.reply-sent.new.conn in
-    let own : Standing = standing_by g.C.Clock g.W.Words (seen taken.result.pass) taken.new.clock taken.new.words in
+    let own : LocalState =
+        local_state_by g.C.Clock g.W.Words (seen taken.result.pass) taken.new.clock taken.new.words in
     let turn : TakesTurn place (heard c.args.people.now (content c.in-Ok-receive.message)) now.own own
     (reply_of taken.result.said) taken.result.item =
     subst (λ n. TakesTurn (record { base = place.base; seat = n })
@@ -123,7 +124,8 @@ loop-number-preserved g c =
     c.loop-number.clock c.loop-number.words in
     let taken = c.take_turn-after in
     let sides : Sides = sides_by g.K.Source g.K.Sink c.reply-sent.new.conn in
-    let own : Standing = standing_by g.C.Clock g.W.Words (seen taken.result.pass) taken.new.clock taken.new.words in
+    let own : LocalState =
+        local_state_by g.C.Clock g.W.Words (seen taken.result.pass) taken.new.clock taken.new.words in
     let turn : TakesTurn place (heard c.args.people.now (content c.in-Ok-receive.message)) now.own own
     (reply_of taken.result.said) taken.result.item =
     subst (λ n. TakesTurn (record { base = place.base; seat = n })

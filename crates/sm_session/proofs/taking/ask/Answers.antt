@@ -8,9 +8,9 @@ use Rattle.sm_lock.specs.Handles.{built_with, number, seen}
 use Rattle.sm_session.specs.declared.said.Said.TheVariants.{Memory}
 use Rattle.sm_session.specs.Answer.{Asked}
 use Rattle.sm_session.specs.Replies.{reply_of}
-use Rattle.sm_session.specs.Sessions.{Place, Standing}
+use Rattle.sm_session.specs.Sessions.{Place, LocalState}
 use Rattle.sm_session.specs.Told.{told_once}
-use Rattle.sm_session.specs.Views.{standing_by}
+use Rattle.sm_session.specs.Views.{local_state_by}
 use Rattle.sm_session.proofs.HoldLemmas.{fault_stands, is_touched, passed_behind, traced_by}
 use Rattle.sm_session.proofs.TurnLemmas.{answered_by, failed_turn, forgotten_turn, reached_turn}
 use Rattle.sm_session.proofs.taking.ask.Goals as goal
@@ -56,8 +56,8 @@ pub returns-in-Failed-clause-turn : goal.returns-in-Failed-clause-turn
 returns-in-Failed-clause-turn g c =
     let place : Place = record { base = base (built_with c.args.gate.now); seat = number c.args.pass } in
     let asked : Asked = record { person = c.args.person.now; request = c.args.request.now } in
-    let old : Standing = standing_by g.C.Clock g.W.Words (seen c.args.pass) c.args.clock.now c.args.words.now in
-    let new : Standing = standing_by g.C.Clock g.W.Words (seen c.pass_by.result.pass) c.args.clock.now
+    let old : LocalState = local_state_by g.C.Clock g.W.Words (seen c.args.pass) c.args.clock.now c.args.words.now in
+    let new : LocalState = local_state_by g.C.Clock g.W.Words (seen c.pass_by.result.pass) c.args.clock.now
     c.draw.new.random in
     passed_behind place (Ok asked) old new c.say_refusal.result c.pass_by.result.said c.pass_by.result.item
     (ap seen c.pass_by.ensures.pass) refl c.in-Failed.ensures.bytes c.draw.ensures.later c.pass_by.ensures.said
@@ -70,8 +70,9 @@ returns-in-Memory-clause-turn g c =
     let place : Place = record { base = base (built_with c.args.gate.now); seat = number c.args.pass } in
     let asked : Asked = record { person = c.args.person.now; request = c.args.request.now } in
     let passed = c.pass_by-in-Memory in
-    let old : Standing = standing_by g.C.Clock g.W.Words (seen c.args.pass) c.args.clock.now c.args.words.now in
-    let new : Standing = standing_by g.C.Clock g.W.Words (seen passed.result.pass) c.args.clock.now c.draw.new.random in
+    let old : LocalState = local_state_by g.C.Clock g.W.Words (seen c.args.pass) c.args.clock.now c.args.words.now in
+    let new : LocalState =
+        local_state_by g.C.Clock g.W.Words (seen passed.result.pass) c.args.clock.now c.draw.new.random in
     passed_behind place (Ok asked) old new Memory passed.result.said passed.result.item (ap seen passed.ensures.pass)
     refl c.in-Memory.ensures.bytes c.draw.ensures.later passed.ensures.said
     (forgotten_turn (Unit {0}) (Rose old.random new.random) place.base old.seen (Ok asked)) passed.ensures.item

@@ -7,9 +7,9 @@ use Rattle.sm_lock.specs.Handles.{built_with, number, seen}
 use Rattle.sm_session.specs.declared.said.Said.TheVariants.{Memory}
 use Rattle.sm_session.specs.Answer.{Asked, heard}
 use Rattle.sm_session.specs.Replies.{reply_of}
-use Rattle.sm_session.specs.Sessions.{Place, Standing, TakesTurn}
+use Rattle.sm_session.specs.Sessions.{Place, LocalState, TakesTurn}
 use Rattle.sm_session.specs.Turns.{IsTurn}
-use Rattle.sm_session.specs.Views.{standing_by}
+use Rattle.sm_session.specs.Views.{local_state_by}
 use Rattle.sm_session.proofs.HoldLemmas.{passed_behind}
 use Rattle.sm_session.proofs.TurnLemmas.{forgotten_turn, refused_turn, untouched}
 use Rattle.sm_session.proofs.taking.take_turn.Goals as goal
@@ -17,16 +17,17 @@ use Rattle.sm_session.proofs.taking.take_turn.Goals as goal
 pub returns-in-Ask-clause-turn : goal.returns-in-Ask-clause-turn
 returns-in-Ask-clause-turn g c =
     let place : Place = record { base = base (built_with c.args.gate.now); seat = number c.args.pass } in
-    let old : Standing = standing_by g.C.Clock g.W.Words (seen c.args.pass) c.args.clock.now c.args.words.now in
-    let new : Standing = standing_by g.C.Clock g.W.Words (seen c.ask.result.pass) c.ask.new.clock c.ask.new.words in
+    let old : LocalState = local_state_by g.C.Clock g.W.Words (seen c.args.pass) c.args.clock.now c.args.words.now in
+    let new : LocalState =
+        local_state_by g.C.Clock g.W.Words (seen c.ask.result.pass) c.ask.new.clock c.ask.new.words in
     subst (λ (w : Result Asked Why). TakesTurn place w old new (reply_of c.ask.result.said) c.ask.result.item)
     (sym c.in-Ask.ensures.hears) c.ask.ensures.turn
 
 pub returns-in-Refused-clause-turn : goal.returns-in-Refused-clause-turn
 returns-in-Refused-clause-turn g c =
     let place : Place = record { base = base (built_with c.args.gate.now); seat = number c.args.pass } in
-    let old : Standing = standing_by g.C.Clock g.W.Words (seen c.args.pass) c.args.clock.now c.args.words.now in
-    let new : Standing = record old { seen = seen c.pass_by.result.pass } in
+    let old : LocalState = local_state_by g.C.Clock g.W.Words (seen c.args.pass) c.args.clock.now c.args.words.now in
+    let new : LocalState = record old { seen = seen c.pass_by.result.pass } in
     let said = c.say_refusal in
     passed_behind place (heard c.args.people.now (content c.args.message.now)) old new said.result
     c.pass_by.result.said c.pass_by.result.item (ap seen c.pass_by.ensures.pass) refl refl (omega arith)
@@ -42,8 +43,8 @@ returns-in-Memory-clause-turn g c =
     let place : Place = record { base = base (built_with c.args.gate.now); seat = number c.args.pass } in
     let wanted : Result Asked Why = heard c.args.people.now (content c.args.message.now) in
     let passed = c.pass_by-in-Memory in
-    let old : Standing = standing_by g.C.Clock g.W.Words (seen c.args.pass) c.args.clock.now c.args.words.now in
-    let new : Standing = record old { seen = seen passed.result.pass } in
+    let old : LocalState = local_state_by g.C.Clock g.W.Words (seen c.args.pass) c.args.clock.now c.args.words.now in
+    let new : LocalState = record old { seen = seen passed.result.pass } in
     passed_behind place wanted old new Memory passed.result.said passed.result.item (ap seen passed.ensures.pass) refl
     refl (omega arith) passed.ensures.said
     (forgotten_turn (Unit {0}) (Rose old.random new.random) place.base old.seen wanted) passed.ensures.item

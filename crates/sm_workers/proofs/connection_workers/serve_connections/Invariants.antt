@@ -1,7 +1,7 @@
 use Rattle.std.proofs.Common.{◌≡◌}
 use Rattle.sm_account.specs.Accounts.{base}
 use Rattle.sm_lock.specs.Handles.{built_with, number, seen, IsIn}
-use Rattle.sm_session.specs.Views.{sides_by, standing_by}
+use Rattle.sm_session.specs.Views.{sides_by, local_state_by}
 use Rattle.sm_workers.specs.Views.{edge_by}
 use Rattle.sm_workers.proofs.ConnectionWorkerLemmas.{SoFar}
 use Rattle.sm_workers.proofs.connection_workers.serve_connections.Given as goal
@@ -14,6 +14,6 @@ invariant-loop g l = record {
   so_far : SoFar (sides_by g.E.C.Source g.E.C.Sink) l.people
       (record { base = base (built_with l.gate); seat = number l.initial.pass })
       (edge_by g.E.Edge l.initial.edge) (edge_by g.E.Edge l.edge)
-      (standing_by g.C.Clock g.W.Words (seen l.initial.pass) l.initial.clock l.initial.words)
-      (standing_by g.C.Clock g.W.Words (seen l.pass) l.clock l.words);
+      (local_state_by g.C.Clock g.W.Words (seen l.initial.pass) l.initial.clock l.initial.words)
+      (local_state_by g.C.Clock g.W.Words (seen l.pass) l.clock l.words);
 }

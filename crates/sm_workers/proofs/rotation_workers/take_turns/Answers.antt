@@ -1,7 +1,7 @@
 use Rattle.std.proofs.Common.{refl, ◌∙◌}
 use Rattle.sm_account.specs.Accounts.{base}
 use Rattle.sm_lock.specs.Handles.{built_with, number, seen}
-use Rattle.sm_session.specs.Views.{standing_by}
+use Rattle.sm_session.specs.Views.{local_state_by}
 use Rattle.sm_workers.proofs.RotationWorkerLemmas.{so_far_first, turned_last, turned_on}
 use Rattle.sm_workers.proofs.rotation_workers.take_turns.Goals as goal
 
@@ -12,7 +12,7 @@ loop-init g c = record {
   so_far = so_far_first g.R.Rotator.replies
       (record { base = base (built_with c.args.gate.now); seat = number c.args.pass })
       (record {
-        own = standing_by g.C.Clock g.W.Words (seen c.args.pass) c.args.clock.now c.args.words.now;
+        own = local_state_by g.C.Clock g.W.Words (seen c.args.pass) c.args.clock.now c.args.words.now;
         rotator = g.R.Rotator.faults c.args.rotator.now;
       });
 }

@@ -15,7 +15,7 @@ account_state_over-requires g c =
       store = ok.opened.takes.store;
       second = ok.opened.takes.second;
       lawful = ok.lawful;
-      standing = ok.made;
+      replayed = ok.made;
       limits = c.requires;
       later = subst (λ d. g.D.Disk.faults d ≤ g.D.Disk.faults (stores.disk_of c.in-Ok.opened.store))
           (sym c.of-began.ensures) ok.later;

@@ -20,7 +20,7 @@ use types.Part.{agg}
 use types.ByLocal.{alloc_all, pass_all, free_all, look_at, sets}
 use denote.Builtin.{u32}
 use Rattle.sm_claims.specs.contracts.claims.Claim as claim
-use Rattle.sm_claims.specs.Standing.{claim_mark}
+use Rattle.sm_claims.specs.LiveClaims.{claim_mark}
 use denote.Exit.{yes}
 use denote.RattleType.{owns}
 use denote.Ref.{shr_vals, shr_Tells}

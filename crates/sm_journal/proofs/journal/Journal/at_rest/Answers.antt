@@ -1,6 +1,6 @@
 use Rattle.std.proofs.Common.{None, refl, arith}
 use Rattle.sm_journal.specs.declared.tail.Tail.TheVariants.{Sure}
-use Rattle.sm_journal.proofs.Standing.{ends_either}
+use Rattle.sm_journal.proofs.StandsLemmas.{ends_either}
 use Rattle.sm_journal.proofs.journal.Journal.at_rest.Goals as goal
 
 pub returns-clause-opened : goal.returns-clause-opened

@@ -1,5 +1,5 @@
 use Rattle.std.proofs.Common.{None}
-use Rattle.sm_journal.proofs.Standing.{sure_ends}
+use Rattle.sm_journal.proofs.StandsLemmas.{sure_ends}
 use Rattle.sm_journal.proofs.journal.Journal.close.Goals as goal
 
 pub returns-clause-idle : goal.returns-clause-idle

@@ -2,7 +2,7 @@ use Rattle.std.proofs.Common.{◌≡◌, length, arith}
 use Rattle.sm_disk.specs.OneFile.{EachHas}
 use Rattle.sm_journal.specs.Records.{front, Gated, RecoversEither}
 use Rattle.sm_journal.proofs.Front.{length-front}
-use Rattle.sm_journal.proofs.Standing.{behind_of, behind_either, gate_gated, gated_gate, loose_either, less_seen, set_closed}
+use Rattle.sm_journal.proofs.StandsLemmas.{behind_of, behind_either, gate_gated, gated_gate, loose_either, less_seen, set_closed}
 use Rattle.sm_journal.proofs.journal.Journal.close_gate.Goals as goal
 
 pub returns-in_err-set_gate-in-Gate-clause-any_moment : goal.returns-in_err-set_gate-in-Gate-clause-any_moment

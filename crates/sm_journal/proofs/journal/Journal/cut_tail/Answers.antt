@@ -4,7 +4,7 @@ use Rattle.sm_journal.specs.Records.{front, AtRest, Loose, RecoversEither}
 use Rattle.sm_journal.specs.Tails.{is_unsure_tail}
 use Rattle.sm_journal.specs.declared.tail.Tail.TheVariants.{Sure}
 use Rattle.sm_journal.proofs.Front.{length-front}
-use Rattle.sm_journal.proofs.Standing.{body_loose, loose_body, loose_either, ends_either, now_has, less, at_err}
+use Rattle.sm_journal.proofs.StandsLemmas.{body_loose, loose_body, loose_either, ends_either, now_has, less, at_err}
 use Rattle.sm_journal.proofs.journal.Journal.cut_tail.Goals as goal
 
 pub returns-in_err-cut_behind-clause-any_moment : goal.returns-in_err-cut_behind-clause-any_moment

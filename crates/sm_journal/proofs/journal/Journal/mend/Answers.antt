@@ -1,4 +1,4 @@
-use Rattle.sm_journal.proofs.Standing.{then_mended, at_err}
+use Rattle.sm_journal.proofs.StandsLemmas.{then_mended, at_err}
 use Rattle.sm_journal.proofs.journal.Journal.mend.Goals as goal
 
 pub returns-in_err-cut_tail-clause-any_moment : goal.returns-in_err-cut_tail-clause-any_moment

@@ -2,7 +2,7 @@ use Rattle.std.proofs.Common.{◌≡◌, [], ◌∷◌, ◌++◌, length, Some, 
 use Rattle.sm_disk.specs.OneFile.{EachHas}
 use Rattle.sm_journal.specs.Records.{front, entry_of, AtRest, Loose, Gated, RecoversEither}
 use Rattle.sm_journal.proofs.Front.{length-front, size-push, within-push}
-use Rattle.sm_journal.proofs.Standing.{loose_either, gated_either, ends_either, whole, opened, sure_ends, closed_gated, now_has, less, both, at_err}
+use Rattle.sm_journal.proofs.StandsLemmas.{loose_either, gated_either, ends_either, whole, opened, sure_ends, closed_gated, now_has, less, both, at_err}
 use Rattle.sm_journal.specs.declared.tail.Tail.TheVariants.{Sure}
 use Rattle.sm_journal.proofs.journal.Journal.write.Goals as goal
 

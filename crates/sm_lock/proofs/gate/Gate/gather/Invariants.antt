@@ -1,6 +1,6 @@
 use Rattle.std.proofs.Common.{◌≡◌, [], ◌∷◌, ◌++◌, All, map}
 use Rattle.sm_lock.specs.Story.{Grows}
-use Rattle.sm_lock.specs.Standing.{Outside}
+use Rattle.sm_lock.specs.SeatStates.{Outside}
 use Rattle.sm_lock.specs.Handles.{number, seen, IsSeatOf}
 use Rattle.sm_lock.proofs.gate.Gate.gather.Given as goal
 

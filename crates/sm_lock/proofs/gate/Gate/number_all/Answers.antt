@@ -5,7 +5,7 @@ use Rattle.std.proofs.lemmas.List.{map-append}
 use Rattle.std.proofs.lemmas.List.Elements.{All-push}
 use Rattle.std.specs.List.{range_with_len}
 use Rattle.sm_lock.specs.View.{builders, newcomer, counted_up}
-use Rattle.sm_lock.specs.Standing.{Outside}
+use Rattle.sm_lock.specs.SeatStates.{Outside}
 use Rattle.sm_lock.specs.Handles.{built_with, number, seen, mine, IsIn}
 use Rattle.sm_lock.specs.Story.{entries_of}
 use Rattle.sm_lock.proofs.Passes.{range-more, drop-built}

@@ -2,7 +2,7 @@ use Rattle.std.proofs.Common.{rules, ◌+◌, ◌∷◌, [], ap, ◌∙◌, sym,
 use Rattle.atomic_table.specs.Table.{rest}
 use Rattle.sm_lock.specs.declared.view.QueuePlace.TheVariants.{Out, Inside, Waking}
 use Rattle.sm_lock.specs.View.{turned, saw, ticket}
-use Rattle.sm_lock.specs.Standing.{AddsOne}
+use Rattle.sm_lock.specs.SeatStates.{AddsOne}
 use Rattle.sm_lock.proofs.SlotSteps.{raises, returns_value}
 use Rattle.sm_lock.proofs.QueueSteps.{serves}
 use Rattle.sm_lock.proofs.gate.Gate.put.Goals as goal

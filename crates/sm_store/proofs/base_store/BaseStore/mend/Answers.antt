@@ -1,5 +1,5 @@
 use Rattle.std.proofs.Common.{refl}
-use Rattle.sm_journal.proofs.Standing.{at_err}
+use Rattle.sm_journal.proofs.StandsLemmas.{at_err}
 use Rattle.sm_store.proofs.BaseStands.{store_is, holds_on, holds_sure, mend_leaves, mend_recovers}
 use Rattle.sm_store.proofs.base_store.BaseStore.mend.Goals as goal
 

@@ -1,6 +1,6 @@
 use Rattle.std.proofs.Common.{map, refl}
 use Rattle.std.specs.Option.{option_map}
-use Rattle.sm_journal.proofs.Standing.{at_err}
+use Rattle.sm_journal.proofs.StandsLemmas.{at_err}
 use Rattle.sm_record.specs.declared.edition.Edition.TheVariants.{First}
 use Rattle.sm_record.specs.Spelling.{spelling}
 use Rattle.sm_store.proofs.StoreStands.{store_is, holds_on, holds_sure, mend_leaves}

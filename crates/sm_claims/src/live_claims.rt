@@ -1,7 +1,7 @@
 //! The claims that stand: those that a later look can still meet.
 ghost use Rattle.std.specs.Prelude.{◌≡◌, ◌<◌, ◌≤◌, filter, vec_len, vec_capacity};
 ghost use Rattle.sm_rotation.specs.Step.{same_stage};
-ghost use Rattle.sm_claims.specs.Standing.{same_at, is_same_step, still_counts, standing_with};
+ghost use Rattle.sm_claims.specs.LiveClaims.{same_at, is_same_step, still_counts, live_claims_with};
 
 use crate::claims::{Claim, is_open, is_same_arn};
 use sm_model::{At, Moment, Stage};
@@ -51,7 +51,7 @@ fn drop_others(claims: &mut Vec<Claim>, newer: &Claim, from: Moment)
 /// than this.
 pub fn add_claim(claims: &mut Vec<Claim>, claim: Claim, from: Moment)
     requires { vec_len claims.old < vec_capacity claims.old }
-    ensures { claims.new.items ≡ standing_with claims.old.items claim from }
+    ensures { claims.new.items ≡ live_claims_with claims.old.items claim from }
 {
     drop_others(claims, &claim, from);
     claims.push_reserved(claim);

@@ -1,7 +1,7 @@
 use Rattle.sm_store.proofs.BaseStands.{holds_recover}
 use Rattle.sm_account.specs.Accounts.{all_of, failed}
 use Rattle.sm_account.proofs.VouchLemmas.{kept_vouched}
-use Rattle.sm_account.proofs.account.Account.standing.Goals as goal
+use Rattle.sm_account.proofs.account.Account.invariants.Goals as goal
 
 pub returns-clause-on_disk : goal.returns-clause-on_disk
 returns-clause-on_disk g c =

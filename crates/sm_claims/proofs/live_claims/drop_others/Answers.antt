@@ -1,7 +1,7 @@
 use Rattle.std.proofs.Common.{rules}
 use Rattle.std.proofs.lemmas.Fn.{filter_same}
-use Rattle.sm_claims.specs.Standing.{still_counts}
-use Rattle.sm_claims.proofs.standing.drop_others.Goals as goal
+use Rattle.sm_claims.specs.LiveClaims.{still_counts}
+use Rattle.sm_claims.proofs.live_claims.drop_others.Goals as goal
 
 pub returns-clause-others : goal.returns-clause-others
 returns-clause-others c =

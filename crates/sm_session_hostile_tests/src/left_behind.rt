@@ -16,7 +16,7 @@ pub struct Seen {
 /// What is seen of an account, and of those that its disk recovers behind crashes, if it is not damaged: with each file
 /// as it was synced last, with it as it reads, and with other bytes where it was not synced.
 #[derive(Drop)]
-pub struct Standing {
+pub struct LeftBehind {
     now: Seen,
     recovered: Vec<Option<Seen>>,
 }
@@ -54,14 +54,14 @@ fn recovered<R: Wait>(rt: &R, alloc: Global, disk: MemoryDisk) -> Result<Option<
 }
 
 /// How an account stands.
-pub fn standing_of<R: Wait>(rt: &R, alloc: Global, account: Kept) -> Result<Standing, NoMemory> {
+pub fn left_behind_of<R: Wait>(rt: &R, alloc: Global, account: Kept) -> Result<LeftBehind, NoMemory> {
     let (account, now) = look(rt, alloc, account)?;
     let disk = account.close();
     let mut all = Vec::new(alloc);
     for fill in [0, 1, 7] {
         all.push(recovered(rt, alloc, disk.crash(fill)?)?)?;
     }
-    Ok(Standing {
+    Ok(LeftBehind {
         now,
         recovered: all,
     })
@@ -75,7 +75,7 @@ fn is_found(found: &Option<Seen>, wanted: &Seen) -> bool {
     }
 }
 
-impl Standing {
+impl LeftBehind {
     /// Whether the account is seen so, and each that its disk recovers.
     pub fn is_all(&self, wanted: &Seen) -> bool {
         let found = self.recovered.as_slice();

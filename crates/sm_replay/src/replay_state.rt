@@ -16,13 +16,13 @@ use std::marker::Model;
 /// The rows that entries made, the moment of the last of them, and how many they are. Contracts see it as the base that
 /// further entries may be counted from, which is sound.
 #[derive(Drop)]
-pub struct Standing {
+pub struct ReplayState {
     table: Table,
     last: Moment,
     entries: u64,
 }
 
-impl Model for Standing {
+impl Model for ReplayState {
     ghost use Rattle.sm_record.specs.declared.base.Base.{Base};
     ghost use Rattle.sm_sound.specs.Bases.{IsSound};
 
@@ -48,13 +48,13 @@ pub enum Refusal {
     Memory,
 }
 
-impl Standing {
+impl ReplayState {
     /// Before all entries. It takes no memory.
     #[tactic(auto, using(crate::proofs::FollowLemmas::nothing_sound))]
-    pub fn new(alloc: Global) -> Standing
+    pub fn new(alloc: Global) -> ReplayState
         ensures { result ≡ origin }
     {
-        Standing {
+        ReplayState {
             table: Table::new(alloc),
             last: Moment(0),
             entries: 0,
@@ -62,12 +62,12 @@ impl Standing {
     }
 
     /// Behind so many entries, of which the last was made at the moment and which left these rows. It takes no memory.
-    pub fn over(table: Table, last: Moment, entries: u64) -> Standing
+    pub fn over(table: Table, last: Moment, entries: u64) -> ReplayState
         requires rows { Sound table }
         requires last { last.0 ≤ LAST_READING }
         ensures { result ≡ record { rows = table; last = last; entries = entries } }
     {
-        Standing {
+        ReplayState {
             table,
             last,
             entries,
@@ -75,12 +75,12 @@ impl Standing {
     }
 
     /// Behind the entries of a sound base.
-    pub fn of(alloc: Global, base: &Base) -> Result<Standing, NoMemory>
+    pub fn of(alloc: Global, base: &Base) -> Result<ReplayState, NoMemory>
         requires { IsSound base.now }
-        ensures { IfOk result (λ standing. standing ≡ base.now) }
+        ensures { IfOk result (λ replayed. replayed ≡ base.now) }
     {
         let table = Table::of(alloc, &base.rows)?;
-        Ok(Standing::over(table, base.last, base.entries))
+        Ok(ReplayState::over(table, base.last, base.entries))
     }
 
     /// The rows. It takes no memory.
@@ -111,7 +111,7 @@ impl Standing {
         ensures entries { result.2 ≡ self.entries }
         ensures sound { IsSound self }
     {
-        let Standing {
+        let ReplayState {
             table,
             last,
             entries,
@@ -164,20 +164,20 @@ impl Standing {
 
     /// Makes entries again, one after the other, each judged at the rows of those before it.
     #[tactic(auto, using(crate::proofs::FollowLemmas::in_time_at, crate::proofs::FollowLemmas::all_gone))]
-    pub fn go_on(self, alloc: Global, entries: &[Entry]) -> Result<Standing, Stopped>
+    pub fn go_on(self, alloc: Global, entries: &[Entry]) -> Result<ReplayState, Stopped>
         requires { InTime entries.now }
-        ensures after { IfOk result (λ standing. standing ≡ after_all self entries.now) }
-        ensures legal { IfOk result (λ standing. MayCome self entries.now) }
+        ensures after { IfOk result (λ replayed. replayed ≡ after_all self entries.now) }
+        ensures legal { IfOk result (λ replayed. MayCome self entries.now) }
         ensures stopped { IfErr result (StopsAt self entries.now) }
     {
-        let mut standing = self;
+        let mut replayed = self;
         for k in 0..entries.len() {
-            match standing.follow(alloc, &entries[k]) {
+            match replayed.follow(alloc, &entries[k]) {
                 Ok(()) => {}
                 Err(Refusal::Illegal) => return Err(Stopped::Illegal(k)),
                 Err(Refusal::Memory) => return Err(Stopped::Memory),
             }
         }
-        Ok(standing)
+        Ok(replayed)
     }
 }

@@ -1,5 +1,5 @@
 use Rattle.std.proofs.Common.{refl}
-use Rattle.sm_drive.proofs.step.standing.Goals as goal
+use Rattle.sm_drive.proofs.step.with_invariants.Goals as goal
 
 pub returns-clause-same : goal.returns-clause-same
 returns-clause-same g c = refl

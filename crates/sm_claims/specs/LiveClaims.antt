@@ -34,5 +34,5 @@ still_counts newer from claim =
     is_open claim.made from && not (is_same_step claim newer && nat_le claim.made.0 newer.made.0)
 
 -- the claims that stand once one was made
-abbrev pub standing_with : List Claim → Claim → Moment → List Claim
-standing_with claims newer from = filter (still_counts newer from) claims ++ newer ∷ []
+abbrev pub live_claims_with : List Claim → Claim → Moment → List Claim
+live_claims_with claims newer from = filter (still_counts newer from) claims ++ newer ∷ []

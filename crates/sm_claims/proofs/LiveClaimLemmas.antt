@@ -17,7 +17,7 @@ use Rattle.sm_claims.specs.declared.claims.Claim.{Claim}
 use Rattle.sm_claims.specs.declared.claims.TheConstants.{CLAIM_SECONDS}
 use Rattle.sm_claims.specs.Claims.{is_claim_of, is_claimed, is_open}
 use Rattle.sm_claims.specs.Ready.{first_ready, is_ready, is_ready_if}
-use Rattle.sm_claims.specs.Standing.{claim_mark, claim_marks, is_same_step, same_at, standing_with, still_counts}
+use Rattle.sm_claims.specs.LiveClaims.{claim_mark, claim_marks, is_same_step, same_at, live_claims_with, still_counts}
 
 -- what is asked of the claims is asked of their marks
 pub any_marks : (claims : List Claim) (arn : List ℕ) (job : Job) (moment : Moment)
@@ -113,7 +113,7 @@ module _ (from : Moment) (newer : Claim) (arn : List ℕ) (job : Job) (moment : 
 
   -- the claims that stand once one was made say what those before and the new one say
   pub stands_with : (claims : List Claim)
-      → is_claimed (claim_marks (standing_with claims newer from)) arn job moment
+      → is_claimed (claim_marks (live_claims_with claims newer from)) arn job moment
       ≡ (is_claimed (claim_marks claims) arn job moment || here newer)
   stands_with [] = or-false (here newer)
   stands_with (claim ∷ claims) = by (still_counts newer from claim) refl (stands_with claims)
