@@ -10,7 +10,7 @@ use Rattle.sm_rotation.specs.Vouched.{Replies}
 use Rattle.sm_session.specs.Told.{Told}
 use Rattle.sm_seat_traces.proofs.KnownLemmas.{append_known-nil, prepend_known-nil}
 use Rattle.sm_summary.specs.Summary.{IsSummary}
-use Rattle.sm_server.specs.declared.asked.Task.TheVariants.{Summarize}
+use Rattle.sm_server.specs.declared.asked.RunTask.TheVariants.{Summarize}
 use Rattle.sm_server.specs.declared.status.Status.{Status}
 use Rattle.sm_server.specs.declared.status.Status.TheVariants.{Done, Words, Damaged, OpenFault, Memory, People, SinkFault, SourceFault, EdgeFault, Cut, BadMessage, Enough}
 use Rattle.sm_server.specs.Checks.{ChecksAt, ChecksBy, Shows, WritesBy}

@@ -28,8 +28,8 @@ use Rattle.sm_session.specs.Streams.{message_limit, StartWith, EndsWell}
 use Rattle.sm_session.specs.Told.{Growth}
 use Rattle.sm_session.proofs.StreamLemmas.{start_prefix, start_more, no_messages}
 use Rattle.sm_session.proofs.TurnLemmas.{turn_weaker}
-use Rattle.sm_server.specs.declared.asked.Task.{Task}
-use Rattle.sm_server.specs.declared.asked.Task.TheVariants.{Answer, Practise, Summarize}
+use Rattle.sm_server.specs.declared.asked.RunTask.{RunTask}
+use Rattle.sm_server.specs.declared.asked.RunTask.TheVariants.{Answer, Practise, Summarize}
 use Rattle.sm_server.specs.Asked.{WordsDecide, PeopleDecide}
 use Rattle.sm_server.specs.Complete.{Steady, NoneFailed, ModelRound, ModelRounds, AnswersEach, ReadsWhole, Orders, Ran}
 use Rattle.sm_server.specs.Outside.{Outside, Trace, growth}
@@ -208,7 +208,7 @@ module _ (course : Course) (before after : Outside) (trace : Trace)
           (λ all end are. let more = start_prefix input e.messages all end e.ends.2 are in
           first_of_more e.messages all more.0 more.1 e.ends.0)
 
-      each_at : (task : Task) (status : Status) → EndedAt task course status input left trace → (status ≡ Memory → ⊥)
+      each_at : (task : RunTask) (status : Status) → EndedAt task course status input left trace → (status ≡ Memory → ⊥)
           → AnswersEach course input trace.written
       each_at Answer status e other = each_answered status e other
       each_at Summarize status e other = each_none input e.unread
@@ -268,7 +268,7 @@ module _ (course : Course) (before after : Outside) (trace : Trace)
         whole_answered (BadMessage at) e = absurd (not_bad e.ends.0 e.ends.1.1.place e.messages e.ends.1.1.ends)
         whole_answered Enough e = absurd (not_enough e.messages e.ends.2 e.ends.0)
 
-        whole_at : (task : Task) → task ≡ Answer → (status : Status) → EndedAt task course status input left trace
+        whole_at : (task : RunTask) → task ≡ Answer → (status : Status) → EndedAt task course status input left trace
             → (status ≡ Done) ⊎ (status ≡ Memory)
         whole_at Answer is status e = whole_answered status e
         whole_at Summarize is status e = absurd (let h : Summarize ≡ Answer = is in cc)

@@ -5,8 +5,8 @@ use Rattle.sm_http.specs.Messages.{Message}
 use Rattle.sm_principal.specs.declared.people.People.{People as Persons}
 use Rattle.sm_command_line.specs.declared.settings.Settings.{Settings}
 use Rattle.sm_session.specs.Told.{Growth, Within}
-use Rattle.sm_server.specs.declared.asked.Task.{Task}
-use Rattle.sm_server.specs.declared.asked.Task.TheVariants.{Answer, Practise, Summarize}
+use Rattle.sm_server.specs.declared.asked.RunTask.{RunTask}
+use Rattle.sm_server.specs.declared.asked.RunTask.TheVariants.{Answer, Practise, Summarize}
 use Rattle.sm_server.specs.declared.status.Status.{Status}
 use Rattle.sm_server.specs.declared.status.Status.TheVariants.{Done, Words, Damaged, OpenFault, Memory, People, SinkFault, SourceFault, EdgeFault, Cut, BadMessage, Enough}
 use Rattle.sm_server.specs.Asked.{task_of_words, WordsDecide, PeopleDecide}
@@ -68,7 +68,7 @@ module _ (course : Course) (before after : Outside) (earlier : ℕ) (early : ear
       ends = e.ends;
     }
 
-    at_since : (task : Task) (status : Status) (input : List ℕ) (left : Option (List ℕ))
+    at_since : (task : RunTask) (status : Status) (input : List ℕ) (left : Option (List ℕ))
         → EndedAt task course status input left trace → EndedAt task course status input left further
     at_since Answer status input left e = answers_since status input left e
     at_since Summarize status input left e = checks_since status input e
@@ -138,7 +138,7 @@ followed_understood (Cut bytes) f = tt
 followed_understood (BadMessage place) f = tt
 followed_understood Enough f = tt
 
-pub words_decided : (status : Status) (asked : Option Settings) (task : Task) → WasUnderstood status
+pub words_decided : (status : Status) (asked : Option Settings) (task : RunTask) → WasUnderstood status
     → task_of_words asked ≡ Ok task → WordsDecide status asked task
 words_decided Done asked task f are = are
 words_decided Words asked task f are = absurd f

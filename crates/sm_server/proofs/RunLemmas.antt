@@ -31,7 +31,7 @@ use Rattle.sm_session.specs.Streams.{message_limit}
 use Rattle.sm_session.specs.Told.{Told, Growth, Within}
 use Rattle.sm_seat_traces.proofs.KnownLemmas.{append_known-nil, told_more}
 use Rattle.sm_session.proofs.WireLemmas.{Wire, wire_first, wire_enough, wire_stops, wire_more, wire_cut}
-use Rattle.sm_server.specs.declared.asked.Task.TheVariants.{Answer}
+use Rattle.sm_server.specs.declared.asked.RunTask.TheVariants.{Answer}
 use Rattle.sm_server.specs.Brought.{Brings}
 use Rattle.sm_server.specs.Outside.{Outside, sides_of, growth, Trace, Passed}
 use Rattle.sm_server.specs.Ran.{Course, AreAnswered, passage_of, Ended as RunEnded, Runs}

@@ -19,8 +19,8 @@ use Rattle.sm_principal.specs.declared.people.PeopleRefused.TheVariants as refus
 use Rattle.sm_principal.specs.Callers.{told}
 use Rattle.sm_session.specs.Told.{nothing_told}
 use Rattle.sm_seat_traces.proofs.KnownLemmas.{append_known-nil, prepend_known-nil}
-use Rattle.sm_server.specs.declared.asked.Task.{Task}
-use Rattle.sm_server.specs.declared.asked.Task.TheVariants.{Answer, Practise, Summarize}
+use Rattle.sm_server.specs.declared.asked.RunTask.{RunTask}
+use Rattle.sm_server.specs.declared.asked.RunTask.TheVariants.{Answer, Practise, Summarize}
 use Rattle.sm_server.specs.Asked.{end_of_people, task_of_mode, task_of_words, FollowsPeople, FollowsWords, WordsDecide, PeopleDecide}
 use Rattle.sm_server.specs.Outside.{Outside, Trace}
 use Rattle.sm_server.specs.Ran.{Course, Story, course_of, AreAnswered, EndedAt, Ended, Runs}
@@ -31,7 +31,7 @@ use Rattle.sm_server.proofs.StoredLemmas.{none_vouched, nothing_held}
 use Rattle.sm_server.proofs.RunLemmas.{counts_in, trace_of, passed_by}
 
 -- nothing was opened, and nothing happened
-abbrev pub no_story : Task → Persons → Story
+abbrev pub no_story : RunTask → Persons → Story
 no_story task people = record { task = task; people = people; taken = nothing_held; history = []; failed = None }
 
 -- between these nothing was read, written, read from the clock or drawn, and only the disk's count may have risen
@@ -44,15 +44,15 @@ pub record Still (before after : Outside) : Type 0 where
   pub random : after.counts.random ≡ before.counts.random
   pub rotator : after.counts.rotator ≡ before.counts.rotator
 
-module _ (replies : Replies) (task : Task) (people : Persons) (before after : Outside) (still : Still before after)
+module _ (replies : Replies) (task : RunTask) (people : Persons) (before after : Outside) (still : Still before after)
   where
-    abbrev none : Task → Course
+    abbrev none : RunTask → Course
     none task = course_of replies (no_story task people)
 
     abbrev nothing : Trace
     nothing = trace_of before after [] nothing_told
 
-    abbrev none_answered : (t : Task) → AreAnswered (none t) [] nothing
+    abbrev none_answered : (t : RunTask) → AreAnswered (none t) [] nothing
     none_answered t = record {
       brought = brought_nothing (counts_in before);
       turns = refl;
@@ -63,7 +63,7 @@ module _ (replies : Replies) (task : Task) (people : Persons) (before after : Ou
       rotator = ap (λ n. record { before = before.counts.rotator; after = n }) still.rotator;
     }
 
-    ended_at : (t : Task) → EndedAt t (none t) statuses.Memory [] after.left nothing
+    ended_at : (t : RunTask) → EndedAt t (none t) statuses.Memory [] after.left nothing
     ended_at Answer =
         record { messages = []; answered = none_answered Answer; ends = (omega arith, refl, inl ([], refl)) }
     ended_at Summarize = record { unread = refl; unmarked = refl; undrawn = refl; checks = refl }
@@ -91,7 +91,7 @@ module _ (replies : Replies) (task : Task) (people : Persons) (before after : Ou
       ended = ended;
     }
 
-module _ {D : Type 0} (G : Ghosts D) (replies : Replies) (task : Task) (people : Persons) (old : D) where
+module _ {D : Type 0} (G : Ghosts D) (replies : Replies) (task : RunTask) (people : Persons) (old : D) where
   -- the disk's count did not fall
   pub later_unopened : (refused : OpenRefused D) → IsRefused G old refused
       → G.faults old ≤ G.faults (disk_unopened refused)
@@ -176,7 +176,7 @@ still_outside outside = record {
   rotator = refl;
 }
 
-module _ (replies : Replies) (task : Task) (people : Persons) where
+module _ (replies : Replies) (task : RunTask) (people : Persons) where
   runs_no_people : (line : ℕ) (outside : Outside)
       → Runs (course_of replies (no_story task people)) (statuses.People line) outside outside
   runs_no_people line outside =
@@ -256,7 +256,7 @@ wants_more G story input trace old new further (inl (unread, undone, inr (follow
 wants_more G story input trace old new further (inr (followed, records)) = inr (further followed, records)
 
 -- words that are followed
-pub followed : (asked : Option Settings) (task : Task) → FollowsWords (Ok task) asked → task_of_words asked ≡ Ok task
+pub followed : (asked : Option Settings) (task : RunTask) → FollowsWords (Ok task) asked → task_of_words asked ≡ Ok task
 followed asked task (inl is) = absurd (let h : Ok task ≡ Err statuses.Memory = is in cc)
 followed asked task (inr is) = sym is
 

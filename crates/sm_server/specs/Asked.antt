@@ -6,13 +6,13 @@ use Rattle.sm_principal.specs.declared.people.PeopleRefused.TheVariants as refus
 use Rattle.sm_command_line.specs.declared.settings.Mode.{Mode}
 use Rattle.sm_command_line.specs.declared.settings.Mode.TheVariants.{Exec, Serve, Check, Drill, Agent}
 use Rattle.sm_command_line.specs.declared.settings.Settings.{Settings}
-use Rattle.sm_server.specs.declared.asked.Task.{Task}
-use Rattle.sm_server.specs.declared.asked.Task.TheVariants.{Answer, Summarize, Practise}
+use Rattle.sm_server.specs.declared.asked.RunTask.{RunTask}
+use Rattle.sm_server.specs.declared.asked.RunTask.TheVariants.{Answer, Summarize, Practise}
 use Rattle.sm_server.specs.declared.status.Status.{Status}
 use Rattle.sm_server.specs.declared.status.Status.TheVariants.{Words, Memory, People}
 
 -- what a run over one stream does in a mode, or how it ends that cannot follow it
-abbrev pub task_of_mode : Mode → Option ℕ → Result Task Status
+abbrev pub task_of_mode : Mode → Option ℕ → Result RunTask Status
 task_of_mode Exec number = Ok Answer
 task_of_mode Serve number = Err Words
 task_of_mode Check number = Ok Summarize
@@ -20,12 +20,12 @@ task_of_mode Drill number = Ok (Practise (unwrap_or number 0))
 task_of_mode Agent number = Err Words
 
 -- what a run does by its words, or how it ends that cannot follow them; words that are refused ask for nothing
-abbrev pub task_of_words : Option Settings → Result Task Status
+abbrev pub task_of_words : Option Settings → Result RunTask Status
 task_of_words None = Err Words
 task_of_words (Some settings) = task_of_mode settings.mode settings.number
 
 -- a run follows its words, or ends as it must, or for want of memory
-abbrev pub FollowsWords : Result Task Status → Option Settings → Type 0
+abbrev pub FollowsWords : Result RunTask Status → Option Settings → Type 0
 FollowsWords task asked = (task ≡ Err Memory) ⊎ (task ≡ task_of_words asked)
 
 -- how a run ends whose text of the people is refused
@@ -39,7 +39,7 @@ FollowsPeople (Ok people) read = read ≡ Ok people
 FollowsPeople (Err status) read = (status ≡ Memory) ⊎ ((line : ℕ) × (read ≡ Err line) × (status ≡ People line))
 
 -- the words decide whether anything is opened and read, and what is done; want of memory may come with any
-abbrev pub WordsDecide : Status → Option Settings → Task → Type 0
+abbrev pub WordsDecide : Status → Option Settings → RunTask → Type 0
 WordsDecide Words asked task = task_of_words asked ≡ Err Words
 WordsDecide Memory asked task = ⊤
 WordsDecide other asked task = task_of_words asked ≡ Ok task

@@ -17,8 +17,8 @@ use Rattle.sm_session.specs.Answer.{Asked, heard}
 use Rattle.sm_session.specs.Endings.{joined}
 use Rattle.sm_session.specs.Streams.{message_limit, AreWhole}
 use Rattle.sm_session.specs.Turns.{IsTurn}
-use Rattle.sm_server.specs.declared.asked.Task.{Task}
-use Rattle.sm_server.specs.declared.asked.Task.TheVariants.{Answer}
+use Rattle.sm_server.specs.declared.asked.RunTask.{RunTask}
+use Rattle.sm_server.specs.declared.asked.RunTask.TheVariants.{Answer}
 use Rattle.sm_server.specs.declared.status.Status.{Status}
 use Rattle.sm_server.specs.declared.status.Status.TheVariants.{Done, Memory}
 use Rattle.sm_server.specs.Asked.{task_of_words, WordsDecide, PeopleDecide}
@@ -68,7 +68,7 @@ DrillsEach course status input trace = (number : ℕ) → (drills : Drills cours
     drills.answered.brought.replies
 
 -- a source that holds whole messages, fewer than are answered at most, is read to its end by a run that answers
-abbrev pub ReadsWhole : Task → Status → Option (List ℕ) → Type 0
+abbrev pub ReadsWhole : RunTask → Status → Option (List ℕ) → Type 0
 ReadsWhole task status left =
     task ≡ Answer → (bytes : List ℕ) → left ≡ Some bytes → AreWhole bytes → (status ≡ Done) ⊎ (status ≡ Memory)
 

@@ -17,8 +17,8 @@ use Rattle.sm_session.specs.declared.ended.Ended.TheVariants as ended
 use Rattle.sm_session.specs.Endings as streams
 use Rattle.sm_session.specs.Endings.{Passage}
 use Rattle.sm_session.specs.Told.{Told, nothing_told, Within}
-use Rattle.sm_server.specs.declared.asked.Task.{Task}
-use Rattle.sm_server.specs.declared.asked.Task.TheVariants.{Answer, Practise, Summarize}
+use Rattle.sm_server.specs.declared.asked.RunTask.{RunTask}
+use Rattle.sm_server.specs.declared.asked.RunTask.TheVariants.{Answer, Practise, Summarize}
 use Rattle.sm_server.specs.declared.status.Status.{Status}
 use Rattle.sm_server.specs.declared.status.Status.TheVariants.{Done, Words, Damaged, OpenFault, Memory, People, SinkFault, SourceFault, Cut, BadMessage, Enough}
 use Rattle.sm_drill.specs.declared.step.TheConstants.{MESSAGES}
@@ -31,7 +31,7 @@ use Rattle.sm_server.specs.MessageRounds.{Brought, MessageRounds}
 -- what a run does, what its rotator may reply, who may ask, what its account goes on from, over how many entries, and
 -- the history since
 pub record Course : Type 0 where
-  pub task : Task
+  pub task : RunTask
   pub replies : Replies
   pub people : Persons
   pub base : Base
@@ -102,7 +102,7 @@ pub record Drills (course : Course) (number : ℕ) (status : Status) (input : Li
       answered.brought.replies told status trace.told trace.written
 
 -- why a run ended so that had this to do
-abbrev pub EndedAt : Task → Course → Status → List ℕ → Option (List ℕ) → Trace → Type 0
+abbrev pub EndedAt : RunTask → Course → Status → List ℕ → Option (List ℕ) → Trace → Type 0
 EndedAt Answer course status input left trace = Answers course status input left trace
 EndedAt Summarize course status input left trace = Checks course status input trace
 EndedAt (Practise number) course status input left trace = Drills course number status input trace
@@ -120,7 +120,7 @@ Ended course status input left trace = EndedAt course.task course status input l
 -- what a run does, who may ask, what the opening took from the disk, the history since, and the entry whose write
 -- failed last, while that may stand on the disk
 pub record Story : Type 0 where
-  pub task : Task
+  pub task : RunTask
   pub people : Persons
   pub taken : Held
   pub history : History

@@ -8,7 +8,7 @@ ghost use Rattle.sm_reply.specs.Shown.{Answered};
 ghost use Rattle.sm_session.specs.Answer.{heard};
 ghost use Rattle.sm_session.specs.Replies.{framed_answer};
 ghost use Rattle.sm_session.specs.Views.{local_state_by};
-ghost use Rattle.sm_server.specs.declared.asked.Task.TheVariants.{Answer};
+ghost use Rattle.sm_server.specs.declared.asked.RunTask.TheVariants.{Answer};
 ghost use Rattle.sm_server.specs.Outside.{outside_by};
 ghost use Rattle.sm_server.specs.Ran.{Runs};
 ghost use Rattle.sm_server.specs.Status.{status_of};

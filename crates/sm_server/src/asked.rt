@@ -11,7 +11,7 @@ use std::alloc::Global;
 
 /// What a run over one stream does.
 #[derive(Clone, Copy, Debug, PartialEq, Eq)]
-pub enum Task {
+pub enum RunTask {
     /// It answers the messages of the source.
     Answer,
     /// It writes a summary of what the disk holds.
@@ -21,7 +21,7 @@ pub enum Task {
 }
 
 /// What a run over one stream does by its words, or how it ends that cannot follow them.
-pub fn task_of_words(alloc: Global, words: &[String]) -> Result<Task, Status>
+pub fn task_of_words(alloc: Global, words: &[String]) -> Result<RunTask, Status>
     ensures { FollowsWords result (settings_of (map string_bytes words.now)) }
 {
     match read_words(alloc, words) {
@@ -33,14 +33,14 @@ pub fn task_of_words(alloc: Global, words: &[String]) -> Result<Task, Status>
 
 /// What a run over one stream does in a mode, or how it ends that cannot follow it: serving is another top call's, and
 /// so is reading from a server. Without a number a drill is that of 0.
-pub fn task_of_mode(mode: Mode, number: Option<u64>) -> Result<Task, Status>
+pub fn task_of_mode(mode: Mode, number: Option<u64>) -> Result<RunTask, Status>
     ensures { result ≡ task_of_mode mode number }
 {
     match mode {
-        Mode::Exec => Ok(Task::Answer),
+        Mode::Exec => Ok(RunTask::Answer),
         Mode::Serve => Err(Status::Words),
-        Mode::Check => Ok(Task::Summarize),
-        Mode::Drill => Ok(Task::Practise(number.unwrap_or(0))),
+        Mode::Check => Ok(RunTask::Summarize),
+        Mode::Drill => Ok(RunTask::Practise(number.unwrap_or(0))),
         Mode::Agent => Err(Status::Words),
     }
 }

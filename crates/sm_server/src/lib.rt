@@ -13,7 +13,7 @@ mod status;
 mod turn;
 mod witness;
 
-pub use asked::{Task, task_of_mode};
+pub use asked::{RunTask, task_of_mode};
 pub use reader::{agent_of_words, answer_connection, run_agent};
 pub use run::run_once;
 pub use serving::{Ran, RanBy, run_server};

@@ -7,7 +7,7 @@ ghost use Rattle.sm_account.specs.Accounts.{history, base, began, taken, disk, f
 ghost use Rattle.sm_account.specs.States.{base_of};
 ghost use Rattle.sm_base.specs.declared.limits.TheConstants.{JOURNAL_LIMIT};
 ghost use Rattle.sm_opening.specs.Lawful.{made_of};
-ghost use Rattle.sm_server.specs.declared.asked.Task.TheVariants.{Answer, Practise, Summarize};
+ghost use Rattle.sm_server.specs.declared.asked.RunTask.TheVariants.{Answer, Practise, Summarize};
 ghost use Rattle.sm_principal.specs.declared.people.People.{People as Persons};
 ghost use Rattle.sm_principal.specs.Callers.{people_of};
 ghost use Rattle.sm_server.specs.Asked.{PeopleDecide};
@@ -22,7 +22,7 @@ ghost use Rattle.sm_server.specs.declared.status.Status.TheVariants.{Memory};
 ghost use Rattle.sm_command_line.specs.Reading.{settings_of};
 
 use crate::answering::answer_source;
-use crate::asked::{Task, people_of, task_of_words};
+use crate::asked::{RunTask, people_of, task_of_words};
 use crate::checking::summarize;
 use crate::drilling::practise;
 use crate::status::{Status, status_of};
@@ -77,7 +77,7 @@ pub fn run_once<Q: Source, K: Sink, D: Disk, C: Clock, W: Words, R: Rotator>(
 /// Reads the text of the people, and does a task.
 fn run_task<Q: Source, K: Sink, D: Disk, C: Clock, W: Words, R: Rotator>(
     alloc: Global,
-    task: Task,
+    task: RunTask,
     people: &[u8],
     source: &mut Q,
     sink: &mut K,
@@ -115,7 +115,7 @@ fn run_task<Q: Source, K: Sink, D: Disk, C: Clock, W: Words, R: Rotator>(
 /// Opens the account of the disk, and does what there is to do with it.
 fn run_over<Q: Source, K: Sink, D: Disk, C: Clock, W: Words, R: Rotator>(
     alloc: Global,
-    task: Task,
+    task: RunTask,
     people: &People,
     source: &mut Q,
     sink: &mut K,
@@ -163,7 +163,7 @@ pub(crate) fn end_unopened<D>(refused: OpenRefused<D>) -> (Status, D)
 /// Does what there is to do with an account that was just opened.
 fn run_opened<Q: Source, K: Sink, D: Disk, C: Clock, W: Words, R: Rotator>(
     alloc: Global,
-    task: Task,
+    task: RunTask,
     people: &People,
     account: Account<D, R>,
     source: &mut Q,
@@ -189,9 +189,9 @@ fn run_opened<Q: Source, K: Sink, D: Disk, C: Clock, W: Words, R: Rotator>(
         (D.faults result.1) clock.new random.new rotator.new).counts }
 {
     match task {
-        Task::Answer => answer_opened(alloc, people, account, source, sink, clock, random, rotator),
-        Task::Summarize => check_opened(alloc, account, sink, clock),
-        Task::Practise(number) => {
+        RunTask::Answer => answer_opened(alloc, people, account, source, sink, clock, random, rotator),
+        RunTask::Summarize => check_opened(alloc, account, sink, clock),
+        RunTask::Practise(number) => {
             practise_opened(alloc, number, people, account, sink, clock, random, rotator)
         }
     }

@@ -4,7 +4,7 @@ use Rattle.sm_account.specs.Accounts.{history, base, began, taken, disk, failed}
 use Rattle.sm_account.specs.AccountState.{FaultsBound}
 use Rattle.sm_account.specs.States.{Base, base_of}
 use Rattle.sm_opening.specs.Lawful.{made_of}
-use Rattle.sm_server.specs.declared.asked.Task.TheVariants.{Practise}
+use Rattle.sm_server.specs.declared.asked.RunTask.TheVariants.{Practise}
 use Rattle.sm_server.specs.Outside.{Outside, outside_beside}
 use Rattle.sm_server.specs.Ran.{Course, Story, Runs, course_of}
 use Rattle.sm_server.specs.Stored.{Stands}

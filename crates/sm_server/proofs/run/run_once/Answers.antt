@@ -4,8 +4,8 @@ use Rattle.sm_principal.specs.Callers.{people_of}
 use Rattle.sm_command_line.specs.declared.settings.Settings.{Settings}
 use Rattle.sm_command_line.specs.Reading.{settings_of}
 use Rattle.std.proofs.Common.{Ok, sym}
-use Rattle.sm_server.specs.declared.asked.Task.{Task}
-use Rattle.sm_server.specs.declared.asked.Task.TheVariants.{Answer}
+use Rattle.sm_server.specs.declared.asked.RunTask.{RunTask}
+use Rattle.sm_server.specs.declared.asked.RunTask.TheVariants.{Answer}
 use Rattle.sm_server.specs.declared.status.Status.{Status}
 use Rattle.sm_server.specs.Asked.{task_of_words}
 use Rattle.sm_server.specs.Complete.{AreFollowed, Orders}
@@ -29,7 +29,7 @@ returns-in-Ok-clause-ran g c =
     let after : Outside = outside_by g.Q.Source g.K.Sink g.C.Clock g.W.Words g.R.Rotator run.new.source run.new.sink
     (g.D.Disk.faults run.result.1) run.new.clock run.new.random run.new.rotator in
     let asks : task_of_words asked ≡ Ok story.task =
-    followed asked c.in-Ok.task c.in-Ok.ensures ∙ ap (λ (t : Task). Ok t) (sym ran.1) in (
+    followed asked c.in-Ok.task c.in-Ok.ensures ∙ ap (λ (t : RunTask). Ok t) (sym ran.1) in (
       story,
       ran_by g.R.Rotator.replies orders status before after story
           (words_decided status asked story.task run.ensures.understood asks) ran.2 ran.3,

@@ -3,7 +3,7 @@ use Rattle.sm_account.specs.Accounts.{base, began, disk, failed, history, taken}
 use Rattle.sm_account.specs.States.{Base}
 use Rattle.sm_opening.specs.Lawful.{made_of}
 use Rattle.sm_seat_traces.specs.SeatTraces.{History}
-use Rattle.sm_server.specs.declared.asked.Task.TheVariants.{Summarize}
+use Rattle.sm_server.specs.declared.asked.RunTask.TheVariants.{Summarize}
 use Rattle.sm_server.specs.Outside.{Outside, outside_by}
 use Rattle.sm_server.specs.Ran.{Course, Story, Runs}
 use Rattle.sm_server.specs.Stored.{Stands}
