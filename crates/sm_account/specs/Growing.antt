@@ -18,7 +18,7 @@ pub record IsGrown {D : Type 0} {G : Ghosts D} (inner : AccountState D G) (entry
   pub change_is : due.prepared.change ≡ change
 
 -- there is room for an entry, and its mark can be counted
-pub record HasRoom {D : Type 0} {G : Ghosts D} (inner : AccountState D G) : Type 0 where
+pub record HasCapacity {D : Type 0} {G : Ghosts D} (inner : AccountState D G) : Type 0 where
   pub entry : vec_len inner.entries < vec_capacity inner.entries
   pub mark : inner.marks < 2 ^ 64 - 1
 

@@ -4,7 +4,7 @@ ghost use Rattle.sm_journal.specs.Records.{body_limit};
 ghost use Rattle.sm_store.specs.BaseAppends.{IsReady};
 ghost use Rattle.sm_account.specs.AccountState.{Kept, state_in};
 ghost use Rattle.sm_account.specs.CallOutcomes.{Leaves};
-ghost use Rattle.sm_account.specs.Growing.{HasRoom};
+ghost use Rattle.sm_account.specs.Growing.{HasCapacity};
 ghost use Rattle.sm_account.specs.Handling.{LimitsAside, MayEnter};
 ghost use Rattle.sm_account.specs.Limits.{EntersAs, entered_by, passed_at, tried_entry};
 ghost use Rattle.sm_account.specs.Outcome.{is_full};
@@ -58,7 +58,7 @@ pub fn enter_legal<D: Disk>(inner: &mut AccountState<D>, seat: u32, entry: Entry
 pub fn enter_due<D: Disk>(inner: &mut AccountState<D>, seat: u32, due: Due) -> Entered
     requires kept { Kept D.Disk inner.old }
     requires due { LimitsAside inner.old due }
-    requires room { HasRoom inner.old }
+    requires room { HasCapacity inner.old }
     ensures kept { Kept D.Disk inner.new }
     ensures enters { EntersAs result (passed_at (state_in inner.old) due.entry) }
     ensures leaves { Leaves D.Disk inner.old inner.new seat (entered_by result due.entry) }

@@ -7,7 +7,7 @@ ghost use Rattle.sm_model.specs.Needed.{needed};
 ghost use Rattle.sm_sizes.specs.Spellable.{IsSpellable};
 ghost use Rattle.sm_sizes.specs.Texts.{HasFewTags};
 ghost use Rattle.sm_table.specs.Changes.{CanMake};
-ghost use Rattle.sm_account.specs.Growing.{HasRoom, IsGrown, SameButRoom};
+ghost use Rattle.sm_account.specs.Growing.{HasCapacity, IsGrown, SameButRoom};
 ghost use Rattle.sm_account.specs.Handling.{HasShortTexts};
 ghost use Rattle.sm_account.specs.Outcome.{asked_entry};
 
@@ -37,7 +37,7 @@ pub fn grow_request<D: Disk>(
     requires few { HasFewTags request.now }
     ensures grown { IfOk result (λ due. IsGrown inner.old
         (asked_entry moment person.now drawn.now request.now) change due) }
-    ensures room { OnOk result (HasRoom inner.new) }
+    ensures room { OnOk result (HasCapacity inner.new) }
     ensures same { SameButRoom inner.old inner.new }
 {
     let entry = make_entry(inner.alloc, moment, person, drawn, request)?;
@@ -51,7 +51,7 @@ pub fn grow<D: Disk>(inner: &mut AccountState<D>, entry: Entry, change: Change) 
     requires bound { entry.moment.0 ≤ LAST_READING }
     requires act { IsSpellable entry }
     ensures grown { IfOk result (λ due. IsGrown inner.old entry change due) }
-    ensures room { OnOk result (HasRoom inner.new) }
+    ensures room { OnOk result (HasCapacity inner.new) }
     ensures same { SameButRoom inner.old inner.new }
 {
     let ready = spell(inner.alloc, &entry)?;
@@ -66,7 +66,7 @@ pub fn grow<D: Disk>(inner: &mut AccountState<D>, entry: Entry, change: Change) 
 
 /// Takes a place for an entry. A history has no more marks than can be counted: past that memory is wanted.
 fn make_room<D: Disk>(inner: &mut AccountState<D>) -> Result<(), NoMemory>
-    ensures room { OnOk result (HasRoom inner.new) }
+    ensures room { OnOk result (HasCapacity inner.new) }
     ensures same { SameButRoom inner.old inner.new }
 {
     if inner.marks == u64::MAX {

@@ -3,7 +3,7 @@ ghost use Rattle.std.specs.Prelude.{◌≡◌, ◌≤◌, length};
 ghost use Rattle.sm_base.specs.declared.moment.TheConstants.{LAST_READING};
 ghost use Rattle.sm_model.specs.Needed.{needed};
 ghost use Rattle.sm_account.specs.AccountState.{Kept, state_in};
-ghost use Rattle.sm_account.specs.Growing.{HasRoom};
+ghost use Rattle.sm_account.specs.Growing.{HasCapacity};
 ghost use Rattle.sm_account.specs.Handling.{Handles, HasShortTexts, LimitsAside};
 ghost use Rattle.sm_account.specs.Outcome.{limit_passed, outcome, outcome_within};
 
@@ -56,7 +56,7 @@ pub fn handle<D: Disk>(
 fn finish<D: Disk>(inner: &mut AccountState<D>, seat: u32, reply: Reply, due: Due) -> Handled
     requires kept { Kept D.Disk inner.old }
     requires due { LimitsAside inner.old due }
-    requires room { HasRoom inner.old }
+    requires room { HasCapacity inner.old }
     ensures kept { Kept D.Disk inner.new }
     ensures handles { Handles D.Disk inner.old inner.new seat result
         (outcome_within (limit_passed (state_in inner.old) due.entry) reply due.entry) }

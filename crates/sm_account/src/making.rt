@@ -8,7 +8,7 @@ ghost use Rattle.sm_table.specs.Sweep.{sweep};
 ghost use Rattle.sm_disk.specs.Faults.{HasCause};
 ghost use Rattle.sm_account.specs.AccountState.{Kept, IsDueAt, SameOrigin, all_held, disk_in, history_in, state_in};
 ghost use Rattle.sm_account.specs.Crashes.{Throughout};
-ghost use Rattle.sm_account.specs.Growing.{HasRoom};
+ghost use Rattle.sm_account.specs.Growing.{HasCapacity};
 ghost use Rattle.sm_account.specs.Making.{mark_made};
 ghost use Rattle.sm_account.specs.Writing.{WritesAs, OnFault};
 ghost use Rattle.sm_base.specs.Faults.{Rose};
@@ -28,7 +28,7 @@ pub fn make<D: Disk>(inner: &mut AccountState<D>, seat: u32, due: Due) -> Result
     requires kept { Kept D.Disk inner.old }
     requires due { IsDueAt inner.old due.entry due.ready due.prepared.change }
     requires prepared { due.prepared.before ≡ inner.old.table }
-    requires room { HasRoom inner.old }
+    requires room { HasCapacity inner.old }
     ensures kept { Kept D.Disk inner.new }
     ensures history { history_in inner.new ≡ history_in inner.old ++ (seat, mark_made result due.entry) ∷ [] }
     ensures origin { SameOrigin inner.old inner.new }
@@ -77,7 +77,7 @@ fn commit_written<D: Disk>(inner: &mut AccountState<D>, seat: u32, due: Due)
     requires prepared { due.prepared.before ≡ inner.old.table }
     requires stands { StandsAt inner.old.table due.entry.moment due.prepared.change }
     requires counted { inner.old.made < ENTRIES_LIMIT }
-    requires room { HasRoom inner.old }
+    requires room { HasCapacity inner.old }
     ensures history { history_in inner.new ≡ history_in inner.old ++ (seat, mark.Entry due.entry) ∷ [] }
     ensures sure { inner.new.failed.value ≡ None }
     ensures rest { inner.new ≡ record inner.old {

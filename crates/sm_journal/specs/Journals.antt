@@ -49,8 +49,8 @@ abbrev pub length_with : {D : Type 0} {G : Ghosts D} → Journal D G → List �
 length_with journal body = length_of journal + record_size body
 
 -- the body is within both limits
-abbrev pub HasRoom : {D : Type 0} {G : Ghosts D} → Journal D G → List ℕ → Type 0
-HasRoom journal body = (length body ≤ body_limit) × (length_with journal body ≤ limit_of journal)
+abbrev pub FitsBothLimits : {D : Type 0} {G : Ghosts D} → Journal D G → List ℕ → Type 0
+FitsBothLimits journal body = (length body ≤ body_limit) × (length_with journal body ≤ limit_of journal)
 
 -- the same file of a disk, in the same format, under the same limit
 pub record SamePlace {D : Type 0} {G : Ghosts D} (old new : Journal D G) : Type 0 where
@@ -64,10 +64,10 @@ abbrev pub AppendsAs : {D : Type 0} {G : Ghosts D} → Journal D G → List ℕ 
 AppendsAs old body new (TooLong n) = (body_limit < length body) × (n ≡ length body) × (new ≡ old)
 AppendsAs old body new (Full n) = (length body ≤ body_limit) × (limit_of old < length_with old body)
     × (n ≡ length_with old body) × (new ≡ old)
-AppendsAs old body new Ok = HasRoom old body × (is_unsure new ≡ false) × (length_of new ≡ length_with old body)
+AppendsAs old body new Ok = FitsBothLimits old body × (is_unsure new ≡ false) × (length_of new ≡ length_with old body)
     × ((bodies : List (List ℕ)) → Stands old bodies None → Stands new (bodies ++ body ∷ []) None
     × HoldsJust new (bodies ++ body ∷ []))
-AppendsAs old body new Failed = HasRoom old body × (is_unsure new ≡ true) × (length_of new ≡ length_of old)
+AppendsAs old body new Failed = FitsBothLimits old body × (is_unsure new ≡ true) × (length_of new ≡ length_of old)
     × ((bodies : List (List ℕ)) → Stands old bodies None → Stands new bodies (Some body))
 
 -- a crash at any moment since old leaves the list, or the list with this body if there is one, and leaves the other

@@ -29,7 +29,7 @@ pub struct Journal<D: Disk> {
 }
 
 impl<D: Disk> Journal<D> {
-    ghost use Rattle.sm_journal.specs.Journals.{disk_of, file_of, format_of, length_of, length_with, is_unsure, HasRoom, SamePlace, Stands, HoldsJust, AppendsAs, LeavesEither, IsOpened};
+    ghost use Rattle.sm_journal.specs.Journals.{disk_of, file_of, format_of, length_of, length_with, is_unsure, FitsBothLimits, SamePlace, Stands, HoldsJust, AppendsAs, LeavesEither, IsOpened};
     ghost use Rattle.sm_journal.specs.Records.{front, place_behind, AreWithin, AtRest};
     ghost use Rattle.sm_journal.specs.Making.{IsIdle};
     ghost use Rattle.sm_journal.specs.Roots.{BeginsWith};
@@ -94,7 +94,7 @@ impl<D: Disk> Journal<D> {
     /// Writes a record behind the gate and opens it.
     fn write(&mut self, body: &[u8]) -> Result<(), DiskFailed>
         requires sure { is_unsure self.old ≡ false }
-        requires room { HasRoom self.old body.now }
+        requires room { FitsBothLimits self.old body.now }
         ensures ok { OnOk result ((is_unsure self.new ≡ false) × ((bodies : List (List ℕ)) →
             Stands self.old bodies None →
             Stands self.new (bodies ++ body.now ∷ []) None × HoldsJust self.new (bodies ++ body.now ∷ []))) }

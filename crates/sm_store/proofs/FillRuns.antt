@@ -16,7 +16,7 @@ use Rattle.sm_disk.proofs.Runs.{joined}
 use Rattle.sm_journal.specs.Freshes.{disk_of, file_of, Makes}
 use Rattle.sm_journal.specs.Records.{size, AreWithin}
 use Rattle.sm_journal.specs.declared.fresh.Fresh.{Fresh}
-use Rattle.sm_store.specs.Filling.{HasRoom, HasAdded, GoesOn, Fills}
+use Rattle.sm_store.specs.Filling.{MayBeAdded, HasAdded, GoesOn, Fills}
 use Rattle.sm_store.specs.declared.filling.FillRefused.{FillRefused}
 use Rattle.sm_store.specs.declared.filling.FillRefused.TheVariants.{Failed, Memory}
 
@@ -77,14 +77,15 @@ module _ {D : Type 0} {G : Ghosts D} where
         (second.makes (before ++ xs) (first.makes before makes));
   }
 
-  pub room_front : (xs ys : List (List ℕ)) (a : Fresh D G) → HasRoom (xs ++ ys) a → HasRoom xs a
+  pub room_front : (xs ys : List (List ℕ)) (a : Fresh D G) → MayBeAdded (xs ++ ys) a → MayBeAdded xs a
   room_front xs ys a room = record {
     sure = room.sure;
     within = within_front xs ys room.within;
     room = omega (arith, room.room, size-append xs ys);
   }
 
-  pub room_behind : (xs ys : List (List ℕ)) (a b : Fresh D G) → HasRoom (xs ++ ys) a → HasAdded xs a b → HasRoom ys b
+  pub room_behind : (xs ys : List (List ℕ)) (a b : Fresh D G) → MayBeAdded (xs ++ ys) a → HasAdded xs a b
+      → MayBeAdded ys b
   room_behind xs ys a b room added = record {
     sure = added.sure;
     within = within_back xs ys room.within;
@@ -119,12 +120,12 @@ module _ {D : Type 0} {G : Ghosts D} where
 
   module _ {A : Type 0} (g : A → List (List ℕ)) (xs : List A) (i : ℕ) (x : A)
       (next : take (i + 1) xs ≡ take i xs ++ x ∷ []) where
-    pub room_here : (a b : Fresh D G) → HasRoom (flat_map g xs) a → HasAdded (flat_map g (take i xs)) a b
-        → HasRoom (g x) b
+    pub room_here : (a b : Fresh D G) → MayBeAdded (flat_map g xs) a → HasAdded (flat_map g (take i xs)) a b
+        → MayBeAdded (g x) b
     room_here a b room added =
         room_front (g x) (flat_map g (drop (i + 1) xs)) b
         (room_behind (flat_map g (take i xs)) (g x ++ flat_map g (drop (i + 1) xs)) a b
-        (subst (λ (bodies : List (List ℕ)). HasRoom bodies a) (whole_part g xs i x next) room) added)
+        (subst (λ (bodies : List (List ℕ)). MayBeAdded bodies a) (whole_part g xs i x next) room) added)
 
     pub added_here : (a b c : Fresh D G) → HasAdded (flat_map g (take i xs)) a b → HasAdded (g x) b c
         → HasAdded (flat_map g (take (i + 1) xs)) a c

@@ -10,7 +10,7 @@ use Rattle.sm_store.specs.declared.filling.FillRefused.{FillRefused}
 use Rattle.sm_store.specs.declared.filling.FillRefused.TheVariants.{Failed, Memory}
 
 -- these bodies may be added
-pub record HasRoom {D : Type 0} {G : Ghosts D} (bodies : List (List ℕ)) (fresh : Fresh D G) : Type 0 where
+pub record MayBeAdded {D : Type 0} {G : Ghosts D} (bodies : List (List ℕ)) (fresh : Fresh D G) : Type 0 where
   pub sure : has_failed fresh ≡ false
   pub within : AreWithin bodies
   pub room : length_of fresh + size bodies ≤ 2 ^ 63

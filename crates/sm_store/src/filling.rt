@@ -4,7 +4,7 @@ ghost use Rattle.std.specs.List.{list_all};
 ghost use Rattle.sm_record.specs.Rows as rows;
 ghost use Rattle.sm_record.specs.Snapshots.{snapshot, HasSnapshot, start_body, row_body, version_body, one_version, secret_bodies};
 ghost use Rattle.sm_record.specs.declared.edition.Edition.TheVariants as editions;
-ghost use Rattle.sm_store.specs.Filling.{HasRoom, GoesOn, Fills};
+ghost use Rattle.sm_store.specs.Filling.{MayBeAdded, GoesOn, Fills};
 ghost use Rattle.sm_store.specs.declared.filling.FillRefused.TheVariants as refusals;
 
 use sm_base::{Bytes, NoMemory};
@@ -39,7 +39,7 @@ impl From<NoMemory> for FillRefused {
 
 /// Adds one body.
 fn put_body<D: Disk>(fresh: &mut Fresh<D>, body: &Bytes) -> Result<(), FillRefused>
-    requires { HasRoom (body.now ∷ []) fresh.old }
+    requires { MayBeAdded (body.now ∷ []) fresh.old }
     ensures filled { Fills (body.now ∷ []) fresh.old fresh.new result }
     ensures goes_on { GoesOn fresh.old fresh.new }
 {
@@ -54,7 +54,7 @@ fn put_version<D: Disk>(
     version: &VersionRow,
 ) -> Result<(), FillRefused>
     requires spelled { IsTrue (rows.version.fits version.now) }
-    requires room { HasRoom (version_body version.now ∷ []) fresh.old }
+    requires room { MayBeAdded (version_body version.now ∷ []) fresh.old }
     ensures filled { Fills (version_body version.now ∷ []) fresh.old fresh.new result }
     ensures goes_on { GoesOn fresh.old fresh.new }
 {
@@ -69,7 +69,7 @@ fn put_versions<D: Disk>(
     versions: &SharedList<VersionRow>,
 ) -> Result<(), FillRefused>
     requires spelled { IsTrue (list_all rows.version.fits versions.now) }
-    requires room { HasRoom (flat_map one_version versions.now) fresh.old }
+    requires room { MayBeAdded (flat_map one_version versions.now) fresh.old }
     ensures filled { Fills (flat_map one_version versions.now) fresh.old fresh.new result }
     ensures goes_on { GoesOn fresh.old fresh.new }
 {
@@ -84,7 +84,7 @@ fn put_versions<D: Disk>(
 /// Adds the body of a secret without its versions.
 fn put_row<D: Disk>(alloc: Global, fresh: &mut Fresh<D>, row: &SecretRow) -> Result<(), FillRefused>
     requires spelled { IsTrue ((rows.row_head editions.Second).fits (rows.head_of_row row.now)) }
-    requires room { HasRoom (row_body editions.Second row.now ∷ []) fresh.old }
+    requires room { MayBeAdded (row_body editions.Second row.now ∷ []) fresh.old }
     ensures filled { Fills (row_body editions.Second row.now ∷ []) fresh.old fresh.new result }
     ensures goes_on { GoesOn fresh.old fresh.new }
 {
@@ -99,7 +99,7 @@ fn put_secret<D: Disk>(
     row: &SecretRow,
 ) -> Result<(), FillRefused>
     requires spelled { IsTrue ((rows.secret editions.Second).fits row.now) }
-    requires room { HasRoom (secret_bodies editions.Second row.now) fresh.old }
+    requires room { MayBeAdded (secret_bodies editions.Second row.now) fresh.old }
     ensures filled { Fills (secret_bodies editions.Second row.now) fresh.old fresh.new result }
     ensures goes_on { GoesOn fresh.old fresh.new }
 {
@@ -115,7 +115,7 @@ fn put_secrets<D: Disk>(
     secrets: &[SecretRow],
 ) -> Result<(), FillRefused>
     requires spelled { IsTrue (list_all (rows.secret editions.Second).fits secrets.now) }
-    requires room { HasRoom (flat_map (secret_bodies editions.Second) secrets.now) fresh.old }
+    requires room { MayBeAdded (flat_map (secret_bodies editions.Second) secrets.now) fresh.old }
     ensures filled { Fills (flat_map (secret_bodies editions.Second) secrets.now) fresh.old fresh.new result }
     ensures goes_on { GoesOn fresh.old fresh.new }
 {
@@ -128,7 +128,7 @@ fn put_secrets<D: Disk>(
 /// Adds the body that stands before all secrets.
 fn put_start<D: Disk>(alloc: Global, fresh: &mut Fresh<D>, base: &Base) -> Result<(), FillRefused>
     requires spelled { IsTrue (rows.start.fits (rows.start_of_base base.now)) }
-    requires room { HasRoom (start_body base.now ∷ []) fresh.old }
+    requires room { MayBeAdded (start_body base.now ∷ []) fresh.old }
     ensures filled { Fills (start_body base.now ∷ []) fresh.old fresh.new result }
     ensures goes_on { GoesOn fresh.old fresh.new }
 {
@@ -139,7 +139,7 @@ fn put_start<D: Disk>(alloc: Global, fresh: &mut Fresh<D>, base: &Base) -> Resul
 /// Adds the bodies of rows. After a refusal nothing is known of the file.
 pub fn fill<D: Disk>(alloc: Global, fresh: &mut Fresh<D>, base: &Base) -> Result<(), FillRefused>
     requires spelled { HasSnapshot editions.Second base.now }
-    requires room { HasRoom (snapshot editions.Second base.now) fresh.old }
+    requires room { MayBeAdded (snapshot editions.Second base.now) fresh.old }
     ensures filled { Fills (snapshot editions.Second base.now) fresh.old fresh.new result }
     ensures goes_on { GoesOn fresh.old fresh.new }
 {

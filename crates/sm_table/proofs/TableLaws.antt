@@ -10,12 +10,12 @@ use Rattle.sm_model.specs.declared.rows.Rows.{Rows}
 use Rattle.sm_versions.specs.Serials.{rises}
 use Rattle.sm_table.specs.declared.indexed.Added.{Added}
 use Rattle.sm_table.specs.declared.indexed.Indexed.{Indexed}
-use Rattle.sm_table.specs.declared.indexed.Room.{Room}
+use Rattle.sm_table.specs.declared.indexed.SpareMaps.{SpareMaps}
 use Rattle.sm_table.specs.Sweep.{swept, sweep}
 use Rattle.sm_table.specs.Found.{row_named}
 use Rattle.sm_table.specs.Changes.{changed, row_with, CanMake, StandsAt, PreparedChange}
 use Rattle.sm_table.specs.Kept.{row_serials, NamesKept}
-use Rattle.sm_table.specs.Indexed.{behind, room_left, HasRoom, IsIndexed, IsRoom}
+use Rattle.sm_table.specs.Indexed.{behind, room_left, HasRoom, IsIndexed, AreSpareMaps}
 use Rattle.sm_table.specs.Ready.{IsTable, IsAdded, CanAdd}
 use Rattle.sm_table.proofs.KeptLaws.{swept_rises, commit_rises}
 use Rattle.sm_table.proofs.NameLaws.{commit_names}
@@ -79,8 +79,8 @@ none_is None h = refl
 none_is (Some row) h = absurd (false≢true (sym h))
 
 -- rooms for many rows do for less
-enough_for : (room : Option Room) (more less : ℕ) → less ≤ more → IfSome room (λ r. IsRoom r more)
-    → IfSome room (λ r. IsRoom r less)
+enough_for : (room : Option SpareMaps) (more less : ℕ) → less ≤ more → IfSome room (λ r. AreSpareMaps r more)
+    → IfSome room (λ r. AreSpareMaps r less)
 enough_for None more less h enough = tt
 enough_for (Some room) more less h enough = record {
   no_rows = enough.no_rows;
@@ -134,7 +134,7 @@ can_add next old now moment before added same state made brought =
         needed = subst (λ n. room_left n ≡ 0 → IsSome added.room) first brought.needed;
         enough = enough_for added.room (length before.secrets + 1 + behind added.kept.serial)
             (length now.rows.list + 1 + behind added.kept.serial) (omega (arith, count, fewer))
-            (subst (λ n. IfSome added.room (λ r. IsRoom r (length before.secrets + 1 + behind n))) first
+            (subst (λ n. IfSome added.room (λ r. AreSpareMaps r (length before.secrets + 1 + behind n))) first
             brought.enough);
       };
     }

@@ -1,7 +1,7 @@
 -- Rows by their serials and by their names, and the room for more.
 use Rattle.std.specs.Prelude.{◌≡◌, ℕ, zero, suc, ◌+◌, ◌-◌, ◌≤◌, nat_eq, min, [], length, if◌then◌else◌}
 use Rattle.sm_table.specs.declared.indexed.Indexed.{Indexed}
-use Rattle.sm_table.specs.declared.indexed.Room.{Room}
+use Rattle.sm_table.specs.declared.indexed.SpareMaps.{SpareMaps}
 use Rattle.sm_table.specs.Maps.{by_name}
 use Rattle.sm_table.specs.Signs.{IsSigns, SignsRoom}
 
@@ -28,7 +28,7 @@ pub record IsIndexed (indexed : Indexed) : Type 0 where
   pub signs : IsSigns indexed.signs indexed.rows.list
 
 -- empty room for so many rows
-pub record IsRoom (room : Room) (count : ℕ) : Type 0 where
+pub record AreSpareMaps (room : SpareMaps) (count : ℕ) : Type 0 where
   pub no_rows : room.rows.list ≡ []
   pub no_names : room.names.pairs ≡ []
   pub no_jobs : room.signs.jobs.items ≡ []

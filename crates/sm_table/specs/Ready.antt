@@ -11,7 +11,7 @@ use Rattle.sm_table.specs.declared.indexed.Step.TheVariants.{Add as Adds, Replac
 use Rattle.sm_table.specs.Changes.{CanMake, row_with}
 use Rattle.sm_table.specs.Found.{row_named}
 use Rattle.sm_table.specs.Kept.{row_serials, IsRising, NamesKept}
-use Rattle.sm_table.specs.Indexed.{behind, room_left, HasRoom, IsIndexed, IsRoom}
+use Rattle.sm_table.specs.Indexed.{behind, room_left, HasRoom, IsIndexed, AreSpareMaps}
 
 -- the index is that of the rows, serials rise and are below the next one, no name stands twice, each ARN is one of its
 -- name, and there is the room that there has to be
@@ -34,7 +34,7 @@ change_of Stays = Nothing
 pub record IsAdded (added : Added) (serial count : ℕ) : Type 0 where
   pub name : added.name.items ≡ added.kept.name
   pub needed : room_left serial ≡ 0 → IsSome added.room
-  pub enough : IfSome added.room (λ room. IsRoom room (count + 1 + behind serial))
+  pub enough : IfSome added.room (λ room. AreSpareMaps room (count + 1 + behind serial))
 
 -- the row may be added to these: its serial and its name are new, and the room is there
 pub record CanAdd (indexed : Indexed) (added : Added) : Type 0 where

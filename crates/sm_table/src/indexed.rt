@@ -5,7 +5,7 @@ ghost use Rattle.sm_table.specs.Sweep.{swept};
 ghost use Rattle.sm_table.specs.Found.{row_named};
 ghost use Rattle.sm_table.specs.Changes.{row_with, replaced, dropped};
 ghost use Rattle.sm_table.specs.Kept.{row_names, IsRising};
-ghost use Rattle.sm_table.specs.Indexed.{behind, room_left, HasRoom, IsIndexed, IsRoom};
+ghost use Rattle.sm_table.specs.Indexed.{behind, room_left, HasRoom, IsIndexed, AreSpareMaps};
 ghost use Rattle.sm_table.specs.Maps.{without_row};
 ghost use Rattle.sm_table.specs.Ready.{CanAdd, IsAdded};
 ghost use Rattle.sm_table.specs.Signs.{SignsRoom};
@@ -34,7 +34,7 @@ pub struct Indexed {
 
 /// Empty room, into which the rows move where none is left.
 #[derive(Drop)]
-pub struct Room {
+pub struct SpareMaps {
     pub rows: RowMap,
     pub names: NameMap,
     pub signs: Signs,
@@ -46,7 +46,7 @@ pub struct Added {
     pub kept: Kept,
     pub name: Vec<u8>,
     /// Where no room is left, room for it and all others.
-    pub room: Option<Room>,
+    pub room: Option<SpareMaps>,
 }
 
 /// A change with the memory that it takes.
@@ -80,7 +80,7 @@ impl Indexed {
         ensures left { IfOk result (λ indexed. indexed.left ≡ left) }
         ensures room { IfOk result (λ indexed. HasRoom indexed count) }
     {
-        let Room { rows, names, signs } = Room::for_rows(alloc, count)?;
+        let SpareMaps { rows, names, signs } = SpareMaps::for_rows(alloc, count)?;
         Ok(Indexed {
             rows,
             names,
@@ -141,17 +141,17 @@ impl Indexed {
     }
 
     /// Room for all rows, the one with the serial, and those behind it that come without new room, where none is left.
-    fn room_behind(&self, alloc: Global, serial: u64) -> Result<Option<Room>, NoMemory>
+    fn room_behind(&self, alloc: Global, serial: u64) -> Result<Option<SpareMaps>, NoMemory>
         requires { self.now.left ≡ room_left serial }
         ensures needed { IfOk result (λ room. room_left serial ≡ 0 → IsSome room) }
         ensures enough { IfOk result (λ room. IfSome room
-            (λ r. IsRoom r (length self.now.rows.list + 1 + behind serial))) }
+            (λ r. AreSpareMaps r (length self.now.rows.list + 1 + behind serial))) }
         ensures only { IfOk result (λ room. IsSome room → room_left serial ≡ 0) }
     {
         if self.left > 0 {
             return Ok(None);
         }
-        let room = Room::for_rows(alloc, self.rows.len() + 1 + behind(serial) as usize)?;
+        let room = SpareMaps::for_rows(alloc, self.rows.len() + 1 + behind(serial) as usize)?;
         Ok(Some(room))
     }
 
@@ -191,11 +191,11 @@ impl Indexed {
 
     /// Moves the rows into the room, if there is some, so that there is room for the one with the serial and those
     /// behind it that come without new room.
-    fn make_room(&mut self, room: Option<Room>, serial: u64)
+    fn make_room(&mut self, room: Option<SpareMaps>, serial: u64)
         requires kept { IsIndexed self.old }
         requires left { HasRoom self.old (room_left serial) }
         requires needed { room_left serial ≡ 0 → IsSome room }
-        requires enough { IfSome room (λ r. IsRoom r (length self.old.rows.list + 1 + behind serial)) }
+        requires enough { IfSome room (λ r. AreSpareMaps r (length self.old.rows.list + 1 + behind serial)) }
         ensures kept { IsIndexed self.new }
         ensures rows { self.new.rows.list ≡ self.old.rows.list }
         ensures left { self.new.left ≡ self.old.left }
@@ -209,9 +209,9 @@ impl Indexed {
     }
 
     /// Moves the rows into the room.
-    fn move_into(&mut self, room: Room)
+    fn move_into(&mut self, room: SpareMaps)
         requires kept { IsIndexed self.old }
-        requires room { IsRoom room (length self.old.rows.list) }
+        requires room { AreSpareMaps room (length self.old.rows.list) }
         ensures kept { IsIndexed self.new }
         ensures rows { self.new.rows.list ≡ self.old.rows.list }
         ensures left { self.new.left ≡ self.old.left }
@@ -219,7 +219,7 @@ impl Indexed {
         ensures names_room { room.names.room ≤ self.new.names.room + length self.old.rows.list }
         ensures signs_room { (count : ℕ) → SignsRoom room.signs count → SignsRoom self.new.signs count }
     {
-        let Room {
+        let SpareMaps {
             mut rows,
             mut names,
             signs,
@@ -316,15 +316,15 @@ impl Indexed {
     }
 }
 
-impl Room {
+impl SpareMaps {
     /// Empty room for so many rows.
-    fn for_rows(alloc: Global, count: usize) -> Result<Room, NoMemory>
-        ensures { IfOk result (λ room. IsRoom room count) }
+    fn for_rows(alloc: Global, count: usize) -> Result<SpareMaps, NoMemory>
+        ensures { IfOk result (λ room. AreSpareMaps room count) }
     {
         let rows = RowMap::with_room(alloc, count)?;
         let names = NameMap::with_room(alloc, count)?;
         let signs = Signs::with_room(alloc, count)?;
-        Ok(Room { rows, names, signs })
+        Ok(SpareMaps { rows, names, signs })
     }
 }
 

@@ -4,7 +4,7 @@ use Rattle.sm_record.specs.Rows.{secret}
 use Rattle.sm_record.specs.Snapshots.{start_body, secret_bodies}
 use Rattle.sm_record.specs.declared.edition.Edition.TheVariants as editions
 use Rattle.sm_record.proofs.SnapshotLaws.{snapshot_bodies, snapshot_fits}
-use Rattle.sm_store.specs.Filling.{HasRoom, HasAdded}
+use Rattle.sm_store.specs.Filling.{MayBeAdded, HasAdded}
 use Rattle.sm_store.proofs.FillRuns.{went_on, room_front, room_behind, added_more}
 use Rattle.sm_store.proofs.filling.fill.Goals as goal
 
@@ -15,7 +15,7 @@ pub put_start-requires-clause-room : goal.put_start-requires-clause-room
 put_start-requires-clause-room g c =
     room_front (start_body c.args.base.now ∷ []) (flat_map (secret_bodies editions.Second) c.args.base.now.rows.secrets)
     c.args.fresh.now
-    (subst (λ (bodies : List (List ℕ)). HasRoom bodies c.args.fresh.now)
+    (subst (λ (bodies : List (List ℕ)). MayBeAdded bodies c.args.fresh.now)
     (snapshot_bodies editions.Second c.args.base.now) c.requires.room)
 
 pub put_secrets-requires-clause-spelled : goal.put_secrets-requires-clause-spelled
@@ -25,10 +25,10 @@ put_secrets-requires-clause-spelled g c =
 
 pub put_secrets-requires-clause-room : goal.put_secrets-requires-clause-room
 put_secrets-requires-clause-room g c =
-    subst (λ l. HasRoom (flat_map (secret_bodies editions.Second) l) c.put_start.new.fresh) (sym c.as_slice.ensures)
+    subst (λ l. MayBeAdded (flat_map (secret_bodies editions.Second) l) c.put_start.new.fresh) (sym c.as_slice.ensures)
     (room_behind (start_body c.args.base.now ∷ [])
     (flat_map (secret_bodies editions.Second) c.args.base.now.rows.secrets) c.args.fresh.now c.put_start.new.fresh
-    (subst (λ (bodies : List (List ℕ)). HasRoom bodies c.args.fresh.now)
+    (subst (λ (bodies : List (List ℕ)). MayBeAdded bodies c.args.fresh.now)
     (snapshot_bodies editions.Second c.args.base.now) c.requires.room) c.in_ok-put_start.ensures.filled)
 
 pub returns-in_err-put_secrets-clause-goes_on : goal.returns-in_err-put_secrets-clause-goes_on
