@@ -12,7 +12,7 @@ use Rattle.sm_session.specs.Sessions.{Place}
 use Rattle.sm_seat_traces.specs.SeatTraces.{SeatTrace}
 use Rattle.sm_seat_traces.proofs.SeatTraceLaws.{traces_join}
 use Rattle.sm_workers.specs.Chains.{Chain}
-use Rattle.sm_workers.specs.RotationWorkers.{ComeToRest, NoneFell, Post, RotationTurn, RotationWorkerDid, WaitsAt, holds_in, passing}
+use Rattle.sm_workers.specs.RotationWorkers.{ComeToRest, NoneFellInTurns, Post, RotationTurn, RotationWorkerDid, WaitsAt, holds_in, passing}
 use Rattle.sm_workers.proofs.ChainLemmas.{chain_more, chain_on, joins, waits_at_both, waits_at_still}
 
 module _ (replies : Replies) (place : Place) where
@@ -37,7 +37,7 @@ module _ (replies : Replies) (place : Place) where
       to.own.seen own more turn.turn.seat_trace (turns_trace turn.to to turns chain.1))
 
   -- no count falls
-  pub turns_later : (from to : Post) (turns : Turns) → Follow from turns to → NoneFell from to
+  pub turns_later : (from to : Post) (turns : Turns) → Follow from turns to → NoneFellInTurns from to
   turns_later from to [] chain = record {
     random = omega (arith, chain.own.random);
     rotator = omega (arith, chain.rotator);
@@ -75,7 +75,7 @@ module _ (replies : Replies) (place : Place) where
 
     module _ (at : Post) (done : Done)
         (turn : TurnDone replies place.base (Grows (place.seat ∷ [])) place.seat (passing mid at) mid.own.seen
-        at.own.seen done) (later : NoneFell mid at) (to : Post) (waits : WaitsAt place.seat at to) where
+        at.own.seen done) (later : NoneFellInTurns mid at) (to : Post) (waits : WaitsAt place.seat at to) where
       abbrev turned : RotationTurn replies place
       turned = record { from = mid; to = at; done = done; turn = turn; later = later }
 
@@ -101,7 +101,7 @@ module _ (replies : Replies) (place : Place) where
 module _ (replies : Replies) (base : Base) (own seat : ℕ) (same : own ≡ seat) (from mid at : Post)
     (so_far : SoFar replies (record { base = base; seat = seat }) from mid) (done : Done)
     (turn : TurnDone replies base (Grows (own ∷ [])) own (passing mid at) mid.own.seen at.own.seen done)
-    (later : NoneFell mid at) (again : ℕ) (to : Post) (same_again : again ≡ own)
+    (later : NoneFellInTurns mid at) (again : ℕ) (to : Post) (same_again : again ≡ own)
     (seen : Grows (again ∷ []) at.own.seen to.own.seen) (readings : to.own.readings ≡ at.own.readings)
     (drawn : to.own.drawn ≡ at.own.drawn) (random : to.own.random ≡ at.own.random) (rotator : to.rotator ≡ at.rotator)
   where

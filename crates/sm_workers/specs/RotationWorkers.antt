@@ -31,7 +31,7 @@ pub record WaitsAt (seat : ℕ) (from to : Post) : Type 0 where
   pub rotator : to.rotator ≡ from.rotator
 
 -- no count of the random source, or of the rotator, falls
-pub record NoneFell (from to : Post) : Type 0 where
+pub record NoneFellInTurns (from to : Post) : Type 0 where
   pub random : from.own.random ≤ to.own.random
   pub rotator : from.rotator ≤ to.rotator
 
@@ -43,7 +43,7 @@ module _ (replies : Replies) (place : Place) where
     pub done : Done
     pub turn : TurnDone replies place.base (Grows (place.seat ∷ [])) place.seat (passing from to) from.own.seen
         to.own.seen done
-    pub later : NoneFell from to
+    pub later : NoneFellInTurns from to
 
   -- the holds of turns, one after the other
   abbrev pub holds_in : List RotationTurn → List Hold
@@ -63,4 +63,4 @@ module _ (replies : Replies) (place : Place) where
     pub chain : Chain (WaitsAt place.seat) (λ turn. turn.from) (λ turn. turn.to) from turns to
     pub seat_trace : SeatTrace hold_shape (Grows (place.seat ∷ [])) place.seat (λ hold. ⊤) from.own.seen
         (holds_in turns) to.own.seen
-    pub later : NoneFell from to
+    pub later : NoneFellInTurns from to

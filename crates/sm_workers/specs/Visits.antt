@@ -11,7 +11,7 @@ abbrev pub around : Sides → LocalState → Around
 around sides own = record { sides = sides; own = own }
 
 -- no count of a connection, or of the random source, falls
-pub record NoneFell (old new : Around) : Type 0 where
+pub record NoneFellInVisit (old new : Around) : Type 0 where
   pub source : old.sides.source ≤ new.sides.source
   pub sink : old.sides.sink ≤ new.sides.sink
   pub random : old.own.random ≤ new.own.random
@@ -27,7 +27,7 @@ module _ {K : Type 0} (sides : K → Sides) (people : People) (place : Place) wh
     pub to : LocalState
     pub session : Serves people place (around (sides conn) from) (around (sides came) to) note.ended note.trace.items
     pub complete : Completes session
-    pub later : NoneFell (around (sides conn) from) (around (sides came) to)
+    pub later : NoneFellInVisit (around (sides conn) from) (around (sides came) to)
 
   -- the turns of visits, one after the other
   abbrev pub turns_in : List Visit → List MessageTurn
