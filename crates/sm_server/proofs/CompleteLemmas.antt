@@ -3,7 +3,7 @@ use Rattle.std.proofs.Common.{◌≡◌, ◌⊎◌, ℕ, ◌<◌, ◌≤◌, Lis
 use Rattle.std.proofs.lemmas.List.{take_all}
 use Rattle.std.proofs.Math.Seq.{take-append_seam}
 use Rattle.std.specs.Io.KnownBytes.{prepend_known, IsAtEnd}
-use Rattle.sm_base.specs.Faults.{Rose}
+use Rattle.sm_base.specs.Faults.{Rose, Steady}
 use Rattle.sm_base.specs.declared.bad_kind.BadKind.{BadKind}
 use Rattle.sm_model.specs.declared.why.Why.{Why}
 use Rattle.sm_account.specs.States.{Base}
@@ -31,7 +31,7 @@ use Rattle.sm_session.proofs.TurnLemmas.{turn_weaker}
 use Rattle.sm_server.specs.declared.asked.RunTask.{RunTask}
 use Rattle.sm_server.specs.declared.asked.RunTask.TheVariants.{Answer, Practise, Summarize}
 use Rattle.sm_server.specs.Asked.{WordsDecide, PeopleDecide}
-use Rattle.sm_server.specs.Complete.{Steady, NoneFailed, ModelRound, ModelRounds, AnswersEach, ReadsWhole, Orders, Ran}
+use Rattle.sm_server.specs.Complete.{NoneFailed, ModelRound, ModelRounds, AnswersEach, ReadsWhole, Orders, Ran}
 use Rattle.sm_server.specs.Outside.{Outside, Trace, growth}
 use Rattle.sm_server.specs.Ran.{Course, AreAnswered, Answers, EndedAt, Ended, Story, course_of, Runs}
 use Rattle.sm_server.specs.Status.{WasOpened}

@@ -1,6 +1,6 @@
 -- What a run gives where nothing of the outside failed.
 use Rattle.std.specs.Prelude.{◌≡◌, ℕ, ◌⊎◌, List, [], ◌∷◌, ◌++◌, take, Option, Some, Result, Ok}
-use Rattle.sm_base.specs.Faults.{Rose}
+use Rattle.sm_base.specs.Faults.{Steady}
 use Rattle.sm_model.specs.declared.why.Why.{Why}
 use Rattle.sm_rotation.specs.Vouched.{Replies}
 use Rattle.sm_account.specs.States.{Base}
@@ -26,10 +26,6 @@ use Rattle.sm_server.specs.Outside.{Counts, Outside, Trace}
 use Rattle.sm_server.specs.Ran.{Course, Drills, Story, course_of, Runs}
 use Rattle.sm_server.specs.Status.{WasOpened}
 use Rattle.sm_server.specs.MessageRounds.{MessageRound, MessageRoundOf, marked}
-
--- the count did not rise
-abbrev pub Steady : ℕ → ℕ → Type 0
-Steady before now = Rose before now → ⊥
 
 -- no count of faults rose
 pub record NoneFailed (before now : Counts) : Type 0 where

@@ -2,7 +2,7 @@
 use Rattle.std.proofs.Common.{◌≡◌, ℕ, ◌<◌, ◌≤◌, List, [], ◌∷◌, ◌++◌, length, take, map, Result, Ok, Err, refl, sym, ap, ◌∙◌, subst, inl, inr, arith}
 use Rattle.std.proofs.lemmas.List.{take_all}
 use Rattle.std.proofs.Math.Seq.{take-append_seam}
-use Rattle.sm_base.specs.Faults.{Rose}
+use Rattle.sm_base.specs.Faults.{Rose, Steady}
 use Rattle.sm_model.specs.declared.why.Why.{Why}
 use Rattle.sm_model.specs.declared.entry.Mark.{Mark}
 use Rattle.sm_model.specs.declared.entry.Mark.TheVariants.{Fault}
@@ -17,7 +17,7 @@ use Rattle.sm_session.specs.declared.ended.Ended.{Ended}
 use Rattle.sm_session.specs.declared.ended.Ended.TheVariants as ended
 use Rattle.sm_session.specs.declared.trace.TraceItem.{TraceItem}
 use Rattle.sm_session.specs.Answer.{Asked, Answer, heard}
-use Rattle.sm_session.specs.Complete.{Steady, NoneFailed, NoFaults, AreModels, AreFirst, Completes}
+use Rattle.sm_session.specs.Complete.{NoneFailed, NoFaults, AreModels, AreFirst, Completes}
 use Rattle.sm_session.specs.Endings.{Passage, EndsBy}
 use Rattle.sm_session.specs.Sessions.{Place, Around, MessageTurn, brought, turn_shape, IsRight, after_turn, CountsOn, Serves}
 use Rattle.sm_session.specs.Streams.{message_limit}

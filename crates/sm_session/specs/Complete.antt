@@ -1,6 +1,6 @@
 -- What a session gives where nothing failed.
 use Rattle.std.specs.Prelude.{◌≡◌, ℕ, List, [], ◌∷◌, take, map, ⊤}
-use Rattle.sm_base.specs.Faults.{Rose}
+use Rattle.sm_base.specs.Faults.{Steady}
 use Rattle.sm_model.specs.declared.entry.Mark.TheVariants.{Fault}
 use Rattle.sm_account.specs.States.{Base}
 use Rattle.sm_http.specs.Messages.{Message, End, Messages}
@@ -12,10 +12,6 @@ use Rattle.sm_session.specs.Answer.{heard}
 use Rattle.sm_session.specs.Sessions.{Place, Around, MessageTurn, brought, Serves}
 use Rattle.sm_session.specs.Streams.{message_limit}
 use Rattle.sm_session.specs.Turns.{IsTurn}
-
--- the count did not rise
-abbrev pub Steady : ℕ → ℕ → Type 0
-Steady before now = Rose before now → ⊥
 
 -- neither side of the connection failed, nor the random source
 pub record NoneFailed (old new : Around) : Type 0 where
