@@ -8,7 +8,6 @@
 
 mod accepting;
 mod crew;
-mod peer_outcome;
 mod ending;
 mod entrance;
 mod entropy;
@@ -19,6 +18,7 @@ mod opening;
 mod orders;
 mod parting;
 mod peer;
+mod peer_outcome;
 mod people_file;
 mod people_line;
 mod porter;
@@ -49,6 +49,7 @@ use crate::reports::Reports;
 use crate::rotators::{Linked, Local, MakeRotator};
 use crate::serving::serve;
 use crate::starting::say_start;
+use sm_command_line::{Mode, Settings, WordsRefused, read_words, refusal_of};
 use sm_disk::Disk;
 use sm_gather::Gathered;
 use sm_io::{
@@ -57,7 +58,6 @@ use sm_io::{
 use sm_model::{Fails, Moment, NoMemory};
 use sm_rotator::Rotator;
 use sm_server::{Status, run_once};
-use sm_command_line::{Mode, Settings, WordsRefused, read_words, refusal_of};
 use std::alloc::Global;
 use std::env::Env;
 use std::io::ErrorKind;

@@ -1,8 +1,8 @@
 //! What a run is asked for.
 use crate::reports::Reports;
+use sm_command_line::Settings;
 use sm_disk::MemoryDisk;
 use sm_model::{Bytes, Fails, NoMemory};
-use sm_command_line::Settings;
 use std::alloc::Global;
 
 /// What a run is asked for: its words, what they say, and the text of the people who may ask. Beside them is who says

@@ -2,7 +2,7 @@
 ghost use Rattle.std.specs.Prelude.{◌≤◌, IfOk, length};
 ghost use Rattle.std.specs.Io.{ReadsAtMost, WritesAtMost};
 
-use crate::peer_outcome::{PeerOutcome, LastOutcome};
+use crate::peer_outcome::{LastOutcome, PeerOutcome};
 use std::io;
 use std::io::{ErrorKind, Read, Write};
 use std::net::{Net, OpenListener, OpenStream, SocketAddr, TcpStream};
@@ -52,7 +52,10 @@ impl<'a> Net for PeerNet<'a> {
         match TcpStream::connect_timeout(self.rt, &addr, share) {
             Ok(stream) => {
                 last_outcome.note(PeerOutcome::NotSaid);
-                Ok(PeerStream { stream, last_outcome })
+                Ok(PeerStream {
+                    stream,
+                    last_outcome,
+                })
             }
             Err(error) => {
                 last_outcome.note_error(PeerOutcome::NotReached, &error);
@@ -64,7 +67,9 @@ impl<'a> Net for PeerNet<'a> {
     fn lookup_host(&self, host: &str, port: u16, found: &mut [SocketAddr]) -> io::Result<usize> {
         let looked = self.rt.lookup_host(host, port, found);
         match &looked {
-            Ok(count) => self.last_outcome.expect(u32::try_from(*count).unwrap_or(u32::MAX)),
+            Ok(count) => self
+                .last_outcome
+                .expect(u32::try_from(*count).unwrap_or(u32::MAX)),
             Err(error) => self.last_outcome.note_error(PeerOutcome::NotFound, error),
         }
         looked

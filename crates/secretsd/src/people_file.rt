@@ -1,8 +1,8 @@
 //! The file that says who may ask.
 use crate::people_line::reason_of;
+use sm_command_line::Settings;
 use sm_principal::{People, PeopleRefused};
 use sm_server::Status;
-use sm_command_line::Settings;
 use std::fs;
 use std::io::ErrorKind;
 use std::os::unix::fs::PermissionsExt;

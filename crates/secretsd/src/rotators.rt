@@ -1,6 +1,6 @@
 //! The rotators that the words name. Each says which of its steps failed.
-use crate::peer_outcome::LastOutcome;
 use crate::peer::PeerNet;
+use crate::peer_outcome::LastOutcome;
 use crate::reports::{Kind, Reports};
 use sm_base::limits::VALUE_LIMIT;
 use sm_model::{Answer, Copied, NoMemory, Stage, Text, Value};
@@ -61,7 +61,10 @@ impl<'a> MakeRotator for Linked<'a> {
         Ok(SaidRotator {
             rotator: LinkRotator::new(alloc, net, address),
             reports: self.reports,
-            peer: Some(Peer { rt: self.rt, last_outcome }),
+            peer: Some(Peer {
+                rt: self.rt,
+                last_outcome,
+            }),
         })
     }
 }

@@ -2,8 +2,8 @@
 ghost use Rattle.std.specs.Prelude.{None};
 ghost use Rattle.sm_agent.specs.Link.{link_faults};
 
-use crate::peer_outcome::LastOutcome;
 use crate::peer::PeerNet;
+use crate::peer_outcome::LastOutcome;
 use crate::reports::{Kind, Reports};
 use sm_agent::{LinkUpstream, Question, Upped, Upstream};
 use sm_base::{Copied, NoMemory, Text};

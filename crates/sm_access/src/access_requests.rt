@@ -65,7 +65,10 @@ pub(crate) fn access_request_of(request: &Request) -> Option<AccessRequest<'_>>
             "secretsmanager:StopReplicationToReplica",
             &stop.secret_id,
         )),
-        Request::TagResource(tag) => Some(access_request_on("secretsmanager:TagResource", &tag.secret_id)),
+        Request::TagResource(tag) => Some(access_request_on(
+            "secretsmanager:TagResource",
+            &tag.secret_id,
+        )),
         Request::UntagResource(untag) => {
             Some(access_request_on("secretsmanager:UntagResource", &untag.secret_id))
         }

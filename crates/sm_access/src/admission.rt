@@ -7,7 +7,7 @@ ghost use Rattle.sm_policy_text.specs.Documents.{policy_of};
 ghost use Rattle.sm_access.specs.Admission.{admitted_told, by_person, by_decision, by_reading, by_policy, question_of, on_row, secret_named, admission_of_access_request, admission};
 ghost use Rattle.sm_access.specs.AccessRequests.{plain_access_request, get_access_request};
 
-use crate::access_requests::{AccessRequest, asks_nothing, get_access_request, access_request_of};
+use crate::access_requests::{AccessRequest, access_request_of, asks_nothing, get_access_request};
 use sm_model::{
     GetSecretValue, Moment, NoMemory, Person, ReadRefused, Request, SecretId, SecretRow, Text,
 };
@@ -93,7 +93,11 @@ fn secret_named<'a>(
 }
 
 /// Whether the person may do what is asked of the secret of this row.
-fn on_row<'a>(person: &'a Person, row: &'a SecretRow, access_request: &'a AccessRequest<'a>) -> Admitted
+fn on_row<'a>(
+    person: &'a Person,
+    row: &'a SecretRow,
+    access_request: &'a AccessRequest<'a>,
+) -> Admitted
     ensures { admitted_told result
         ≡ Some (by_policy row.now.policy (question_of person.now row.now (plain_access_request access_request.now))) }
 {

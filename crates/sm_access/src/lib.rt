@@ -2,8 +2,8 @@
 //! policy says to it.
 #![tactic(auto)]
 
+mod access_requests;
 pub mod admission;
 pub mod laws;
-mod access_requests;
 
 pub use admission::{Admitted, admit, admit_get};

@@ -37,7 +37,11 @@ pub enum Entered {
 }
 
 /// Makes an entry that is legal at the rows, unless it would pass a limit.
-pub fn enter_legal<D: Disk>(inner: &mut AccountState<D>, seat: u32, entry: Entry) -> Result<Entered, NoMemory>
+pub fn enter_legal<D: Disk>(
+    inner: &mut AccountState<D>,
+    seat: u32,
+    entry: Entry,
+) -> Result<Entered, NoMemory>
     requires kept { Kept D.Disk inner.old }
     requires may { MayEnter inner.old entry }
     ensures kept { Kept D.Disk inner.new }

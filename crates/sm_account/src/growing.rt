@@ -46,7 +46,11 @@ pub fn grow_request<D: Disk>(
 }
 
 /// Takes all the memory that this entry needs. The state stays.
-pub fn grow<D: Disk>(inner: &mut AccountState<D>, entry: Entry, change: Change) -> Result<Due, NoMemory>
+pub fn grow<D: Disk>(
+    inner: &mut AccountState<D>,
+    entry: Entry,
+    change: Change,
+) -> Result<Due, NoMemory>
     requires can { CanMake inner.old.table change }
     requires bound { entry.moment.0 ≤ LAST_READING }
     requires act { IsSpellable entry }

@@ -49,7 +49,12 @@ impl<D: Disk, R: Rotator> Account<D, R> {
 }
 
 /// the account's state over a disk that was opened.
-fn account_state_over<D: Disk>(alloc: Global, opened: Opened<D>, began: Snapshot<D>, limit: u64) -> AccountState<D>
+fn account_state_over<D: Disk>(
+    alloc: Global,
+    opened: Opened<D>,
+    began: Snapshot<D>,
+    limit: u64,
+) -> AccountState<D>
     requires store { stores.IsOpened limit opened.taken opened.store }
     requires second { stores.format_of opened.store ≡ formats.Second }
     requires lawful { IsLawful opened.taken }

@@ -5,12 +5,12 @@
 pub mod claims;
 pub mod due;
 pub mod fresh;
-pub mod ready;
 pub mod live_claims;
+pub mod ready;
 pub mod works;
 
 pub use claims::{CLAIM_SECONDS, Claim};
 pub use due::{first_due, has_due};
 pub use fresh::{is_fresh, step_of};
-pub use ready::ready_work;
 pub use live_claims::add_claim;
+pub use ready::ready_work;

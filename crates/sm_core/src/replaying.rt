@@ -15,10 +15,10 @@ ghost use Rattle.sm_table.specs.Sweep.{sweep};
 
 use crate::judging::{is_batch, judge_alone};
 use sm_forms::forms;
-use sm_judging::Judged;
-use sm_model::{Act, Answer, Arn, At, Change, Entry, NoMemory, Request, Why, need};
 use sm_judge_rotations::begun::judge_begun;
 use sm_judge_rotations::reported::judge_reported;
+use sm_judging::Judged;
+use sm_model::{Act, Answer, Arn, At, Change, Entry, NoMemory, Request, Why, need};
 use sm_table::Table;
 use sm_versions::When;
 use std::alloc::Global;

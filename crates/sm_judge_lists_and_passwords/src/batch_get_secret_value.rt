@@ -15,13 +15,13 @@ use crate::pages::{filters_given, is_next, listed, page_size, row_at};
 use sm_access::{Admitted, admit_get};
 use sm_base::limits::BATCH_LIMIT;
 use sm_forms::get_secret_value::get_forms;
+use sm_judge_reads::get_secret_value::judge_get;
 use sm_judging::Judged;
 use sm_listing::{Listed, PageAsk};
 use sm_model::{
     BatchError, BatchGetSecretValue, Copied, GetSecretValue, GotSecret, List, Moment, NoMemory,
     Person, Reply, RowList, SecretBatch, Text, Why,
 };
-use sm_judge_reads::get_secret_value::judge_get;
 use sm_table::Table;
 use std::alloc::Global;
 

@@ -9,12 +9,12 @@ ghost use Rattle.sm_judge_reads.specs.DescribeSecret.{described};
 
 use crate::pages::{filters_given, is_next, listed, page_size, row_at};
 use sm_base::limits::PAGE_LIMIT;
+use sm_judge_reads::describe_secret::described;
 use sm_judging::Judged;
 use sm_listing::{Listed, PageAsk};
 use sm_model::{
     Copied, Described, List, ListSecrets, Moment, NoMemory, Reply, RowList, SecretPage, Text,
 };
-use sm_judge_reads::describe_secret::described;
 use sm_table::Table;
 use std::alloc::Global;
 

@@ -5,8 +5,8 @@ ghost use Rattle.sm_command_line.specs.Reading.{settings_of};
 ghost use Rattle.sm_server.specs.Asked.{FollowsPeople, FollowsWords, end_of_people, task_of_mode};
 
 use crate::status::Status;
-use sm_principal::{People, PeopleRefused};
 use sm_command_line::{Mode, WordsRefused, read_words};
+use sm_principal::{People, PeopleRefused};
 use std::alloc::Global;
 
 /// What a run over one stream does.

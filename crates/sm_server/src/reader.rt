@@ -8,8 +8,8 @@ use crate::status::{Status, status_of};
 use sm_agent::{Agent, CACHE_SIZE, TTL, Upstream};
 use sm_agent_stream::answer_stream;
 use sm_base::NoMemory;
-use sm_io::{Clock, Sink, Source};
 use sm_command_line::{Mode, WordsRefused, read_words};
+use sm_io::{Clock, Sink, Source};
 use std::alloc::Global;
 
 /// Follows the words of a command line: answers the requests of the source one after the other, at most 1,000, with a

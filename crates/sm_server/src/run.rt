@@ -189,7 +189,9 @@ fn run_opened<Q: Source, K: Sink, D: Disk, C: Clock, W: Words, R: Rotator>(
         (D.faults result.1) clock.new random.new rotator.new).counts }
 {
     match task {
-        RunTask::Answer => answer_opened(alloc, people, account, source, sink, clock, random, rotator),
+        RunTask::Answer => answer_opened(
+            alloc, people, account, source, sink, clock, random, rotator,
+        ),
         RunTask::Summarize => check_opened(alloc, account, sink, clock),
         RunTask::Practise(number) => {
             practise_opened(alloc, number, people, account, sink, clock, random, rotator)

@@ -15,12 +15,12 @@ use crate::status::Status;
 use crate::witness::Witness;
 use sm_account::Account;
 use sm_base::limits::JOURNAL_LIMIT;
+use sm_command_line::{Mode, WordsRefused, read_words};
 use sm_disk::Disk;
 use sm_io::{Clock, Edge, Words};
 use sm_lock::BuildRefused;
 use sm_principal::People;
 use sm_rotator::Rotator;
-use sm_command_line::{Mode, WordsRefused, read_words};
 use sm_workers::{ConnEnd, Task, WorkerBy, any_failed, run_at};
 use std::alloc::Global;
 use std::sync::Wait;
@@ -141,7 +141,9 @@ where
 }
 
 /// How many of the workers are connection workers.
-fn connection_workers_of<E, D: Disk, C, W, R: Rotator>(workers: &[WorkerBy<E, C, W, R, Account<D, R>>]) -> u32
+fn connection_workers_of<E, D: Disk, C, W, R: Rotator>(
+    workers: &[WorkerBy<E, C, W, R, Account<D, R>>],
+) -> u32
     requires { length workers.now ≤ SEATS_LIMIT }
     ensures { result ≡ connection_workers_in workers.now }
 {

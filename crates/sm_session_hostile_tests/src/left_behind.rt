@@ -54,7 +54,11 @@ fn recovered<R: Wait>(rt: &R, alloc: Global, disk: MemoryDisk) -> Result<Option<
 }
 
 /// How an account stands.
-pub fn left_behind_of<R: Wait>(rt: &R, alloc: Global, account: Kept) -> Result<LeftBehind, NoMemory> {
+pub fn left_behind_of<R: Wait>(
+    rt: &R,
+    alloc: Global,
+    account: Kept,
+) -> Result<LeftBehind, NoMemory> {
     let (account, now) = look(rt, alloc, account)?;
     let disk = account.close();
     let mut all = Vec::new(alloc);

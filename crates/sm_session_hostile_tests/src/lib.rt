@@ -5,8 +5,8 @@ pub mod gates;
 #[cfg(test)]
 mod going;
 #[cfg(test)]
+mod left_behind;
+#[cfg(test)]
 mod rows;
 #[cfg(test)]
 mod sessions;
-#[cfg(test)]
-mod left_behind;

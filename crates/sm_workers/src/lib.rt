@@ -5,8 +5,8 @@
 mod connection_workers;
 mod jobs;
 mod passes;
-pub mod running;
 mod rotation_workers;
+pub mod running;
 pub mod worker;
 mod working;
 

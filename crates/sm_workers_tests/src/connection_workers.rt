@@ -1,6 +1,7 @@
 //! Connection workers and a rotation worker at one account.
 use crate::support::{
-    MemoryWorker, add, connection, connection_worker, edge, outcome, ran_server, three, rotation_worker,
+    MemoryWorker, add, connection, connection_worker, edge, outcome, ran_server, rotation_worker,
+    three,
 };
 use sm_io::MemoryEdge;
 use sm_rotator::NoRotator;
@@ -67,7 +68,11 @@ fn run<R: Threads + Wait + Sync>(
         rotation_worker(alloc, NoRotator::new()),
     )?;
     let ended = ran_server(rt, alloc, workers.as_mut_slice())?;
-    Ok((at_connection_worker(&workers[0]), at_connection_worker(&workers[1]), ended))
+    Ok((
+        at_connection_worker(&workers[0]),
+        at_connection_worker(&workers[1]),
+        ended,
+    ))
 }
 
 #[test]

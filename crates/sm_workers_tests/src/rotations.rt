@@ -4,8 +4,8 @@ ghost use Rattle.sm_workers.specs.Workers.{IsFresh};
 
 use crate::meeting::{Holding, Meeting, Part, Watched};
 use crate::support::{
-    MemoryWorker, connection, connection_worker, edge, fails, late_rotation_worker, outcome, ran_over, ran_server, three,
-    rotation_worker,
+    MemoryWorker, connection, connection_worker, edge, fails, late_rotation_worker, outcome,
+    ran_over, ran_server, rotation_worker, three,
 };
 use sm_io::MemoryConn;
 use sm_model::{Fails, List, Stage};

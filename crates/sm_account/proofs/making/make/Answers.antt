@@ -17,9 +17,9 @@ returns-in-Ok g c =
     let new = c.commit_written.new.inner in
     let due = c.args.due in
     let rest = behind_commit old mid new c.write_ready.ensures.rest due.entry due.prepared.change
-        c.commit_written.ensures.rest in
+    c.commit_written.ensures.rest in
     let history : history_in new ≡ history_in old ++ (c.args.seat, Entry due.entry) ∷ [] =
-        c.commit_written.ensures.history
+    c.commit_written.ensures.history
     ∙ ap (λ h. h ++ (c.args.seat, Entry due.entry) ∷ []) (behind_history old mid new c.write_ready.ensures.rest) in
     let stored = ap (λ b. b.store) rest in
     let table = ap (λ b. b.table) c.write_ready.ensures.rest in

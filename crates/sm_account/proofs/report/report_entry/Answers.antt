@@ -16,7 +16,7 @@ returns-in-Over g c =
     let old = c.args.inner.now in
     let entry = c.args.entry in
     let both = report_over old c.enter_legal.new.inner c.args.seat entry (passed_at (state_in old) entry)
-        c.in-Over.passed
+    c.in-Over.passed
     (rw c.in-Over.is at c.in-Ok.ensures.enters) (rw c.in-Over.is at c.in-Ok.ensures.leaves) in
     record { kept = c.enter_legal.ensures.kept; reports = both.0; leaves = both.1 }
 

@@ -8,7 +8,7 @@ returns-in-Made g c =
     let old = c.args.inner.now in
     let entry = c.args.start.entry in
     let both = start_made old c.enter_legal.new.inner c.args.seat entry (passed_at (state_in old) entry)
-        c.args.start.arn
+    c.args.start.arn
     c.requires.its (rw c.in-Made.is at c.in-Ok.ensures.enters) (rw c.in-Made.is at c.in-Ok.ensures.leaves) in
     record { kept = c.enter_legal.ensures.kept; starts = both.0; leaves = both.1 }
 
@@ -17,7 +17,7 @@ returns-in-Over g c =
     let old = c.args.inner.now in
     let entry = c.args.start.entry in
     let both = start_over old c.enter_legal.new.inner c.args.seat entry (passed_at (state_in old) entry)
-        c.in-Over.passed
+    c.in-Over.passed
     (rw c.in-Over.is at c.in-Ok.ensures.enters) (rw c.in-Over.is at c.in-Ok.ensures.leaves) in
     record { kept = c.enter_legal.ensures.kept; starts = both.0; leaves = both.1 }
 

@@ -15,7 +15,7 @@ returns-clause-turn g c =
     let before = c.args.account.now in
     let old : LocalState = local_state_by g.C.Clock g.W.Words (history before) c.args.clock.now c.args.random.now in
     let mid : LocalState =
-        local_state_by g.C.Clock g.W.Words (history said.new.account) said.new.clock said.new.random in
+    local_state_by g.C.Clock g.W.Words (history said.new.account) said.new.clock said.new.random in
     let new : LocalState =
     local_state_by g.C.Clock g.W.Words (history c.turns.new.account) c.turns.new.clock c.turns.new.words in (
       reply_of said.result,

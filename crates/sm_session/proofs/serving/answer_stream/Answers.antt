@@ -86,7 +86,7 @@ returns-then-not-sent-clause-served g c =
     let taken = c.take_turn-after in
     let sides : Sides = sides_by g.K.Source g.K.Sink c.reply-sent.new.conn in
     let own : LocalState =
-        local_state_by g.C.Clock g.W.Words (seen taken.result.pass) taken.new.clock taken.new.words in
+    local_state_by g.C.Clock g.W.Words (seen taken.result.pass) taken.new.clock taken.new.words in
     let turn : TakesTurn place (heard c.args.people.now (content c.in-Ok-receive.message)) now.own own
     (reply_of taken.result.said) taken.result.item =
     subst (λ n. TakesTurn (record { base = place.base; seat = n })
@@ -125,7 +125,7 @@ loop-number-preserved g c =
     let taken = c.take_turn-after in
     let sides : Sides = sides_by g.K.Source g.K.Sink c.reply-sent.new.conn in
     let own : LocalState =
-        local_state_by g.C.Clock g.W.Words (seen taken.result.pass) taken.new.clock taken.new.words in
+    local_state_by g.C.Clock g.W.Words (seen taken.result.pass) taken.new.clock taken.new.words in
     let turn : TakesTurn place (heard c.args.people.now (content c.in-Ok-receive.message)) now.own own
     (reply_of taken.result.said) taken.result.item =
     subst (λ n. TakesTurn (record { base = place.base; seat = n })

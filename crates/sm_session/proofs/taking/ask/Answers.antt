@@ -72,7 +72,7 @@ returns-in-Memory-clause-turn g c =
     let passed = c.pass_by-in-Memory in
     let old : LocalState = local_state_by g.C.Clock g.W.Words (seen c.args.pass) c.args.clock.now c.args.words.now in
     let new : LocalState =
-        local_state_by g.C.Clock g.W.Words (seen passed.result.pass) c.args.clock.now c.draw.new.random in
+    local_state_by g.C.Clock g.W.Words (seen passed.result.pass) c.args.clock.now c.draw.new.random in
     passed_behind place (Ok asked) old new Memory passed.result.said passed.result.item (ap seen passed.ensures.pass)
     refl c.in-Memory.ensures.bytes c.draw.ensures.later passed.ensures.said
     (forgotten_turn (Unit {0}) (Rose old.random new.random) place.base old.seen (Ok asked)) passed.ensures.item

@@ -19,7 +19,7 @@ returns-in-Ask-clause-turn g c =
     let place : Place = record { base = base (built_with c.args.gate.now); seat = number c.args.pass } in
     let old : LocalState = local_state_by g.C.Clock g.W.Words (seen c.args.pass) c.args.clock.now c.args.words.now in
     let new : LocalState =
-        local_state_by g.C.Clock g.W.Words (seen c.ask.result.pass) c.ask.new.clock c.ask.new.words in
+    local_state_by g.C.Clock g.W.Words (seen c.ask.result.pass) c.ask.new.clock c.ask.new.words in
     subst (λ (w : Result Asked Why). TakesTurn place w old new (reply_of c.ask.result.said) c.ask.result.item)
     (sym c.in-Ask.ensures.hears) c.ask.ensures.turn
 

@@ -32,7 +32,7 @@ pub returns-in-Ok : goal.returns-in-Ok
 returns-in-Ok g c =
     let ok = c.in-Ok.ensures in
     let are = subst (λ d. IsAccountStateOver g.D.Disk c.in-Ok.opened d c.args.limit c.account_state_over.result)
-        c.of-began.ensures
+    c.of-began.ensures
     c.account_state_over.ensures in
     record {
       opened = opened_over c.in-Ok.opened c.args.disk c.args.limit c.args.doors c.account_state_over.result
