@@ -9,6 +9,9 @@ use std::marker::Model;
 use std::str;
 use std::sync::ArcStr;
 
+/// From how many bytes on a text that is brought is shared: a shorter one is copied as fast as it is counted.
+const SHARED_FROM: usize = 128;
+
 /// Where a text lies.
 #[derive(Drop)]
 enum Kept {
@@ -77,6 +80,17 @@ impl Text {
         ensures { IfOk result (λ t. t ≡ text.now) }
     {
         Ok(Text::new(String::from_str(alloc, text)?))
+    }
+
+    /// A text with these characters, which a message or a record brought: where it is long, its copies share it from
+    /// the start, since what makes a version is kept as an entry of the history and as a row.
+    pub fn brought(alloc: Global, text: &str) -> Result<Text, NoMemory>
+        ensures { IfOk result (λ t. t ≡ text.now) }
+    {
+        if text.len() < SHARED_FROM {
+            return Text::from_str(alloc, text);
+        }
+        Text::shared(String::from_str(alloc, text)?)
     }
 
     /// The text of bytes that are UTF-8.

@@ -23,7 +23,7 @@ impl Member for Text {
     #[tactic(auto, unfolding(crate::specs::Kinds::text))]
     fn read(alloc: Global, value: &Value) -> Read<Text> {
         match value.as_str() {
-            Some(text) => match Text::from_str(alloc, text) {
+            Some(text) => match Text::brought(alloc, text) {
                 Ok(text) => Read::Is(text),
                 Err(_) => Read::Memory,
             },

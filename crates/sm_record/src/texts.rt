@@ -77,7 +77,7 @@ impl Field for Text {
     fn read_front(alloc: Global, _edition: Edition, bytes: &[u8]) -> Result<(Text, &[u8]), Unread> {
         let (octets, rest) = octets_at(bytes)?;
         match str::from_utf8(octets) {
-            Ok(text) => Ok((Text::from_str(alloc, text)?, rest)),
+            Ok(text) => Ok((Text::brought(alloc, text)?, rest)),
             Err(_) => Err(Unread::Left(bytes.len())),
         }
     }
