@@ -9,7 +9,7 @@ use crate::known::{Known, is_secret, kept};
 use sm_base::limits::KEY_LIMIT;
 use sm_base::person_arn::is_person_arn;
 use sm_base::text::same_text;
-use sm_base::{List, Text};
+use sm_base::{Copied, List, Text};
 use sm_model::Person;
 use std::alloc::Global;
 
@@ -89,8 +89,12 @@ fn known_with(alloc: Global, key: &[u8], full: bool, arn: &[u8], secret: Option<
     let Ok(arn) = Text::from_utf8(alloc, arn) else {
         return Line::Memory;
     };
+    // A copy shares its texts with the copies that are made of it for each message.
+    let Ok(person) = (Person { key, arn, full }).copy(alloc) else {
+        return Line::Memory;
+    };
     match kept(alloc, secret) {
-        Ok(secret) => Line::Is(Known::with(Person { key, arn, full }, secret)),
+        Ok(secret) => Line::Is(Known::with(person, secret)),
         Err(_) => Line::Memory,
     }
 }
