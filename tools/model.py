@@ -98,6 +98,7 @@ ERRORS = {
     "body is not a JSON object": "SerializationException",
     "no credential": "AccessDeniedException",
     "no statement allows": "AccessDeniedException",
+    "replica is read-only": "InvalidRequestException",
     "secret has no current value": "InvalidRequestException",
     "secret is not a replica": "InvalidRequestException",
     "secret not found": "ResourceNotFoundException",

@@ -2,7 +2,8 @@
 //!
 //! `secretsd --mode serve --data FOLDER` serves at an address. `secretsd --data FOLDER < messages` answers the HTTP
 //! messages of standard input on standard output and ends. `secretsd --mode check --data FOLDER` says what the folder
-//! holds. `secretsd --mode agent` reads secrets from a server, and keeps each for a while.
+//! holds. `secretsd --mode agent` reads secrets from a server, and keeps each for a while. `secretsd --mode ship --data
+//! FOLDER | secretsd --mode follow` keeps a replica of a folder.
 //! `secretsd --help` says which words it takes.
 #![tactic(auto)]
 
@@ -38,7 +39,7 @@ mod welcome;
 
 ghost use Rattle.sm_command_line.specs.Reading.{IsInBounds};
 
-use crate::ending::say_end;
+use crate::ending::{Unit, say_end, unit_of};
 use crate::entropy::SaidRandom;
 use crate::folder_disk::FolderDisk;
 use crate::opening::Opening;
@@ -70,15 +71,15 @@ use std::{env, io};
 const FIXED_MOMENT: Moment = Moment(1_700_000_000);
 
 fn main(rt: HostRuntime) -> ExitCode {
-    let status = match words(&rt, rt.alloc()) {
+    let (status, unit) = match words(&rt, rt.alloc()) {
         Ok(words) => follow(&rt, &rt, words.as_slice()),
-        Err(error) if error.kind() == ErrorKind::OutOfMemory => Status::Memory,
+        Err(error) if error.kind() == ErrorKind::OutOfMemory => (Status::Memory, Unit::Message),
         Err(_) => {
             let _ = eprintln!(rt; "secretsd: a word of the command line is not UTF-8");
-            Status::Words
+            (Status::Words, Unit::Message)
         }
     };
-    say_end(&rt, status);
+    say_end(&rt, status, unit);
     ExitCode::from(status.code())
 }
 
@@ -91,12 +92,19 @@ fn words(rt: &(impl Env + AllocGlobal), alloc: Global) -> io::Result<Vec<String>
     Ok(words)
 }
 
-/// Does what the words ask for. No folder is opened for words that are not followed.
-fn follow<H: Threads + Wait + Sync>(rt: &HostRuntime, threads: &H, words: &[String]) -> Status {
+/// Does what the words ask for, and gives what it read. No folder is opened for words that are not followed.
+fn follow<H: Threads + Wait + Sync>(
+    rt: &HostRuntime,
+    threads: &H,
+    words: &[String],
+) -> (Status, Unit) {
     match read_words(rt.alloc(), words) {
-        Ok(settings) => follow_mode(rt, threads, words, &settings),
-        Err(WordsRefused::Refused) => say_refusal(rt, words),
-        Err(WordsRefused::Memory) => Status::Memory,
+        Ok(settings) => (
+            follow_mode(rt, threads, words, &settings),
+            unit_of(settings.mode),
+        ),
+        Err(WordsRefused::Refused) => (say_refusal(rt, words), Unit::Message),
+        Err(WordsRefused::Memory) => (Status::Memory, Unit::Message),
     }
 }
 
@@ -118,6 +126,8 @@ fn follow_mode<H: Threads + Wait + Sync>(
             say_start(rt, settings);
             read_for_others(rt, threads, words, settings)
         }
+        Mode::Ship => follow_settings(rt, threads, words, settings),
+        Mode::Follow => follow_settings(rt, threads, words, settings),
     }
 }
 
@@ -195,10 +205,20 @@ fn run_over_folder(rt: &HostRuntime, orders: &Orders, folder: &str) -> Status {
     }
 }
 
+/// The number that a run without chance is made from. A run that ships has its position in its place, and a replica
+/// lives by the system's clock.
+fn fixed_number(settings: &Settings) -> Option<u64> {
+    match settings.mode {
+        Mode::Ship => None,
+        Mode::Follow => None,
+        _ => settings.number,
+    }
+}
+
 /// Runs over a disk: with a fixed clock and bytes that count up where a number is given, and else with the system's.
 fn run_over<D: Disk + Drop>(rt: &HostRuntime, orders: &Orders, disk: D) -> Status {
     let alloc = rt.alloc();
-    match orders.settings.number {
+    match fixed_number(orders.settings) {
         Some(number) => {
             let mut clock = FixedClock::new(FIXED_MOMENT);
             let first = (number % 256) as u8;
@@ -255,7 +275,8 @@ fn run_made<D: Disk + Drop, C: Clock, W: Words, M: MakeRotator>(
     }
 }
 
-/// Answers the messages of standard input on standard output, or says there what the disk holds.
+/// Answers the messages of standard input on standard output, or says there what the disk holds, or writes what a
+/// replica is to take, or is one.
 fn run_stream<D: Disk + Drop, C: Clock, W: Words, R: Rotator>(
     rt: &HostRuntime,
     orders: &Orders,

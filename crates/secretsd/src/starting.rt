@@ -3,17 +3,19 @@ use sm_command_line::{Mode, Settings};
 use std::io::IsTerminal;
 use std::net::ToSocketAddrs;
 
-/// Says on standard error that a rotator or a server can't be asked, and that messages are waited for.
+/// Says on standard error that a rotator or a server can't be asked, and that messages or frames are waited for.
 pub fn say_start(rt: &HostRuntime, settings: &Settings) {
     match settings.mode {
         Mode::Exec => {
             say_form(rt, settings.rotator.as_str());
-            say_waiting(rt);
+            say_waiting(rt, "HTTP messages");
         }
         Mode::Serve => say_address(rt, settings.rotator.as_str()),
         Mode::Check => {}
         Mode::Drill => {}
         Mode::Agent => say_server(rt, settings.listen.as_str()),
+        Mode::Ship => {}
+        Mode::Follow => say_waiting(rt, "frames"),
     }
 }
 
@@ -62,12 +64,12 @@ fn say_server(rt: &HostRuntime, server: &str) {
     }
 }
 
-/// Says that messages are waited for, where somebody sits before it who may not know.
-fn say_waiting(rt: &HostRuntime) {
+/// Says what is waited for, where somebody sits before it who may not know.
+fn say_waiting(rt: &HostRuntime, what: &str) {
     if rt.stdin().is_terminal() {
         let _ = eprintln!(rt;
-            "secretsd: waits for HTTP messages on standard input, up to its end (Control-D); secretsd --help says \
-             what else it does"
+            "secretsd: waits for {what} on standard input, up to its end (Control-D); secretsd --help says what else \
+             it does"
         );
     }
 }

@@ -23,7 +23,7 @@ connections-suit = (
         unlike,
         (
           unlike,
-          ((λ e. (refl, refl)), (unlike, (unlike, (unlike, (unlike, (unlike, tt)))))),
+          ((λ e. (refl, refl)), (unlike, (unlike, (unlike, (unlike, (unlike, (unlike, tt))))))),
         ),
       ),
     ),
@@ -43,7 +43,7 @@ workers-suit = (
           unlike,
           (
             unlike,
-            ((λ e. (refl, refl)), (unlike, (unlike, (unlike, (unlike, tt))))),
+            ((λ e. (refl, refl)), (unlike, (unlike, (unlike, (unlike, (unlike, tt)))))),
           ),
         ),
       ),

@@ -28,7 +28,8 @@ mode_rule names =
     with_default (codes "exec") (record (option_rule (codes "mode")) { parser = Some (values.Names names) })
 
 abbrev pub mode_names : List Text
-mode_names = codes "exec" ∷ codes "serve" ∷ codes "check" ∷ codes "drill" ∷ codes "agent" ∷ []
+mode_names = codes "exec" ∷ codes "serve" ∷ codes "check" ∷ codes "drill" ∷ codes "agent" ∷ codes "ship"
+    ∷ codes "follow" ∷ []
 
 abbrev pub AreModeNames : Names → Type 0
 AreModeNames names = map (λ name. name.now) names.now ≡ mode_names
@@ -58,6 +59,9 @@ workers_rule = with_default (codes "2") (number_from 0 ROTATION_WORKERS_LIMIT (c
 abbrev pub number_rule : Rule
 number_rule = number_from 0 18446744073709551615 (codes "number")
 
+abbrev pub region_rule : Rule
+region_rule = with_default (codes "us-east-1") (option_rule (codes "region"))
+
 -- a flag: a word without a value
 abbrev pub log_rule : Rule
 log_rule = record (new_rule (codes "log")) { long = Some (codes "log"); action = Some SetTrue }
@@ -68,9 +72,9 @@ bare_app = on_top (λ s. record s { no_binary_name = true; has_version = true })
 
 -- the command, with the names of the modes where they lie
 abbrev pub app_at : Names → App
-app_at names = with_rule (with_rule (with_rule (with_rule (with_rule (with_rule (with_rule (with_rule
+app_at names = with_rule (with_rule (with_rule (with_rule (with_rule (with_rule (with_rule (with_rule (with_rule
     (with_rule bare_app (mode_rule names)) data_rule) people_rule) listen_rule) rotator_rule) connections_rule)
-    workers_rule) number_rule) log_rule
+    workers_rule) number_rule) region_rule) log_rule
 
 -- the command, wherever the names lie
 abbrev pub IsApp : App → Type 0

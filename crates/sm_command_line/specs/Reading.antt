@@ -7,7 +7,7 @@ use Rattle.clap.specs.Words.{Kinds, Row, Text, first_of, one_of}
 use Rattle.clap.specs.ValueTests.{is_numeral}
 use Rattle.sm_base.specs.declared.limits.TheConstants.{CONNECTION_WORKERS_LIMIT, ROTATION_WORKERS_LIMIT}
 use Rattle.sm_command_line.specs.declared.settings.Mode.{Mode}
-use Rattle.sm_command_line.specs.declared.settings.Mode.TheVariants.{Exec, Serve, Check, Drill, Agent}
+use Rattle.sm_command_line.specs.declared.settings.Mode.TheVariants.{Exec, Serve, Check, Drill, Agent, Ship, Follow}
 use Rattle.sm_command_line.specs.declared.settings.Settings.{Settings}
 use Rattle.sm_command_line.specs.declared.settings.WordsRefused.{WordsRefused}
 use Rattle.sm_command_line.specs.declared.settings.WordsRefused.TheVariants.{Refused, Memory}
@@ -15,7 +15,8 @@ use Rattle.sm_command_line.specs.Command.{faults, found}
 
 abbrev pub mode_named : Text → Mode
 mode_named name = if bytes_eq name (codes "serve") then Serve else (if bytes_eq name (codes "check") then Check
-    else (if bytes_eq name (codes "drill") then Drill else (if bytes_eq name (codes "agent") then Agent else Exec)))
+    else (if bytes_eq name (codes "drill") then Drill else (if bytes_eq name (codes "agent") then Agent
+    else (if bytes_eq name (codes "ship") then Ship else (if bytes_eq name (codes "follow") then Follow else Exec)))))
 
 abbrev pub mode_of : Option Text → Mode
 mode_of None = Exec
@@ -46,6 +47,7 @@ settings_in rows = record {
   connections = unwrap_or (number_of 32 (codes "connections") rows) 4;
   workers = unwrap_or (number_of 32 (codes "workers") rows) 2;
   number = number_of 64 (codes "number") rows;
+  region = unwrap_or (first_of (codes "region") rows) (codes "us-east-1");
   log = is_set (first_of (codes "log") rows);
 }
 

@@ -2,7 +2,7 @@
 ghost use Rattle.std.specs.Prelude.{◌≡◌, false};
 ghost use Rattle.clap.specs.Words.{rule_of};
 ghost use Rattle.sm_command_line.specs.Command.{IsModeRule, connections_rule, data_rule, listen_rule, log_rule, number_rule};
-ghost use Rattle.sm_command_line.specs.Command.{option_rule, people_rule, rotator_rule, workers_rule};
+ghost use Rattle.sm_command_line.specs.Command.{option_rule, people_rule, region_rule, rotator_rule, workers_rule};
 
 use clap::builder::ValueParser;
 use clap::{Arg, ArgAction};
@@ -15,7 +15,10 @@ pub const LISTEN: &str = "127.0.0.1:7777";
 /// The rotator without `--rotator`.
 pub const ROTATOR: &str = "local";
 
-static MODES: [&str; 5] = ["exec", "serve", "check", "drill", "agent"];
+/// The region of a replica without `--region`.
+pub const REGION: &str = "us-east-1";
+
+static MODES: [&str; 7] = ["exec", "serve", "check", "drill", "agent", "ship", "follow"];
 
 /// An option that takes one value.
 fn option<'a>(
@@ -44,10 +47,11 @@ pub fn mode<'a>(alloc: Global) -> Arg<'a>
         alloc,
         "mode",
         "MODE",
-        "What the run does: exec, serve, check, drill or agent",
+        "What the run does: exec, serve, check, drill, agent, ship or follow",
         "What the run does: exec answers the messages of standard input and ends, serve answers at an address until it \
          is stopped, check says what a folder holds, and agent answers at 127.0.0.1:2773 what it reads from a server \
-         and keeps for a while; drill answers 10,000 messages that it makes of a number, and says how that went.\n\
+         and keeps for a while; drill answers 10,000 messages that it makes of a number, and says how that went; ship \
+         writes what brings a replica to the state of a folder, and follow is such a replica, of standard input.\n\
          Example: --mode serve",
     )
     .value_parser(ValueParser::Names(MODES.as_slice()))
@@ -165,10 +169,27 @@ pub fn number<'a>(alloc: Global) -> Arg<'a>
         "NUMBER",
         "Makes the run repeatable: a fixed clock, and random bytes that count up from this number",
         "Makes the run repeatable, for tests: the clock stands still, and the random bytes count up from this number, \
-         from 0 to 18446744073709551615. Secrets that are made so are no secrets.\n\
+         from 0 to 18446744073709551615. Secrets that are made so are no secrets. In mode ship it is the position of \
+         the replica, which is 0 without it: how many entries it has.\n\
          Example: --mode exec --number 0",
     )
     .value_parser(ValueParser::unsigned(0, u64::MAX))
+}
+
+/// `--region`: the region of a replica.
+pub fn region<'a>(alloc: Global) -> Arg<'a>
+    ensures rule { rule_of result ≡ region_rule }
+    ensures global { result.global ≡ false }
+{
+    option(
+        alloc,
+        "region",
+        "REGION",
+        "The region whose secrets a replica shows, in mode follow",
+        "The region whose secrets a replica shows, in mode follow: those that are replicated to it.\n\
+         Example: --mode follow --region eu-west-1",
+    )
+    .default_value(REGION)
 }
 
 /// `--log`: whether each request gets a line.

@@ -3,7 +3,9 @@ ghost use Rattle.std.specs.Prelude.{◌≡◌, IfOk};
 ghost use Rattle.clap.specs.Words.{app_of};
 ghost use Rattle.sm_command_line.specs.Command.{IsApp, bare_app};
 
-use crate::arguments::{connections, data, listen, log, mode, number, people, rotator, workers};
+use crate::arguments::{
+    connections, data, listen, log, mode, number, people, region, rotator, workers,
+};
 use clap::Command;
 use std::alloc::{AllocError, Global};
 
@@ -22,6 +24,8 @@ fn bare<'a>(alloc: Global) -> Command<'a>
              answers the HTTP messages of a file on standard output, and keeps the secrets in a folder\n  \
              secretsd --mode agent --listen 127.0.0.1:7777\n      \
              reads secrets from that server for others on this machine, and keeps each for five minutes\n  \
+             secretsd --mode ship --data secrets | secretsd --mode follow --data replica\n      \
+             makes a folder a replica of another one, and writes how many entries it has\n  \
              secretsd --number 0 < messages\n      \
              answers them the same way in each run, and forgets the secrets at its end",
         )
@@ -41,6 +45,7 @@ pub fn command<'a>(alloc: Global) -> Result<Command<'a>, AllocError>
         connections(alloc),
         workers(alloc),
         number(alloc),
+        region(alloc),
         log(alloc),
     ]?;
     bare(alloc).args(arguments)

@@ -5,7 +5,7 @@ ghost use Rattle.sm_base.specs.Outcomes.{OrMemory};
 ghost use Rattle.sm_command_line.specs.Command.{faults, found};
 ghost use Rattle.sm_command_line.specs.Reading.{IsInBounds, is_set, mode_of, number_of, settings_in, settings_of, told};
 
-use crate::arguments::{LISTEN, ROTATOR};
+use crate::arguments::{LISTEN, REGION, ROTATOR};
 use crate::command::command;
 use crate::settings::{Mode, Settings, WordsRefused};
 use clap::error::ErrorKind;
@@ -49,6 +49,7 @@ fn settings(alloc: Global, matches: &ArgMatches<'_>) -> Result<Settings, NoMemor
         connections: count_of(matches, "connections").unwrap_or(4),
         workers: count_of(matches, "workers").unwrap_or(2),
         number: number_of(matches, "number"),
+        region: text_or(alloc, matches, "region", REGION)?,
         log: is_set(value_of(matches, "log")),
     })
 }
@@ -62,6 +63,8 @@ fn mode_of(name: Option<&str>) -> Mode
         Some("check") => Mode::Check,
         Some("drill") => Mode::Drill,
         Some("agent") => Mode::Agent,
+        Some("ship") => Mode::Ship,
+        Some("follow") => Mode::Follow,
         _ => Mode::Exec,
     }
 }

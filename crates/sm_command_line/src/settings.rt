@@ -15,6 +15,10 @@ pub enum Mode {
     Drill,
     /// It answers at an address what it reads from a server and keeps for a while.
     Agent,
+    /// It writes what brings a replica to the state of a folder.
+    Ship,
+    /// It is a replica of what standard input tells.
+    Follow,
 }
 
 /// What the words ask for.
@@ -33,8 +37,10 @@ pub struct Settings {
     pub connections: u32,
     /// How many workers rotate secrets.
     pub workers: u32,
-    /// The number that a run without chance is made from.
+    /// The number that a run without chance is made from, and in mode ship the position of a replica.
     pub number: Option<u64>,
+    /// The region of a replica.
+    pub region: Text,
     /// Whether each request gets a line.
     pub log: bool,
 }

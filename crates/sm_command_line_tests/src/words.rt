@@ -5,66 +5,119 @@ use std::alloc::{AllocError, Global};
 use std::test::Fail;
 
 /// Words, and the settings that are wanted of them, in the order of the fields.
-static READ: [(&str, &str); 55] = [
-    ("", "Exec - - 127.0.0.1:7777 local 4 2 None -"),
-    ("--", "Exec - - 127.0.0.1:7777 local 4 2 None -"),
-    ("--mode exec", "Exec - - 127.0.0.1:7777 local 4 2 None -"),
-    ("--mode serve", "Serve - - 127.0.0.1:7777 local 4 2 None -"),
-    ("--mode check", "Check - - 127.0.0.1:7777 local 4 2 None -"),
-    ("--mode=drill", "Drill - - 127.0.0.1:7777 local 4 2 None -"),
-    ("--mode agent", "Agent - - 127.0.0.1:7777 local 4 2 None -"),
+static READ: [(&str, &str); 60] = [
+    ("", "Exec - - 127.0.0.1:7777 local 4 2 None us-east-1 -"),
+    ("--", "Exec - - 127.0.0.1:7777 local 4 2 None us-east-1 -"),
+    (
+        "--mode exec",
+        "Exec - - 127.0.0.1:7777 local 4 2 None us-east-1 -",
+    ),
+    (
+        "--mode serve",
+        "Serve - - 127.0.0.1:7777 local 4 2 None us-east-1 -",
+    ),
+    (
+        "--mode check",
+        "Check - - 127.0.0.1:7777 local 4 2 None us-east-1 -",
+    ),
+    (
+        "--mode=drill",
+        "Drill - - 127.0.0.1:7777 local 4 2 None us-east-1 -",
+    ),
+    (
+        "--mode ship",
+        "Ship - - 127.0.0.1:7777 local 4 2 None us-east-1 -",
+    ),
+    (
+        "--mode ship --number 12",
+        "Ship - - 127.0.0.1:7777 local 4 2 Some(12) us-east-1 -",
+    ),
+    (
+        "--mode follow --region eu-west-1 --data replica",
+        "Follow replica - 127.0.0.1:7777 local 4 2 None eu-west-1 -",
+    ),
+    (
+        "--mode agent",
+        "Agent - - 127.0.0.1:7777 local 4 2 None us-east-1 -",
+    ),
     (
         "--mode agent --listen 127.0.0.1:8080",
-        "Agent - - 127.0.0.1:8080 local 4 2 None -",
+        "Agent - - 127.0.0.1:8080 local 4 2 None us-east-1 -",
     ),
     (
         "--data /var/lib",
-        "Exec /var/lib - 127.0.0.1:7777 local 4 2 None -",
+        "Exec /var/lib - 127.0.0.1:7777 local 4 2 None us-east-1 -",
     ),
     (
         "--data=--mode",
-        "Exec --mode - 127.0.0.1:7777 local 4 2 None -",
+        "Exec --mode - 127.0.0.1:7777 local 4 2 None us-east-1 -",
     ),
     (
         "--people people",
-        "Exec - people 127.0.0.1:7777 local 4 2 None -",
+        "Exec - people 127.0.0.1:7777 local 4 2 None us-east-1 -",
     ),
-    ("--listen [::1]:80", "Exec - - [::1]:80 local 4 2 None -"),
+    (
+        "--listen [::1]:80",
+        "Exec - - [::1]:80 local 4 2 None us-east-1 -",
+    ),
     (
         "--rotator local",
-        "Exec - - 127.0.0.1:7777 local 4 2 None -",
+        "Exec - - 127.0.0.1:7777 local 4 2 None us-east-1 -",
     ),
-    ("--rotator any", "Exec - - 127.0.0.1:7777 any 4 2 None -"),
+    (
+        "--rotator any",
+        "Exec - - 127.0.0.1:7777 any 4 2 None us-east-1 -",
+    ),
     (
         "--connections 1",
-        "Exec - - 127.0.0.1:7777 local 1 2 None -",
+        "Exec - - 127.0.0.1:7777 local 1 2 None us-east-1 -",
     ),
     (
         "--connections=64",
-        "Exec - - 127.0.0.1:7777 local 64 2 None -",
+        "Exec - - 127.0.0.1:7777 local 64 2 None us-east-1 -",
     ),
-    ("--workers 0", "Exec - - 127.0.0.1:7777 local 4 0 None -"),
-    ("--workers 16", "Exec - - 127.0.0.1:7777 local 4 16 None -"),
-    ("--workers 004", "Exec - - 127.0.0.1:7777 local 4 4 None -"),
-    ("--number 0", "Exec - - 127.0.0.1:7777 local 4 2 Some(0) -"),
-    ("--number +5", "Exec - - 127.0.0.1:7777 local 4 2 Some(5) -"),
+    (
+        "--workers 0",
+        "Exec - - 127.0.0.1:7777 local 4 0 None us-east-1 -",
+    ),
+    (
+        "--workers 16",
+        "Exec - - 127.0.0.1:7777 local 4 16 None us-east-1 -",
+    ),
+    (
+        "--workers 004",
+        "Exec - - 127.0.0.1:7777 local 4 4 None us-east-1 -",
+    ),
+    (
+        "--number 0",
+        "Exec - - 127.0.0.1:7777 local 4 2 Some(0) us-east-1 -",
+    ),
+    (
+        "--number +5",
+        "Exec - - 127.0.0.1:7777 local 4 2 Some(5) us-east-1 -",
+    ),
     (
         "--number 18446744073709551615",
-        "Exec - - 127.0.0.1:7777 local 4 2 Some(18446744073709551615) -",
+        "Exec - - 127.0.0.1:7777 local 4 2 Some(18446744073709551615) us-east-1 -",
     ),
     (
         "--number 7 --workers 1 --connections 2 --rotator r --listen l --people p --data d --mode drill",
-        "Drill d p l r 2 1 Some(7) -",
+        "Drill d p l r 2 1 Some(7) us-east-1 -",
     ),
-    ("--log", "Exec - - 127.0.0.1:7777 local 4 2 None log"),
+    (
+        "--log",
+        "Exec - - 127.0.0.1:7777 local 4 2 None us-east-1 log",
+    ),
     (
         "--mode serve --log --workers 1",
-        "Serve - - 127.0.0.1:7777 local 4 1 None log",
+        "Serve - - 127.0.0.1:7777 local 4 1 None us-east-1 log",
     ),
     ("--mode nonsense", "refused"),
     ("--mode Exec", "refused"),
     ("--mode agents", "refused"),
     ("--mode", "refused"),
+    ("--region", "refused"),
+    ("--region a --region b", "refused"),
     ("--mode --number 0", "refused"),
     ("--mod exec", "refused"),
     ("-mode exec", "refused"),
@@ -103,7 +156,7 @@ static SAID: [(&str, bool, &str); 9] = [
     (
         "--mode nonsense",
         false,
-        "[possible values: exec, serve, check, drill, agent]",
+        "[possible values: exec, serve, check, drill, agent, ship, follow]",
     ),
     ("--workers 17", false, "17 is not in 0..=16"),
     (
@@ -161,9 +214,10 @@ fn shown(alloc: Global, settings: &Settings) -> Result<String, AllocError> {
     let connections = settings.connections;
     let workers = settings.workers;
     let number = settings.number;
+    let region = settings.region.as_str();
     let log = if settings.log { "log" } else { "-" };
     format!(in alloc;
-        "{mode:?} {folder} {people} {listen} {rotator} {connections} {workers} {number:?} {log}"
+        "{mode:?} {folder} {people} {listen} {rotator} {connections} {workers} {number:?} {region} {log}"
     )
 }
 

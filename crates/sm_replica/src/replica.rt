@@ -5,6 +5,7 @@ ghost use Rattle.sm_base.specs.declared.moment.TheConstants.{LAST_READING};
 ghost use Rattle.sm_judging.specs.Judged.{judged_told, IfAccepted};
 ghost use Rattle.sm_replay.specs.Following.{origin};
 ghost use Rattle.sm_sound.specs.Bases.{IsSound};
+ghost use Rattle.sm_table.specs.Sound.{Sound};
 ghost use Rattle.sm_replica.specs.Answering.{answer};
 ghost use Rattle.sm_replica.specs.Promoting.{Promotes};
 ghost use Rattle.sm_replica.specs.Replicas.{IsTimely};
@@ -17,6 +18,7 @@ use sm_judging::Judged;
 use sm_model::{Moment, NoMemory, Person, Request, SecretId, Text};
 use sm_record::Base;
 use sm_replay::ReplayState;
+use sm_table::Table;
 use std::alloc::Global;
 use std::marker::Model;
 
@@ -90,6 +92,14 @@ impl Replica {
         ensures bound { result.0 ≤ LAST_READING }
     {
         self.replayed.last()
+    }
+
+    /// The secrets that it holds, those of other regions too. It takes no memory.
+    pub fn table(&self) -> &Table
+        ensures table { result.now ≡ self.now.base.rows }
+        ensures sound { Sound result.now }
+    {
+        self.replayed.table()
     }
 
     /// Whether it was promoted. It takes no memory.

@@ -5,6 +5,8 @@ use Rattle.sm_base.specs.Faults.{Rose}
 use Rattle.sm_base.specs.declared.moment.Moment.{Moment}
 use Rattle.sm_model.specs.declared.rows.Rows.{Rows}
 use Rattle.sm_account.specs.States.{Base}
+use Rattle.sm_opening.specs.Lawful.{made_of}
+use Rattle.sm_store.specs.Held.{Held}
 use Rattle.sm_principal.specs.declared.people.People.{People as Persons}
 use Rattle.sm_rotation.specs.Vouched.{Replies}
 use Rattle.sm_session.specs.Told.{Told}
@@ -71,7 +73,7 @@ module _ (Cause : Type 0) (rows : Rows) (now : Moment) (entries : ℕ) (written 
   shows_opened Enough shows = tt
 
 -- the run that showed it
-module _ (replies : Replies) (people : Persons) (base : Base) (entries : ℕ) (before after : Outside) (now : Moment)
+module _ (replies : Replies) (people : Persons) (base : Base) (held : Held) (before after : Outside) (now : Moment)
     (written : List ℕ) where
   abbrev course : Course
   course = record {
@@ -79,7 +81,7 @@ module _ (replies : Replies) (people : Persons) (base : Base) (entries : ℕ) (b
     replies = replies;
     people = people;
     base = base;
-    entries = entries;
+    held = held;
     history = [];
   }
 
@@ -91,6 +93,9 @@ module _ (replies : Replies) (people : Persons) (base : Base) (entries : ℕ) (b
 
   abbrev Cause : Type 0
   Cause = Rose before.counts.sink after.counts.sink
+
+  abbrev entries : ℕ
+  entries = (made_of held).entries
 
   checked : (status : Status) → Shows Cause base.rows now entries status written → Checks course status [] trace
   checked status shows = record {

@@ -29,7 +29,7 @@ use Rattle.sm_session.specs.Told.{Growth}
 use Rattle.sm_session.proofs.StreamLemmas.{start_prefix, start_more, no_messages}
 use Rattle.sm_session.proofs.TurnLemmas.{turn_weaker}
 use Rattle.sm_server.specs.declared.asked.RunTask.{RunTask}
-use Rattle.sm_server.specs.declared.asked.RunTask.TheVariants.{Answer, Practise, Summarize}
+use Rattle.sm_server.specs.declared.asked.RunTask.TheVariants.{Answer, Practise, Ship, Summarize}
 use Rattle.sm_server.specs.Asked.{WordsDecide, PeopleDecide}
 use Rattle.sm_server.specs.Complete.{NoneFailed, ModelRound, ModelRounds, AnswersEach, ReadsWhole, Orders, Ran}
 use Rattle.sm_server.specs.Outside.{Outside, Trace, growth}
@@ -213,6 +213,7 @@ module _ (course : Course) (before after : Outside) (trace : Trace)
       each_at Answer status e other = each_answered status e other
       each_at Summarize status e other = each_none input e.unread
       each_at (Practise number) status e other = each_none input e.unread
+      each_at (Ship position) status e other = each_none input e.unread
 
       pub each_by : (status : Status) → Ended course status input left trace → (status ≡ Memory → ⊥)
           → AnswersEach course input trace.written
@@ -273,6 +274,7 @@ module _ (course : Course) (before after : Outside) (trace : Trace)
         whole_at Answer is status e = whole_answered status e
         whole_at Summarize is status e = absurd (let h : Summarize ≡ Answer = is in cc)
         whole_at (Practise number) is status e = absurd (let h : Practise number ≡ Answer = is in cc)
+        whole_at (Ship position) is status e = absurd (let h : Ship position ≡ Answer = is in cc)
 
         whole_of : course.task ≡ Answer → (status : Status) → WasOpened status
             → Ended course status input left trace → (status ≡ Done) ⊎ (status ≡ Memory)

@@ -5,6 +5,8 @@ use Rattle.sm_base.specs.Faults.{Rose}
 use Rattle.sm_base.specs.declared.memory.NoMemory.{NoMemory}
 use Rattle.sm_base.specs.declared.moment.Moment.{Moment}
 use Rattle.sm_account.specs.States.{Base}
+use Rattle.sm_opening.specs.Lawful.{made_of}
+use Rattle.sm_store.specs.Held.{Held}
 use Rattle.sm_drill.specs.Lines.{lines, lines_of, refused_count, shown_by}
 use Rattle.sm_drill.proofs.ReplyLemmas.{got_last, refused_push}
 use Rattle.sm_drill.specs.Messages.{message_of, messages_of}
@@ -36,7 +38,7 @@ abbrev pub spoken : Outside → Option (List ℕ) → Option (List ℕ) → ℕ 
 spoken now taken readings sink =
     record now { taken = taken; readings = readings; counts = record now.counts { sink = sink } }
 
-module _ (replies : Replies) (people : Persons) (base : Base) (entries number : ℕ) (before now : Outside)
+module _ (replies : Replies) (people : Persons) (base : Base) (held : Held) (number : ℕ) (before now : Outside)
     (history : History) (left_is : now.left ≡ before.left) (taken_is : now.taken ≡ before.taken) where
   abbrev course : Course
   course = record {
@@ -44,9 +46,12 @@ module _ (replies : Replies) (people : Persons) (base : Base) (entries number : 
     replies = replies;
     people = people;
     base = base;
-    entries = entries;
+    held = held;
     history = history;
   }
+
+  abbrev entries : ℕ
+  entries = (made_of held).entries
 
   -- what some messages brought, where only the sink moved since
   abbrev answered : (after : Outside) (count : ℕ) (brought : Brought) (written : List ℕ) (all : Told)

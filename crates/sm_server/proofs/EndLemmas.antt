@@ -5,13 +5,14 @@ use Rattle.sm_http.specs.Messages.{Message}
 use Rattle.sm_principal.specs.declared.people.People.{People as Persons}
 use Rattle.sm_command_line.specs.declared.settings.Settings.{Settings}
 use Rattle.sm_session.specs.Told.{Growth, Within}
+use Rattle.sm_server.specs.declared.asked.Role.TheVariants.{Primary}
 use Rattle.sm_server.specs.declared.asked.RunTask.{RunTask}
-use Rattle.sm_server.specs.declared.asked.RunTask.TheVariants.{Answer, Practise, Summarize}
+use Rattle.sm_server.specs.declared.asked.RunTask.TheVariants.{Answer, Practise, Ship, Summarize}
 use Rattle.sm_server.specs.declared.status.Status.{Status}
 use Rattle.sm_server.specs.declared.status.Status.TheVariants.{Done, Words, Damaged, OpenFault, Memory, People, SinkFault, SourceFault, EdgeFault, Cut, BadMessage, Enough}
-use Rattle.sm_server.specs.Asked.{task_of_words, WordsDecide, PeopleDecide}
+use Rattle.sm_server.specs.Asked.{role_of_words, WordsDecide, PeopleDecide}
 use Rattle.sm_server.specs.Outside.{Outside, growth, Trace}
-use Rattle.sm_server.specs.Ran.{Course, AreAnswered, Answers, Checks, Drills, EndedAt, Ended, Runs}
+use Rattle.sm_server.specs.Ran.{Course, AreAnswered, Answers, Checks, Drills, EndedAt, Ended, Runs, Ships}
 use Rattle.sm_server.specs.Status.{WasFollowed, WasOpened, WasUnderstood}
 
 -- the same run, whose disk is counted from an earlier moment on
@@ -68,11 +69,17 @@ module _ (course : Course) (before after : Outside) (earlier : ℕ) (early : ear
       ends = e.ends;
     }
 
+    ships_since : (position : ℕ) (status : Status) (input : List ℕ) → Ships course position status input trace
+        → Ships course position status input further
+    ships_since position status input e =
+        record { unread = e.unread; unmarked = e.unmarked; untold = e.untold; ships = e.ships }
+
     at_since : (task : RunTask) (status : Status) (input : List ℕ) (left : Option (List ℕ))
         → EndedAt task course status input left trace → EndedAt task course status input left further
     at_since Answer status input left e = answers_since status input left e
     at_since Summarize status input left e = checks_since status input e
     at_since (Practise number) status input left e = drills_since number status input e
+    at_since (Ship position) status input left e = ships_since position status input e
 
     ended_since : (status : Status) (input : List ℕ) (left : Option (List ℕ)) → Ended course status input left trace
         → WasOpened status → Ended course status input left further
@@ -139,7 +146,7 @@ followed_understood (BadMessage place) f = tt
 followed_understood Enough f = tt
 
 pub words_decided : (status : Status) (asked : Option Settings) (task : RunTask) → WasUnderstood status
-    → task_of_words asked ≡ Ok task → WordsDecide status asked task
+    → role_of_words asked ≡ Ok (Primary task) → WordsDecide status asked task
 words_decided Done asked task f are = are
 words_decided Words asked task f are = absurd f
 words_decided (Damaged at entry) asked task f are = are

@@ -5,6 +5,9 @@ pub mod CompleteLemmas
 pub mod StoredLemmas
 pub mod UnopenedLemmas
 pub mod CheckLemmas
+pub mod ShipLemmas
+pub mod FollowLemmas
+pub mod PutLemmas
 pub mod DrillLemmas
 pub mod ServedLemmas
 pub mod ReaderLemmas

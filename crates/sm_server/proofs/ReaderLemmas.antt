@@ -3,7 +3,7 @@ use Rattle.std.proofs.Common.{◌≡◌, ◌∙◌, Option, None, Some, Result, 
 use Rattle.sm_agent.specs.Agents.{AgentState}
 use Rattle.sm_agent_stream.specs.Streams.{Around}
 use Rattle.sm_command_line.specs.declared.settings.Mode.{Mode}
-use Rattle.sm_command_line.specs.declared.settings.Mode.TheVariants.{Exec, Serve, Check, Drill, Agent}
+use Rattle.sm_command_line.specs.declared.settings.Mode.TheVariants.{Exec, Serve, Check, Drill, Agent, Ship, Follow}
 use Rattle.sm_command_line.specs.declared.settings.Settings.{Settings}
 use Rattle.sm_server.specs.declared.status.Status.{Status}
 use Rattle.sm_server.specs.declared.status.Status.TheVariants as statuses
@@ -16,6 +16,8 @@ at_mode Serve status is = let h : Some status ≡ Some statuses.Words = is in cc
 at_mode Check status is = let h : Some status ≡ Some statuses.Words = is in cc
 at_mode Drill status is = let h : Some status ≡ Some statuses.Words = is in cc
 at_mode Agent status is = absurd (let h : Some status ≡ None = is in cc)
+at_mode Ship status is = let h : Some status ≡ Some statuses.Words = is in cc
+at_mode Follow status is = let h : Some status ≡ Some statuses.Words = is in cc
 
 at_words : (asked : Option Settings) (status : Status) → Some status ≡ end_of_reader asked → status ≡ statuses.Words
 at_words None status is = let h : Some status ≡ Some statuses.Words = is in cc

@@ -8,6 +8,7 @@ use Rattle.sm_table.specs.Sound.{Sound}
 use Rattle.sm_core.specs.Histories.{replay}
 use Rattle.sm_account.specs.History.{entries_in, by_seat}
 use Rattle.sm_account.specs.States.{Base}
+use Rattle.sm_store.specs.Held.{Held}
 use Rattle.sm_http.specs.declared.answer.Message.{Message as owned}
 use Rattle.sm_http.specs.declared.answer.Next.TheVariants as next
 use Rattle.sm_http.specs.declared.answer.Stop.{Stop}
@@ -197,7 +198,7 @@ module _ (replies : Replies) (people : People) (base : Base) (before : Outside) 
   }
 
 -- the run ends as its stream does
-module _ (replies : Replies) (people : People) (base : Base) (entries : ℕ) (before after : Outside) (history : History)
+module _ (replies : Replies) (people : People) (base : Base) (held : Held) (before after : Outside) (history : History)
     (messages : List Message) (brought : Brought)
     (b : Brings replies people base before after history messages brought) where
   abbrev course : Course
@@ -206,7 +207,7 @@ module _ (replies : Replies) (people : People) (base : Base) (entries : ℕ) (be
     replies = replies;
     people = people;
     base = base;
-    entries = entries;
+    held = held;
     history = history;
   }
 
@@ -278,13 +279,13 @@ moved now sides = record {
 module _ (replies : Replies) (people : People) (base : Base) (before : Outside) (number : ℕ) (at : Point)
     (p : Progress replies people base before number at) where
   -- a course with this history
-  abbrev pub course_with : ℕ → History → Course
-  course_with entries history = record {
+  abbrev pub course_with : Held → History → Course
+  course_with held history = record {
     task = Answer;
     replies = replies;
     people = people;
     base = base;
-    entries = entries;
+    held = held;
     history = history;
   }
 
@@ -301,10 +302,10 @@ module _ (replies : Replies) (people : People) (base : Base) (before : Outside) 
   }
 
   -- as many messages were answered as are answered at most
-  pub run_enough : number ≡ message_limit → (entries : ℕ)
-      → Runs (course_with entries at.history) (status_of ended.Enough) before at.now
-  run_enough all entries =
-      runs_by replies people base entries before at.now at.history p.messages p.brought p.brings ended.Enough
+  pub run_enough : number ≡ message_limit → (held : Held)
+      → Runs (course_with held at.history) (status_of ended.Enough) before at.now
+  run_enough all held =
+      runs_by replies people base held before at.now at.history p.messages p.brought p.brings ended.Enough
       (wire_enough (sides_of before) (sides_of at.now) p.messages p.brought.replies at.reader at.count p.wire
       (p.size ∙ all))
 
@@ -315,9 +316,9 @@ module _ (replies : Replies) (people : People) (base : Base) (before : Outside) 
         → StopsBy at.reader.ended why at.now.left sides.left (Rose at.now.counts.source sides.source)
         → at.now.counts.source ≤ sides.source
         → Finishes why at.count e at.now.taken sides.taken at.now.counts.sink sides.sink
-        → (entries : ℕ) → Runs (course_with entries at.history) (status_of e) before (moved at.now sides)
-    run_stops sides why e few reads stops later finishes entries =
-        runs_by replies people base entries before (moved at.now sides) at.history p.messages p.brought
+        → (held : Held) → Runs (course_with held at.history) (status_of e) before (moved at.now sides)
+    run_stops sides why e few reads stops later finishes held =
+        runs_by replies people base held before (moved at.now sides) at.history p.messages p.brought
         (brings_moved sides) e
         (wire_stops (sides_of before) (sides_of at.now) p.messages p.brought.replies at.reader at.count p.wire reader'
         sides (omega (arith, p.size, few)) why e reads stops finishes)
@@ -350,10 +351,10 @@ module _ (replies : Replies) (people : People) (base : Base) (before : Outside) 
       }
 
       -- the sink failed within the reply
-      pub run_cut : number < message_limit → sent.whole ≡ false → (entries : ℕ)
-          → Runs (course_with entries s.history') (status_of (ended.WriteFault count')) before s.after
-      run_cut few part entries =
-          runs_by replies people base entries before s.after s.history' (p.messages ++ content s.message ∷ [])
+      pub run_cut : number < message_limit → sent.whole ≡ false → (held : Held)
+          → Runs (course_with held s.history') (status_of (ended.WriteFault count')) before s.after
+      run_cut few part held =
+          runs_by replies people base held before s.after s.history' (p.messages ++ content s.message ∷ [])
           (brought_more replies people base before s p.messages p.brought brings_here turned later) brings_now
           (ended.WriteFault count')
           (wire_cut (sides_of before) (sides_of at.now) p.messages p.brought.replies at.reader at.count p.wire

@@ -21,7 +21,7 @@ use Rattle.sm_account.specs.Openings.{IsOpenedOver, TakenFrom}
 use Rattle.sm_account.specs.States.{Base, base_of}
 use Rattle.sm_seat_traces.specs.SeatTraces.{History}
 use Rattle.sm_command_line.specs.declared.settings.Mode.{Mode}
-use Rattle.sm_command_line.specs.declared.settings.Mode.TheVariants.{Exec, Serve, Check, Drill, Agent}
+use Rattle.sm_command_line.specs.declared.settings.Mode.TheVariants.{Exec, Serve, Check, Drill, Agent, Ship, Follow}
 use Rattle.sm_command_line.specs.declared.settings.Settings.{Settings}
 use Rattle.sm_workers.specs.declared.worker.WorkerBy.{WorkerBy}
 use Rattle.sm_workers.specs.Closed.{Closed}
@@ -42,6 +42,8 @@ at_mode Serve status is = absurd (let h : Some status ≡ None = is in cc)
 at_mode Check status is = let h : Some status ≡ Some statuses.Words = is in cc
 at_mode Drill status is = let h : Some status ≡ Some statuses.Words = is in cc
 at_mode Agent status is = let h : Some status ≡ Some statuses.Words = is in cc
+at_mode Ship status is = let h : Some status ≡ Some statuses.Words = is in cc
+at_mode Follow status is = let h : Some status ≡ Some statuses.Words = is in cc
 
 at_words : (asked : Option Settings) (status : Status) → Some status ≡ end_of_server asked → status ≡ statuses.Words
 at_words None status is = let h : Some status ≡ Some statuses.Words = is in cc

@@ -8,7 +8,7 @@ use Rattle.sm_journal.specs.declared.answers.OpenRefused.TheVariants.{Damaged, F
 use Rattle.sm_opening.specs.Openings.{IsRefused}
 use Rattle.sm_rotation.specs.Vouched.{Replies}
 use Rattle.sm_command_line.specs.declared.settings.Mode.{Mode}
-use Rattle.sm_command_line.specs.declared.settings.Mode.TheVariants.{Exec, Serve, Check, Drill, Agent}
+use Rattle.sm_command_line.specs.declared.settings.Mode.TheVariants.{Exec, Serve, Check, Drill, Agent, Ship as ShipMode, Follow}
 use Rattle.sm_command_line.specs.declared.settings.Settings.{Settings}
 use Rattle.sm_server.specs.declared.status.Status.{Status}
 use Rattle.sm_server.specs.declared.status.Status.TheVariants as statuses
@@ -20,8 +20,10 @@ use Rattle.sm_principal.specs.Callers.{told}
 use Rattle.sm_session.specs.Told.{nothing_told}
 use Rattle.sm_seat_traces.proofs.KnownLemmas.{append_known-nil, prepend_known-nil}
 use Rattle.sm_server.specs.declared.asked.RunTask.{RunTask}
-use Rattle.sm_server.specs.declared.asked.RunTask.TheVariants.{Answer, Practise, Summarize}
-use Rattle.sm_server.specs.Asked.{end_of_people, task_of_mode, task_of_words, FollowsPeople, FollowsWords, WordsDecide, PeopleDecide}
+use Rattle.sm_server.specs.declared.asked.Role.{Role}
+use Rattle.sm_server.specs.declared.asked.Role.TheVariants.{Primary, Replica}
+use Rattle.sm_server.specs.declared.asked.RunTask.TheVariants.{Answer, Practise, Ship, Summarize}
+use Rattle.sm_server.specs.Asked.{end_of_people, role_of_mode, role_of_words, FollowsPeople, FollowsWords, WordsDecide, PeopleDecide}
 use Rattle.sm_server.specs.Outside.{Outside, Trace}
 use Rattle.sm_server.specs.Ran.{Course, Story, course_of, AreAnswered, EndedAt, Ended, Runs}
 use Rattle.sm_server.specs.Status.{WasFollowed, WasUnderstood}
@@ -75,6 +77,7 @@ module _ (replies : Replies) (task : RunTask) (people : Persons) (before after :
       answered = none_answered (Practise number);
       ends = record { unwritten = refl; reading = inl refl };
     }
+    ended_at (Ship position) = record { unread = refl; unmarked = refl; untold = refl; ships = inl refl }
 
     memory_ended : Ended (none task) statuses.Memory [] after.left nothing
     memory_ended = ended_at task
@@ -142,25 +145,29 @@ module _ {D : Type 0} (G : Ghosts D) (replies : Replies) (task : RunTask) (peopl
 
 -- runs that do not follow their words
 
-at_mode : (mode : Mode) (number : Option ℕ) (status : Status) → Err status ≡ task_of_mode mode number
-    → status ≡ statuses.Words
-at_mode Exec number status is = absurd (let h : Err status ≡ Ok Answer = is in cc)
-at_mode Serve number status is = let h : Err status ≡ Err statuses.Words = is in cc
-at_mode Check number status is = absurd (let h : Err status ≡ Ok Summarize = is in cc)
-at_mode Drill number status is = absurd (let h : Err status ≡ Ok (Practise (unwrap_or number 0)) = is in cc)
-at_mode Agent number status is = let h : Err status ≡ Err statuses.Words = is in cc
+at_mode : (mode : Mode) (number : Option ℕ) (region : List ℕ) (status : Status)
+    → Err status ≡ role_of_mode mode number region → status ≡ statuses.Words
+at_mode Exec number region status is = absurd (let h : Err status ≡ Ok (Primary Answer) = is in cc)
+at_mode Serve number region status is = let h : Err status ≡ Err statuses.Words = is in cc
+at_mode Check number region status is = absurd (let h : Err status ≡ Ok (Primary Summarize) = is in cc)
+at_mode Drill number region status is =
+    absurd (let h : Err status ≡ Ok (Primary (Practise (unwrap_or number 0))) = is in cc)
+at_mode Agent number region status is = let h : Err status ≡ Err statuses.Words = is in cc
+at_mode ShipMode number region status is =
+    absurd (let h : Err status ≡ Ok (Primary (Ship (unwrap_or number 0))) = is in cc)
+at_mode Follow number region status is = absurd (let h : Err status ≡ Ok (Replica region) = is in cc)
 
-at_words : (asked : Option Settings) (status : Status) → Err status ≡ task_of_words asked → status ≡ statuses.Words
+at_words : (asked : Option Settings) (status : Status) → Err status ≡ role_of_words asked → status ≡ statuses.Words
 at_words None status is = let h : Err status ≡ Err statuses.Words = is in cc
-at_words (Some settings) status is = at_mode settings.mode settings.number status is
+at_words (Some settings) status is = at_mode settings.mode settings.number settings.region status is
 
 -- by how such a run ends
 by_end : (P : Status → Type 0) (status : Status) (asked : Option Settings) → FollowsWords (Err status) asked
-    → P statuses.Memory → (Err statuses.Words ≡ task_of_words asked → P statuses.Words) → P status
+    → P statuses.Memory → (Err statuses.Words ≡ role_of_words asked → P statuses.Words) → P status
 by_end P status asked (inl is) memory words =
     let same : status ≡ statuses.Memory = cc in subst P (sym same) memory
 by_end P status asked (inr is) memory words =
-    let Is : Status → Type 0 = λ s. Err s ≡ task_of_words asked in
+    let Is : Status → Type 0 = λ s. Err s ≡ role_of_words asked in
     let ends : status ≡ statuses.Words = at_words asked status is in
     subst P (sym ends) (words (subst Is ends is))
 
@@ -256,9 +263,9 @@ wants_more G story input trace old new further (inl (unread, undone, inr (follow
 wants_more G story input trace old new further (inr (followed, records)) = inr (further followed, records)
 
 -- words that are followed
-pub followed : (asked : Option Settings) (task : RunTask) → FollowsWords (Ok task) asked → task_of_words asked ≡ Ok task
-followed asked task (inl is) = absurd (let h : Ok task ≡ Err statuses.Memory = is in cc)
-followed asked task (inr is) = sym is
+pub followed : (asked : Option Settings) (role : Role) → FollowsWords (Ok role) asked → role_of_words asked ≡ Ok role
+followed asked role (inl is) = absurd (let h : Ok role ≡ Err statuses.Memory = is in cc)
+followed asked role (inr is) = sym is
 
 -- the text of the people, as it was read
 pub followed_people : (people : Persons) (read : Result Persons ℕ) → OrMemory (told (Ok people)) read

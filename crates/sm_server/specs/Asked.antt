@@ -1,32 +1,36 @@
 -- What the words ask for, and how a run ends that cannot follow them.
-use Rattle.std.specs.Prelude.{◌≡◌, ◌⊎◌, ℕ, Option, Some, None, Result, Ok, Err, unwrap_or, ⊤}
+use Rattle.std.specs.Prelude.{◌≡◌, ◌⊎◌, ℕ, List, Option, Some, None, Result, Ok, Err, unwrap_or, ⊤}
 use Rattle.sm_principal.specs.declared.people.People.{People as Persons}
 use Rattle.sm_principal.specs.declared.people.PeopleRefused.{PeopleRefused}
 use Rattle.sm_principal.specs.declared.people.PeopleRefused.TheVariants as refusals
 use Rattle.sm_command_line.specs.declared.settings.Mode.{Mode}
-use Rattle.sm_command_line.specs.declared.settings.Mode.TheVariants.{Exec, Serve, Check, Drill, Agent}
+use Rattle.sm_command_line.specs.declared.settings.Mode.TheVariants.{Exec, Serve, Check, Drill, Agent, Ship as ShipMode, Follow}
 use Rattle.sm_command_line.specs.declared.settings.Settings.{Settings}
+use Rattle.sm_server.specs.declared.asked.Role.{Role}
+use Rattle.sm_server.specs.declared.asked.Role.TheVariants.{Primary, Replica}
 use Rattle.sm_server.specs.declared.asked.RunTask.{RunTask}
-use Rattle.sm_server.specs.declared.asked.RunTask.TheVariants.{Answer, Summarize, Practise}
+use Rattle.sm_server.specs.declared.asked.RunTask.TheVariants.{Answer, Summarize, Practise, Ship}
 use Rattle.sm_server.specs.declared.status.Status.{Status}
 use Rattle.sm_server.specs.declared.status.Status.TheVariants.{Words, Memory, People}
 
--- what a run over one stream does in a mode, or how it ends that cannot follow it
-abbrev pub task_of_mode : Mode → Option ℕ → Result RunTask Status
-task_of_mode Exec number = Ok Answer
-task_of_mode Serve number = Err Words
-task_of_mode Check number = Ok Summarize
-task_of_mode Drill number = Ok (Practise (unwrap_or number 0))
-task_of_mode Agent number = Err Words
+-- what a run over one stream is in a mode, with a number and a region, or how it ends that cannot follow it
+abbrev pub role_of_mode : Mode → Option ℕ → List ℕ → Result Role Status
+role_of_mode Exec number region = Ok (Primary Answer)
+role_of_mode Serve number region = Err Words
+role_of_mode Check number region = Ok (Primary Summarize)
+role_of_mode Drill number region = Ok (Primary (Practise (unwrap_or number 0)))
+role_of_mode Agent number region = Err Words
+role_of_mode ShipMode number region = Ok (Primary (Ship (unwrap_or number 0)))
+role_of_mode Follow number region = Ok (Replica region)
 
--- what a run does by its words, or how it ends that cannot follow them; words that are refused ask for nothing
-abbrev pub task_of_words : Option Settings → Result RunTask Status
-task_of_words None = Err Words
-task_of_words (Some settings) = task_of_mode settings.mode settings.number
+-- what a run is by its words, or how it ends that cannot follow them; words that are refused ask for nothing
+abbrev pub role_of_words : Option Settings → Result Role Status
+role_of_words None = Err Words
+role_of_words (Some settings) = role_of_mode settings.mode settings.number settings.region
 
 -- a run follows its words, or ends as it must, or for want of memory
-abbrev pub FollowsWords : Result RunTask Status → Option Settings → Type 0
-FollowsWords task asked = (task ≡ Err Memory) ⊎ (task ≡ task_of_words asked)
+abbrev pub FollowsWords : Result Role Status → Option Settings → Type 0
+FollowsWords role asked = (role ≡ Err Memory) ⊎ (role ≡ role_of_words asked)
 
 -- how a run ends whose text of the people is refused
 abbrev pub end_of_people : PeopleRefused → Status
@@ -38,11 +42,11 @@ abbrev pub FollowsPeople : Result Persons Status → Result Persons ℕ → Type
 FollowsPeople (Ok people) read = read ≡ Ok people
 FollowsPeople (Err status) read = (status ≡ Memory) ⊎ ((line : ℕ) × (read ≡ Err line) × (status ≡ People line))
 
--- the words decide whether anything is opened and read, and what is done; want of memory may come with any
+-- the words decide whether an account is opened and read, and what is done with it; want of memory may come with any
 abbrev pub WordsDecide : Status → Option Settings → RunTask → Type 0
-WordsDecide Words asked task = task_of_words asked ≡ Err Words
+WordsDecide Words asked task = role_of_words asked ≡ Err Words
 WordsDecide Memory asked task = ⊤
-WordsDecide other asked task = task_of_words asked ≡ Ok task
+WordsDecide other asked task = role_of_words asked ≡ Ok (Primary task)
 
 -- So does the text of the people, once the words are followed: a run that got further knows who may ask.
 abbrev pub PeopleDecide : Status → Result Persons ℕ → Persons → Type 0

@@ -17,11 +17,12 @@ use Rattle.sm_session.specs.Answer.{Asked, heard}
 use Rattle.sm_session.specs.Endings.{joined}
 use Rattle.sm_session.specs.Streams.{message_limit, AreWhole}
 use Rattle.sm_session.specs.Turns.{IsTurn}
+use Rattle.sm_server.specs.declared.asked.Role.TheVariants.{Primary}
 use Rattle.sm_server.specs.declared.asked.RunTask.{RunTask}
 use Rattle.sm_server.specs.declared.asked.RunTask.TheVariants.{Answer}
 use Rattle.sm_server.specs.declared.status.Status.{Status}
 use Rattle.sm_server.specs.declared.status.Status.TheVariants.{Done, Memory}
-use Rattle.sm_server.specs.Asked.{task_of_words, WordsDecide, PeopleDecide}
+use Rattle.sm_server.specs.Asked.{role_of_words, WordsDecide, PeopleDecide}
 use Rattle.sm_server.specs.Outside.{Counts, Outside, Trace}
 use Rattle.sm_server.specs.Ran.{Course, Drills, Story, course_of, Runs}
 use Rattle.sm_server.specs.Status.{WasOpened}
@@ -70,7 +71,7 @@ ReadsWhole task status left =
 
 -- the words ask for what the story does, and the text of the people names who may ask in it
 abbrev pub AreFollowed : Option Settings → Result Persons ℕ → Story → Type 0
-AreFollowed asked read story = (task_of_words asked ≡ Ok story.task) × (read ≡ Ok story.people)
+AreFollowed asked read story = (role_of_words asked ≡ Ok (Primary story.task)) × (read ≡ Ok story.people)
 
 -- what a run is asked for: its words, and the text of the people
 pub record Orders : Type 0 where

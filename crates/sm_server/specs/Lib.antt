@@ -4,10 +4,14 @@ pub mod MessageRounds
 pub mod Checks
 pub mod Brought
 pub mod Drills
+pub mod Ships
+pub mod Shipping
 pub mod Status
 pub mod Ran
 pub mod Complete
 pub mod Stored
+pub mod Follows
+pub mod Outcomes
 pub mod Served
 pub mod JustOpened
 pub mod Readers

@@ -67,6 +67,23 @@ outside_inside left taken source sink clocks words rotators disk clock random ro
   };
 }
 
+-- the same, where this was drawn of a random source that has failed so often, and a rotator so often
+abbrev pub outside_reading : {Q K C : Type 0} → Option (List ℕ) → ℕ → ℕ → SourceGhosts Q → SinkGhosts K → ClockGhosts C
+    → Q → K → ℕ → C → Outside
+outside_reading drawn random rotator sources sinks clocks source sink disk clock = record {
+  left = sources.left source;
+  taken = sinks.taken sink;
+  readings = clocks.readings clock;
+  drawn = drawn;
+  counts = record {
+    source = sources.source_faults source;
+    sink = sinks.sink_faults sink;
+    disk = disk;
+    random = random;
+    rotator = rotator;
+  };
+}
+
 -- the same, where this is left of a source that has failed so often
 abbrev pub outside_beside : {K C W R : Type 0} → Option (List ℕ) → ℕ → SinkGhosts K → ClockGhosts C → WordsGhosts W
     → RotatorGhosts R → K → ℕ → C → W → R → Outside

@@ -18,24 +18,25 @@ use Rattle.sm_session.specs.Endings as streams
 use Rattle.sm_session.specs.Endings.{Passage}
 use Rattle.sm_session.specs.Told.{Told, nothing_told, Within}
 use Rattle.sm_server.specs.declared.asked.RunTask.{RunTask}
-use Rattle.sm_server.specs.declared.asked.RunTask.TheVariants.{Answer, Practise, Summarize}
+use Rattle.sm_server.specs.declared.asked.RunTask.TheVariants.{Answer, Practise, Ship, Summarize}
 use Rattle.sm_server.specs.declared.status.Status.{Status}
 use Rattle.sm_server.specs.declared.status.Status.TheVariants.{Done, Words, Damaged, OpenFault, Memory, People, SinkFault, SourceFault, Cut, BadMessage, Enough}
 use Rattle.sm_drill.specs.declared.step.TheConstants.{MESSAGES}
 use Rattle.sm_drill.specs.Messages.{messages_of}
 use Rattle.sm_server.specs.Checks.{ChecksBy}
 use Rattle.sm_server.specs.Drills.{EndsDrill}
+use Rattle.sm_server.specs.Ships.{ShipsBy}
 use Rattle.sm_server.specs.Outside.{Outside, Trace, Passed}
 use Rattle.sm_server.specs.MessageRounds.{Brought, MessageRounds}
 
--- what a run does, what its rotator may reply, who may ask, what its account goes on from, over how many entries, and
--- the history since
+-- what a run does, what its rotator may reply, who may ask, what its account goes on from, what was taken from the disk
+-- for that, and the history since
 pub record Course : Type 0 where
   pub task : RunTask
   pub replies : Replies
   pub people : Persons
   pub base : Base
-  pub entries : ℕ
+  pub held : Held
   pub history : History
 
 -- no mark was made, and nothing was written, read from the clock or drawn
@@ -88,8 +89,8 @@ pub record Checks (course : Course) (status : Status) (input : List ℕ) (trace 
   pub unread : input ≡ []
   pub unmarked : course.history ≡ []
   pub undrawn : trace.told.drawn ≡ []
-  pub checks : ChecksBy (Rose trace.sink.before trace.sink.after) course.base.rows course.entries status
-      trace.told.readings trace.written
+  pub checks : ChecksBy (Rose trace.sink.before trace.sink.after) course.base.rows (made_of course.held).entries
+      status trace.told.readings trace.written
 
 -- A run that answers the messages of a number reads none. What was told for them comes first.
 pub record Drills (course : Course) (number : ℕ) (status : Status) (input : List ℕ) (trace : Trace) : Type 0 where
@@ -98,14 +99,23 @@ pub record Drills (course : Course) (number : ℕ) (status : Status) (input : Li
   pub few : count ≤ MESSAGES
   pub told : Told
   pub answered : AreAnswered course (messages_of number count) (record trace { told = told })
-  pub ends : EndsDrill (Rose trace.sink.before trace.sink.after) course.base course.entries course.history count
-      answered.brought.replies told status trace.told trace.written
+  pub ends : EndsDrill (Rose trace.sink.before trace.sink.after) course.base (made_of course.held).entries
+      course.history count answered.brought.replies told status trace.told trace.written
+
+-- A run that ships reads no message, makes no mark, draws nothing and reads no clock. What it writes brings a replica
+-- from the position to the end of what was taken from the disk.
+pub record Ships (course : Course) (position : ℕ) (status : Status) (input : List ℕ) (trace : Trace) : Type 0 where
+  pub unread : input ≡ []
+  pub unmarked : course.history ≡ []
+  pub untold : trace.told ≡ nothing_told
+  pub ships : ShipsBy (Rose trace.sink.before trace.sink.after) course.held position status trace.written
 
 -- why a run ended so that had this to do
 abbrev pub EndedAt : RunTask → Course → Status → List ℕ → Option (List ℕ) → Trace → Type 0
 EndedAt Answer course status input left trace = Answers course status input left trace
 EndedAt Summarize course status input left trace = Checks course status input trace
 EndedAt (Practise number) course status input left trace = Drills course number status input trace
+EndedAt (Ship position) course status input left trace = Ships course position status input trace
 
 -- why the run ended so, where it read this input and the source has that left; no byte is read before an account is
 -- opened
@@ -133,7 +143,7 @@ course_of replies story = record {
   replies = replies;
   people = story.people;
   base = base_of story.taken JOURNAL_LIMIT;
-  entries = (made_of story.taken).entries;
+  held = story.taken;
   history = story.history;
 }
 

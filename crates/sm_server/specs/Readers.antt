@@ -4,7 +4,7 @@ use Rattle.sm_agent.specs.Agents.{AgentState, empty_agent}
 use Rattle.sm_agent_stream.specs.Streams.{Around, StreamOf}
 use Rattle.sm_session.specs.declared.ended.Ended.{Ended}
 use Rattle.sm_command_line.specs.declared.settings.Mode.{Mode}
-use Rattle.sm_command_line.specs.declared.settings.Mode.TheVariants.{Exec, Serve, Check, Drill, Agent}
+use Rattle.sm_command_line.specs.declared.settings.Mode.TheVariants.{Exec, Serve, Check, Drill, Agent, Ship, Follow}
 use Rattle.sm_command_line.specs.declared.settings.Settings.{Settings}
 use Rattle.sm_server.specs.declared.status.Status.{Status}
 use Rattle.sm_server.specs.declared.status.Status.TheVariants.{Words, Memory}
@@ -17,6 +17,8 @@ end_of_reading Serve = Some Words
 end_of_reading Check = Some Words
 end_of_reading Drill = Some Words
 end_of_reading Agent = None
+end_of_reading Ship = Some Words
+end_of_reading Follow = Some Words
 
 -- words that are refused ask for nothing
 abbrev pub end_of_reader : Option Settings → Option Status

@@ -18,7 +18,7 @@ use Rattle.sm_account.specs.History.{faults_in}
 use Rattle.sm_account.specs.Openings.{TakenFrom}
 use Rattle.sm_account.specs.States.{base_of}
 use Rattle.sm_command_line.specs.declared.settings.Mode.{Mode}
-use Rattle.sm_command_line.specs.declared.settings.Mode.TheVariants.{Exec, Serve, Check, Drill, Agent}
+use Rattle.sm_command_line.specs.declared.settings.Mode.TheVariants.{Exec, Serve, Check, Drill, Agent, Ship, Follow}
 use Rattle.sm_command_line.specs.declared.settings.Settings.{Settings}
 use Rattle.sm_workers.specs.declared.worker.Task.{Task}
 use Rattle.sm_workers.specs.declared.worker.Task.TheVariants.{Door, Turner}
@@ -38,6 +38,8 @@ end_of_serving Serve = None
 end_of_serving Check = Some Words
 end_of_serving Drill = Some Words
 end_of_serving Agent = Some Words
+end_of_serving Ship = Some Words
+end_of_serving Follow = Some Words
 
 -- words that are refused ask for nothing
 abbrev pub end_of_server : Option Settings → Option Status

@@ -1,5 +1,5 @@
 //! The messages of a source, answered one after the other on an account.
-ghost use Rattle.std.specs.Prelude.{◌≡◌, ◌≤◌, ◌⊎◌, ℕ, [], IsSome};
+ghost use Rattle.std.specs.Prelude.{◌≡◌, ◌≤◌, ◌⊎◌, [], IsSome};
 ghost use Rattle.sm_base.specs.Faults.{Rose};
 ghost use Rattle.sm_account.specs.Accounts.{history, base, disk, failed, SameOrigin};
 ghost use Rattle.sm_http.specs.Framed.{Sends};
@@ -8,6 +8,7 @@ ghost use Rattle.sm_reply.specs.Shown.{Answered};
 ghost use Rattle.sm_session.specs.Answer.{heard};
 ghost use Rattle.sm_session.specs.Replies.{framed_answer};
 ghost use Rattle.sm_session.specs.Views.{local_state_by};
+ghost use Rattle.sm_store.specs.Held.{Held};
 ghost use Rattle.sm_server.specs.declared.asked.RunTask.TheVariants.{Answer};
 ghost use Rattle.sm_server.specs.Outside.{outside_by};
 ghost use Rattle.sm_server.specs.Ran.{Runs};
@@ -39,12 +40,12 @@ pub fn answer_source<Q: Source, K: Sink, D: Disk, C: Clock, W: Words, R: Rotator
     rotator: &mut R,
 ) -> Ended
     requires { history account.old ≡ [] }
-    ensures runs { (entries : ℕ) → Runs (record {
+    ensures runs { (held : Held) → Runs (record {
       task = Answer;
       replies = R.replies;
       people = people.now;
       base = base account.old;
-      entries = entries;
+      held = held;
       history = history account.new;
     }) (status_of result)
         (outside_by Q.Source K.Sink C.Clock W.Words R.Rotator source.old sink.old

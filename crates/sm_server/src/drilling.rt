@@ -59,7 +59,7 @@ pub fn practise<K: Sink, D: Disk, C: Clock, W: Words, R: Rotator>(
       replies = R.replies;
       people = people.now;
       base = base account.old;
-      entries = (made_of (taken account.old)).entries;
+      held = taken account.old;
       history = history account.new;
     }) result
         (outside_beside left source K.Sink C.Clock W.Words R.Rotator sink.old (D.faults (disk account.old)) clock.old

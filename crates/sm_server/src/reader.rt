@@ -90,6 +90,8 @@ fn end_of_reading(mode: Mode) -> Option<Status>
         Mode::Check => Some(Status::Words),
         Mode::Drill => Some(Status::Words),
         Mode::Agent => None,
+        Mode::Ship => Some(Status::Words),
+        Mode::Follow => Some(Status::Words),
     }
 }
 

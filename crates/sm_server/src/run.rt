@@ -7,24 +7,26 @@ ghost use Rattle.sm_account.specs.Accounts.{history, base, began, taken, disk, f
 ghost use Rattle.sm_account.specs.States.{base_of};
 ghost use Rattle.sm_base.specs.declared.limits.TheConstants.{JOURNAL_LIMIT};
 ghost use Rattle.sm_opening.specs.Lawful.{made_of};
-ghost use Rattle.sm_server.specs.declared.asked.RunTask.TheVariants.{Answer, Practise, Summarize};
+ghost use Rattle.sm_server.specs.declared.asked.RunTask.TheVariants.{Answer, Practise, Ship, Summarize};
 ghost use Rattle.sm_principal.specs.declared.people.People.{People as Persons};
 ghost use Rattle.sm_principal.specs.Callers.{people_of};
 ghost use Rattle.sm_server.specs.Asked.{PeopleDecide};
 ghost use Rattle.sm_server.specs.Checks.{Shows};
-ghost use Rattle.sm_server.specs.Complete.{AreFollowed, Ran};
+ghost use Rattle.sm_server.specs.Outcomes.{RunsBy};
 ghost use Rattle.sm_server.specs.JustOpened.{IsJustOpened};
 ghost use Rattle.sm_server.specs.Outside.{NoCountFell, outside_beside, outside_by};
 ghost use Rattle.sm_server.specs.Ran.{Runs, Story, course_of};
+ghost use Rattle.sm_server.specs.Ships.{ShipsBy};
 ghost use Rattle.sm_server.specs.Status.{WasFollowed, WasOpened, WasUnderstood};
 ghost use Rattle.sm_server.specs.Stored.{Leaves, Stands, StaysVouched, WantsBy, status_unopened, disk_unopened};
 ghost use Rattle.sm_server.specs.declared.status.Status.TheVariants.{Memory};
-ghost use Rattle.sm_command_line.specs.Reading.{settings_of};
 
 use crate::answering::answer_source;
-use crate::asked::{RunTask, people_of, task_of_words};
+use crate::asked::{Role, RunTask, people_of, role_of_words};
 use crate::checking::summarize;
 use crate::drilling::practise;
+use crate::following::follow_primary;
+use crate::shipping::ship_frames;
 use crate::status::{Status, status_of};
 use sm_account::{Account, OpenRefused};
 use sm_base::limits::JOURNAL_LIMIT;
@@ -36,8 +38,10 @@ use std::alloc::Global;
 
 /// Follows the words of a command line: reads the text of the people who may ask, opens the account of the disk, and
 /// answers the messages of the source one after the other, at most 1,000, or writes a summary of what the disk holds,
-/// or answers the 10,000 messages that a number makes and says how that went. The reply to each message of the source
-/// is written, and then rotation turns are taken, before the next one is read. The disk is handed back.
+/// or answers the 10,000 messages that a number makes and says how that went, or writes what brings a replica to the
+/// account's end. The reply to each message of the source is written, and then rotation turns are taken, before the
+/// next one is read. Or it is a replica: it opens the store of the disk alone, and follows the frames of the source, at
+/// most 100,000. The disk is handed back.
 pub fn run_once<Q: Source, K: Sink, D: Disk, C: Clock, W: Words, R: Rotator>(
     alloc: Global,
     words: &[String],
@@ -50,26 +54,24 @@ pub fn run_once<Q: Source, K: Sink, D: Disk, C: Clock, W: Words, R: Rotator>(
     rotator: &mut R,
 ) -> (Status, D)
     // How the run went, and what stands on the disk.
-    ensures ran { (story : Story)
-        × (ran : Ran R.replies (record { words = map string_bytes words.now; people = people.now }) result.0
+    ensures ran { RunsBy D.Disk R.replies (record { words = map string_bytes words.now; people = people.now }) result.0
         (outside_by Q.Source K.Sink C.Clock W.Words R.Rotator source.old sink.old
         (D.faults disk) clock.old random.old rotator.old)
         (outside_by Q.Source K.Sink C.Clock W.Words R.Rotator source.new sink.new
-        (D.faults result.1) clock.new random.new rotator.new) story)
-        × Leaves D.Disk result.0 story disk result.1
-        × (result.0 ≡ Memory → WantsBy D.Disk (AreFollowed (settings_of (map string_bytes words.now))
-        (people_of people.now) story) story ran.runs.input ran.runs.trace disk result.1)
-        × ∥ StaysVouched R.replies story.taken story.history story.failed ∥₁ }
+        (D.faults result.1) clock.new random.new rotator.new) disk result.1 }
     ensures source_later { Q.source_faults source.old ≤ Q.source_faults source.new }
     ensures sink_later { K.sink_faults sink.old ≤ K.sink_faults sink.new }
     ensures disk_later { D.faults disk ≤ D.faults result.1 }
     ensures random_later { W.faults random.old ≤ W.faults random.new }
     ensures rotator_later { R.faults rotator.old ≤ R.faults rotator.new }
 {
-    match task_of_words(alloc, words) {
-        Ok(task) => run_task(
+    match role_of_words(alloc, words) {
+        Ok(Role::Primary(task)) => run_task(
             alloc, task, people, source, sink, disk, clock, random, rotator,
         ),
+        Ok(Role::Replica(region)) => {
+            follow_primary(alloc, region, people, disk, source, sink, clock)
+        }
         Err(status) => (status, disk),
     }
 }
@@ -196,6 +198,7 @@ fn run_opened<Q: Source, K: Sink, D: Disk, C: Clock, W: Words, R: Rotator>(
         RunTask::Practise(number) => {
             practise_opened(alloc, number, people, account, sink, clock, random, rotator)
         }
+        RunTask::Ship(position) => ship_opened(alloc, position, account, sink),
     }
 }
 
@@ -271,6 +274,33 @@ fn check_opened<K: Sink, D: Disk, C: Clock, R: Rotator>(
 {
     account.invariants();
     let status = summarize(alloc, &account, sink, clock);
+    (status, account.close())
+}
+
+/// Writes what brings a replica from a position to the end of an account that was just opened.
+fn ship_opened<K: Sink, D: Disk, R: Rotator>(
+    alloc: Global,
+    position: u64,
+    account: Account<D, R>,
+    sink: &mut K,
+) -> (Status, D)
+    requires fresh { history account ≡ [] }
+    requires sure { failed account ≡ None }
+    ensures ships { (written : List ℕ) × (K.taken sink.new ≡ append_known (K.taken sink.old) written)
+        × ShipsBy (Rose (K.sink_faults sink.old) (K.sink_faults sink.new)) (taken account) position result.0 written }
+    ensures disk { result.1 ≡ disk account }
+    ensures stands { (people : Persons) → Stands D.Disk (record {
+      task = Ship position;
+      people = people;
+      taken = taken account;
+      history = history account;
+      failed = failed account;
+    }) (began account) (disk account) }
+    ensures vouched { ∥ StaysVouched R.replies (taken account) (history account) (failed account) ∥₁ }
+    ensures sink_later { K.sink_faults sink.old ≤ K.sink_faults sink.new }
+{
+    account.invariants();
+    let status = ship_frames(alloc, &account, position, sink);
     (status, account.close())
 }
 

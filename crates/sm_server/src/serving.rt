@@ -100,6 +100,8 @@ fn end_of_serving(mode: Mode) -> Option<Status>
         Mode::Check => Some(Status::Words),
         Mode::Drill => Some(Status::Words),
         Mode::Agent => Some(Status::Words),
+        Mode::Ship => Some(Status::Words),
+        Mode::Follow => Some(Status::Words),
     }
 }
 

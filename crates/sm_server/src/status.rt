@@ -12,9 +12,10 @@ pub enum Status {
     Words,
     /// The journal is damaged: at this byte, in the entry of this number, counted from 0.
     Damaged(u64, u64),
-    /// The disk failed when the account was opened.
+    /// The disk failed when it was opened, or when a replica was promoted.
     OpenFault,
-    /// There was no memory to read the words or the people, to open the account or to read a message.
+    /// There was no memory to read the words or the people, to open the disk, to read a message or a frame, to make
+    /// what is written of an account, or to promote a replica.
     Memory,
     /// The line of this number of the people text is wrong, counted from 1.
     People(u64),
@@ -23,11 +24,11 @@ pub enum Status {
     SourceFault,
     /// The edge failed, from which connections come.
     EdgeFault,
-    /// The source ended with so many bytes that are no whole message.
+    /// The source ended with so many bytes that are no whole message, or no whole frame.
     Cut(u64),
-    /// A message is wrong, whose first byte has this number, counted from 0.
+    /// A message or a frame is wrong, whose first byte has this number, counted from 0.
     BadMessage(u64),
-    /// As many messages were answered as are answered at most, and nothing behind them was looked at.
+    /// As many messages were answered, or frames read, as are at most, and nothing behind them was looked at.
     Enough,
 }
 

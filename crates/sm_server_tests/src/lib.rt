@@ -14,6 +14,8 @@ mod people;
 #[cfg(test)]
 mod readers;
 #[cfg(test)]
+mod replicas;
+#[cfg(test)]
 mod streams;
 #[cfg(test)]
 mod words;

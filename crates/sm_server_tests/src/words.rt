@@ -6,7 +6,7 @@ use std::alloc::Global;
 use std::test::Fail;
 
 /// The words of a line, and how a run with them ends over no input.
-const LINES: [(&str, Status); 12] = [
+const LINES: [(&str, Status); 15] = [
     ("", Status::Done),
     ("--mode exec --number 0", Status::Done),
     ("--data ignored --rotator local", Status::Done),
@@ -15,6 +15,9 @@ const LINES: [(&str, Status); 12] = [
     ("--mode serve --people p", Status::Words),
     ("--mode agent", Status::Words),
     ("--number -1", Status::Words),
+    ("--mode ship", Status::Done),
+    ("--mode ship --number 18446744073709551615", Status::Done),
+    ("--mode follow --region eu-west-1", Status::Done),
     ("--help", Status::Words),
     ("--people p", Status::Done),
     ("--people p --rotator 127.0.0.1:9000", Status::Done),

@@ -19,7 +19,8 @@ returns c =
     let with_connections = with_rotator.2 in
     let with_workers = with_connections.2 in
     let with_number = with_workers.2 in
-    let with_log = with_number.2 in
+    let with_region = with_number.2 in
+    let with_log = with_region.2 in
     let first = app_of-arg _ _ _ _ _ with_mode.1 c.mode.ensures.global c.bare.ensures named.2 in
     let second = app_of-arg _ _ _ _ _ with_data.1 c.data.ensures.global first c.data.ensures.rule in
     let third = app_of-arg _ _ _ _ _ with_people.1 c.people.ensures.global second c.people.ensures.rule in
@@ -29,6 +30,7 @@ returns c =
     c.connections.ensures.rule in
     let seventh = app_of-arg _ _ _ _ _ with_workers.1 c.workers.ensures.global sixth c.workers.ensures.rule in
     let eighth = app_of-arg _ _ _ _ _ with_number.1 c.number.ensures.global seventh c.number.ensures.rule in
-    let ninth = app_of-arg _ _ _ _ _ with_log.1 c.log.ensures.global eighth c.log.ensures.rule in
-    (named.0, named.1, subst (λ command. app_of command ≡ app_at named.0) with_log.2 ninth))
+    let ninth = app_of-arg _ _ _ _ _ with_region.1 c.region.ensures.global eighth c.region.ensures.rule in
+    let tenth = app_of-arg _ _ _ _ _ with_log.1 c.log.ensures.global ninth c.log.ensures.rule in
+    (named.0, named.1, subst (λ command. app_of command ≡ app_at named.0) with_log.2 tenth))
     c.args-2.ensures

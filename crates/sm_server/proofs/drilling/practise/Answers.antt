@@ -29,7 +29,7 @@ returns-in-Ok-clause-runs g c left source =
     let says : Says cause (text (base old) (taken old)) c.say.result s.1 =
     subst (λ (b : Base). Says cause (text b (taken old)) c.say.result s.1) made.ensures.origin.base_stays
     (subst (λ (t : Held). Says cause (text (base new) t) c.say.result s.1) made.ensures.origin.taken_stays s.4) in
-    run_saying g.R.Rotator.replies c.args.people.now (base old) (made_of (taken old)).entries c.args.number before now
+    run_saying g.R.Rotator.replies c.args.people.now (base old) (taken old) c.args.number before now
     (history new) refl refl drilled
     (c.in-Ok.ensures.answered left (g.K.Sink.taken c.args.sink.now) source (g.K.Sink.sink_faults c.args.sink.now))
     (g.K.Sink.taken c.say.new.sink) (g.C.Clock.readings c.say.new.clock) (g.K.Sink.sink_faults c.say.new.sink) moment
@@ -47,6 +47,6 @@ returns-in-Err-clause-runs g c left source =
     (g.D.Disk.faults (disk old)) c.args.clock.now c.args.random.now c.args.rotator.now in
     let now : Outside = outside_beside left source g.K.Sink g.C.Clock g.W.Words g.R.Rotator c.args.sink.now
     (g.D.Disk.faults (disk new)) made.new.clock made.new.random made.new.rotator in
-    run_lacking g.R.Rotator.replies c.args.people.now (base old) (made_of (taken old)).entries c.args.number before now
+    run_lacking g.R.Rotator.replies c.args.people.now (base old) (taken old) c.args.number before now
     (history new) refl refl _
     (c.in-Err.ensures.answered left (g.K.Sink.taken c.args.sink.now) source (g.K.Sink.sink_faults c.args.sink.now))

@@ -3,7 +3,6 @@ use Rattle.sm_base.specs.declared.limits.TheConstants.{JOURNAL_LIMIT}
 use Rattle.sm_account.specs.Accounts.{history, base, began, taken, disk, failed}
 use Rattle.sm_account.specs.AccountState.{FaultsBound}
 use Rattle.sm_account.specs.States.{Base, base_of}
-use Rattle.sm_opening.specs.Lawful.{made_of}
 use Rattle.sm_server.specs.declared.asked.RunTask.TheVariants.{Answer}
 use Rattle.sm_server.specs.Outside.{Outside, outside_by}
 use Rattle.sm_server.specs.Ran.{Course, Story, Runs, course_of}
@@ -42,13 +41,13 @@ returns-clause-ran g c =
       replies = replies;
       people = c.args.people.now;
       base = b;
-      entries = (made_of (taken new)).entries;
+      held = taken new;
       history = history new;
     } in
     subst (λ (b : Base). Runs (course b) status (before first) (after (g.D.Disk.faults (disk new)))) based
     (runs_since (course (base old))
     (before (g.D.Disk.faults (disk old))) (after (g.D.Disk.faults (disk new))) first c.requires.later status
-    (status_opened answered.result) (answered.ensures.runs (made_of (taken new)).entries)) in
+    (status_opened answered.result) (answered.ensures.runs (taken new))) in
     let stands : Stands g.D.Disk story (began old) (disk new) = record {
       on_disk = c.invariants.ensures.on_disk;
       cause = cause_since (failed old) (failed new) first (g.D.Disk.faults (disk old)) (g.D.Disk.faults (disk new))

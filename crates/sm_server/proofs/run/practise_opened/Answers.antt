@@ -3,7 +3,7 @@ use Rattle.sm_base.specs.declared.limits.TheConstants.{JOURNAL_LIMIT}
 use Rattle.sm_account.specs.Accounts.{history, base, began, taken, disk, failed}
 use Rattle.sm_account.specs.AccountState.{FaultsBound}
 use Rattle.sm_account.specs.States.{Base, base_of}
-use Rattle.sm_opening.specs.Lawful.{made_of}
+use Rattle.sm_store.specs.Held.{Held}
 use Rattle.sm_server.specs.declared.asked.RunTask.TheVariants.{Practise}
 use Rattle.sm_server.specs.Outside.{Outside, outside_beside}
 use Rattle.sm_server.specs.Ran.{Course, Story, Runs, course_of}
@@ -34,24 +34,23 @@ returns-clause-ran g c left source =
     let based : base old ≡ base_of (taken new) JOURNAL_LIMIT =
     c.requires.base_is ∙ ap (λ t. base_of t JOURNAL_LIMIT) (sym kept) in
     let first = g.D.Disk.faults (began old) in
-    let course : Base → ℕ → Course = λ (b : Base) (entries : ℕ). record {
+    let course : Base → Held → Course = λ (b : Base) (held : Held). record {
       task = Practise c.args.number;
       replies = replies;
       people = c.args.people.now;
       base = b;
-      entries = entries;
+      held = held;
       history = history new;
     } in
-    let entries = (made_of (taken old)).entries in
-    let ran : Runs (course (base old) entries) status (before first) (after (g.D.Disk.faults (disk new))) =
-    runs_since (course (base old) entries) (before (g.D.Disk.faults (disk old)))
+    let ran : Runs (course (base old) (taken old)) status (before first) (after (g.D.Disk.faults (disk new))) =
+    runs_since (course (base old) (taken old)) (before (g.D.Disk.faults (disk old)))
     (after (g.D.Disk.faults (disk new))) first c.requires.later status practised.ensures.opened
     (practised.ensures.runs left source) in
     let runs : Runs (course_of replies story) status (before first) (after (g.D.Disk.faults (disk new))) =
-    subst (λ (b : Base). Runs (course b (made_of (taken new)).entries) status (before first)
+    subst (λ (b : Base). Runs (course b (taken new)) status (before first)
     (after (g.D.Disk.faults (disk new)))) based
-    (subst (λ (n : ℕ). Runs (course (base old) n) status (before first) (after (g.D.Disk.faults (disk new))))
-    (ap (λ t. (made_of t).entries) (sym kept)) ran) in
+    (subst (λ (h : Held). Runs (course (base old) h) status (before first) (after (g.D.Disk.faults (disk new))))
+    (sym kept) ran) in
     let stands : Stands g.D.Disk story (began old) (disk new) = record {
       on_disk = c.invariants.ensures.on_disk;
       cause = cause_since (failed old) (failed new) first (g.D.Disk.faults (disk old)) (g.D.Disk.faults (disk new))

@@ -1,0 +1,9 @@
+pub mod TurnLemmas
+pub mod StopLemmas
+pub mod HearLemmas
+pub mod WritingLemmas
+pub mod StepLemmas
+pub mod CourseLemmas
+pub mod FollowLemmas
+pub mod DiskLemmas
+pub mod RunLaws

@@ -1,0 +1,58 @@
+-- What holds of whole runs of a replica.
+use Rattle.std.specs.Prelude.{◌≡◌, ◌≤◌, ℕ, Bool, true, false, List, [], ◌∷◌}
+use Rattle.sm_disk.specs.declared.disk.Disk.{Ghosts}
+use Rattle.sm_frame.specs.declared.frame.Frame.{Frame}
+use Rattle.sm_frames.specs.declared.input.Input.{Input}
+use Rattle.sm_frames.specs.declared.input.Input.TheVariants as read
+use Rattle.sm_model.specs.declared.entry.Entry.{Entry}
+use Rattle.sm_opening.specs.Lawful.{IsLawful}
+use Rattle.sm_principal.specs.declared.people.People.{People}
+use Rattle.sm_replica.specs.Histories.{IsAt, IsHistory}
+use Rattle.sm_replica.specs.Laws.{AllOf}
+use Rattle.sm_store.specs.Held.{Held, only}
+use Rattle.sm_follow.specs.declared.end.End.{End}
+use Rattle.sm_follow.specs.Disks.{FollowsOver, KeepsOnDisk}
+use Rattle.sm_follow.specs.InputTurns.{Goes, InputTurn, InputTurnsOf, State, Sure}
+use Rattle.sm_follow.specs.Streams.{Around}
+
+-- the frames among inputs
+abbrev pub frames_in : List Input → List Frame
+frames_in [] = []
+frames_in (read.Frame frame ∷ others) = frame ∷ frames_in others
+frames_in (read.Message bytes ∷ others) = frames_in others
+
+-- Inputs whose frames tell of a primary's history, lost, repeated and in any order, leave a replica that held what so
+-- many first entries make with what so many make, and never fewer.
+abbrev pub IsAPrefix : Type 0
+IsAPrefix = (people : People) (history : List Entry) (n : ℕ) (old : State) (inputs : List Input)
+    (turns : List InputTurn) (new : State) → IsHistory history → IsAt history n old.replica.base
+    → AllOf history (frames_in inputs) → InputTurnsOf people old inputs turns new
+    → (m : ℕ) × (n ≤ m) × IsAt history m new.replica.base
+
+-- the disk holds this where the replica was not promoted, and else the replica's base alone
+abbrev pub HoldsBy : Bool → Held → State → Type 0
+HoldsBy false held state = state.held ≡ held
+HoldsBy true held state = state.held ≡ only state.replica.base
+
+-- only a promotion changes what the disk holds
+abbrev pub KeepsOrPromotes : Type 0
+KeepsOrPromotes = (people : People) (held : Held) (old : State) (inputs : List Input) (turns : List InputTurn)
+    (new : State) → HoldsBy old.replica.promoted held old → InputTurnsOf people old inputs turns new
+    → HoldsBy new.replica.promoted held new
+
+-- Where a run leaves a replica that goes on, and its disk: the replica holds what so many first entries of the history
+-- make. Until it was promoted each image of the disk recovers to what the opening took, and from then on to the
+-- replica's base alone, which an account may be opened over.
+pub record LeavesPrefix {D : Type 0} (G : Ghosts D) (history : List Entry) (held : Held) (state : State) (new : D)
+    : Type 0 where
+  pub count : ℕ
+  pub prefix : IsAt history count state.replica.base
+  pub kept : state.replica.promoted ≡ false → KeepsOnDisk (Sure held) (G.sight new)
+  pub promoted : state.replica.promoted ≡ true → KeepsOnDisk (Sure (only state.replica.base)) (G.sight new)
+  pub lawful : IsLawful (only state.replica.base)
+
+abbrev pub RunsLeavePrefix : {D : Type 0} → Ghosts D → Type 0
+RunsLeavePrefix {D} G = (people : People) (region : List ℕ) (end : End) (before after : Around) (old new : D)
+    (run : FollowsOver G people region end before after old new) (history : List Entry) (state : State)
+    → IsHistory history → AllOf history (frames_in run.followed.inputs) → run.onward ≡ Goes state
+    → LeavesPrefix G history run.held state new
