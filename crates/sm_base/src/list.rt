@@ -5,9 +5,6 @@ use crate::memory::{Copied, NoMemory};
 use std::alloc::Global;
 use std::marker::Model;
 
-/// From how many items on a list grows by an eighth of its length, and not to twice its room.
-const LARGE: usize = 1024;
-
 /// A list of items in order, which contracts see as the list itself.
 #[derive(Drop)]
 pub struct List<T> {
@@ -79,10 +76,6 @@ impl<T: Drop> List<T> {
         ensures ok { OnOk result (self.new ≡ self.old ++ item ∷ []) }
         ensures err { OnErr result (self.new ≡ self.old) }
     {
-        let len = self.vec.len();
-        if len >= LARGE && len == self.vec.capacity() {
-            self.vec.reserve_exact(len / 8)?;
-        }
         self.vec.push(item)?;
         Ok(())
     }
