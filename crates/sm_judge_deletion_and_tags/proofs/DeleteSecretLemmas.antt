@@ -19,7 +19,6 @@ use Rattle.sm_forms.proofs.DeleteSecretLemmas.{delete_window}
 use Rattle.sm_dates.specs.Days.{days_after}
 use Rattle.sm_versions.specs.Settle.{settle}
 use Rattle.sm_versions.specs.Sound.{UnsettledSound}
-use Rattle.sm_versions.proofs.CountLaws.{few_counted}
 use Rattle.sm_versions.proofs.KeptLaws.{settle_stays}
 use Rattle.sm_table.specs.Sweep.{swept, sweep}
 use Rattle.sm_table.specs.Found.{found}
@@ -34,7 +33,7 @@ use Rattle.sm_judging.specs.declared.judged.Judged.TheVariants.{Accept}
 use Rattle.sm_judging.specs.Refusals.{first_refusal, scheduled_refusal, refusal_at}
 use Rattle.sm_judging.specs.Secrets.{unless_scheduled}
 use Rattle.sm_judging.proofs.JudgedLemmas.{unless_scheduled_accepts}
-use Rattle.sm_judging.proofs.ChangeLemmas.{found_row_sound, found_row_few, found_change, unless_scheduled_change}
+use Rattle.sm_judging.proofs.ChangeLemmas.{unless_scheduled_change, found_change_beside}
 use Rattle.sm_judge_deletion_and_tags.specs.declared.delete_secret.DeleteCall.{DeleteCall}
 use Rattle.sm_judge_deletion_and_tags.specs.declared.delete_secret.Deletion.TheVariants.{Forced, After}
 use Rattle.sm_judge_deletion_and_tags.specs.DeleteSecret.{window_days, HasEnd, delete_call, scheduled_at, delete_later, delete_found, delete_judgement, delete_refusal, deletes_nobody, without_row, drop_named, delete_effect}
@@ -160,16 +159,10 @@ later_change : (rows : Rows) (when : When) (id : SecretId) (days : ℕ) (row : S
     → IfChange (delete_later row when days) (IsChange rows when.moment
     (settled (change_named (sweep rows when.moment) id when (scheduled_at (days_after when.moment days)))))
 later_change rows when id days row sound early short e =
-    found_change rows when id (scheduled_at (days_after when.moment days)) row sound (kept_moment when.moment early) e
-    (record {
-      serial = refl;
-      name = refl;
-      arn = refl;
-      sound = scheduled_sound (days_after when.moment days) row (end_is_date when.moment days early short)
-          (found_row_sound rows when.moment id row sound e);
-      few = few_counted (scheduled_at (days_after when.moment days) row) when
-          (found_row_few rows when.moment id row sound e);
-    })
+    found_change_beside rows when id (scheduled_at (days_after when.moment days)) row sound
+    (kept_moment when.moment early) e
+    (record { serial = refl; name = refl; arn = refl; versions = refl })
+    (scheduled_sound (days_after when.moment days) row (end_is_date when.moment days early short))
 
 -- the rows of the entry, by whether the deletion is forced
 abbrev effect_of : Bool → ℕ → Rows → When → SecretId → Rows

@@ -18,7 +18,6 @@ use Rattle.sm_forms.specs.TagResource.{tag_forms}
 use Rattle.sm_forms.proofs.TagResourceLemmas.{tag_tags}
 use Rattle.sm_versions.specs.Texts.{once}
 use Rattle.sm_versions.specs.Sound.{tag_keys, each_tag, UnsettledSound}
-use Rattle.sm_versions.proofs.CountLaws.{few_counted}
 use Rattle.sm_table.specs.Sweep.{sweep}
 use Rattle.sm_table.specs.Found.{found}
 use Rattle.sm_table.specs.Sound.{Sound}
@@ -28,7 +27,7 @@ use Rattle.sm_judging.specs.Changes.{settled, IsChange}
 use Rattle.sm_judging.specs.Judged.{refusal_told, IfAccepted, IfChange}
 use Rattle.sm_judging.specs.Refusals.{refuse_if}
 use Rattle.sm_judging.proofs.JudgedLemmas.{on_secret_refusal, on_secret_reads}
-use Rattle.sm_judging.proofs.ChangeLemmas.{OnRow, on_secret_change, found_row_sound, found_row_few, found_change}
+use Rattle.sm_judging.proofs.ChangeLemmas.{OnRow, on_secret_change, found_change_beside}
 use Rattle.sm_judge_deletion_and_tags.specs.TagResource.{with_tags, tagged, has_too_many_tags, tag_within_limit, tag_on, tag_judgement, tag_refusal_on, tag_refusal, tag_effect}
 use Rattle.sm_judge_deletion_and_tags.proofs.RevisedLemmas.{revised_sound}
 use Rattle.sm_judge_deletion_and_tags.proofs.TagLemmas.{with_tags_each, with_tags_once}
@@ -93,13 +92,9 @@ on_change : (rows : Rows) (when : When) (id : SecretId) (tags : List Tag) (row :
 on_change rows when id tags row sound date each e =
     limit_change (has_too_many_tags (with_tags row.tags tags)) (Limit TAGS_LIMIT Tags)
     (tag_within_limit row when (with_tags row.tags tags)) (OnRow rows when id (tagged tags))
-    (λ few. found_change rows when id (tagged tags) row sound date e (record {
-      serial = refl;
-      name = refl;
-      arn = refl;
-      sound = tagged_sound row tags few each (found_row_sound rows when.moment id row sound e);
-      few = few_counted (tagged tags row) when (found_row_few rows when.moment id row sound e);
-    }))
+    (λ few. found_change_beside rows when id (tagged tags) row sound date e
+    (record { serial = refl; name = refl; arn = refl; versions = refl })
+    (tagged_sound row tags few each))
 
 -- a change is the entry's
 pub tag_change : (rows : Rows) (when : When) (tag : TagResource) → Sound rows → IsTrue (is_date when.moment)

@@ -8,14 +8,13 @@ use Rattle.sm_model.specs.declared.rows.SecretRow.{SecretRow}
 use Rattle.sm_model.specs.Bounds.{is_date}
 use Rattle.sm_model.specs.Versions.{When}
 use Rattle.sm_versions.specs.Sound.{UnsettledSound}
-use Rattle.sm_versions.proofs.CountLaws.{few_counted}
 use Rattle.sm_table.specs.Sweep.{sweep}
 use Rattle.sm_table.specs.Found.{found}
 use Rattle.sm_table.specs.Sound.{Sound}
 use Rattle.sm_judging.specs.Changes.{settled, IsChange}
 use Rattle.sm_judging.specs.Judged.{refusal_told, IfAccepted, IfChange}
 use Rattle.sm_judging.proofs.JudgedLemmas.{on_secret_refusal, on_secret_reads}
-use Rattle.sm_judging.proofs.ChangeLemmas.{OnRow, on_secret_change, found_row_sound, found_row_few, found_change}
+use Rattle.sm_judging.proofs.ChangeLemmas.{OnRow, on_secret_change, found_change_beside}
 use Rattle.sm_judge_deletion_and_tags.specs.UntagResource.{without_tags, untagged, untag_on, untag_judgement, untag_refusal, untag_effect}
 use Rattle.sm_judge_deletion_and_tags.proofs.RevisedLemmas.{tags_of, revised_sound}
 use Rattle.sm_judge_deletion_and_tags.proofs.TagLemmas.{without_are}
@@ -48,13 +47,9 @@ on_change : (rows : Rows) (when : When) (id : SecretId) (keys : List (List ℕ))
     → IsTrue (is_date when.moment) → found rows when.moment id ≡ Some row
     → IfChange (untag_on row when keys) (OnRow rows when id (untagged keys))
 on_change rows when id keys row sound date e =
-    found_change rows when id (untagged keys) row sound date e (record {
-      serial = refl;
-      name = refl;
-      arn = refl;
-      sound = untagged_sound row keys (found_row_sound rows when.moment id row sound e);
-      few = few_counted (untagged keys row) when (found_row_few rows when.moment id row sound e);
-    })
+    found_change_beside rows when id (untagged keys) row sound date e
+    (record { serial = refl; name = refl; arn = refl; versions = refl })
+    (untagged_sound row keys)
 
 -- a change is the entry's
 pub untag_change : (rows : Rows) (when : When) (untag : UntagResource) → Sound rows → IsTrue (is_date when.moment)

@@ -11,13 +11,13 @@ use Rattle.sm_model.specs.declared.request.OfSecret.{OfSecret}
 use Rattle.sm_model.specs.declared.rows.Rows.{Rows}
 use Rattle.sm_model.specs.declared.rows.SecretRow.{SecretRow}
 use Rattle.sm_model.specs.declared.why.Why.{Why}
-use Rattle.sm_model.specs.declared.why.Why.TheVariants.{NoSecret}
 use Rattle.sm_model.specs.Versions.{When}
 use Rattle.sm_table.specs.Found.{found}
 use Rattle.sm_judging.specs.declared.judged.Judged.{Judged}
-use Rattle.sm_judging.specs.declared.judged.Judged.TheVariants.{Accept, Refuse}
+use Rattle.sm_judging.specs.declared.judged.Judged.TheVariants.{Accept}
 use Rattle.sm_judging.specs.Changes.{change_named}
-use Rattle.sm_judging.specs.Secrets.{finished_row}
+use Rattle.sm_judging.specs.Refusals.{unless_there}
+use Rattle.sm_judging.specs.Secrets.{if_there, finished_row}
 
 -- ---- the row and the reply
 
@@ -34,20 +34,13 @@ abbrev pub restore_on : SecretRow → When → Judged
 restore_on row when = Accept (replies.RestoreSecret (restored row))
     (Some (changes.Replace (finished_row (unscheduled row) when)))
 
-abbrev pub restore_found : Option SecretRow → When → Judged
-restore_found None when = Refuse NoSecret
-restore_found (Some row) when = restore_on row when
-
 abbrev pub restore_judgement : Rows → When → OfSecret → Judged
-restore_judgement rows when restore = restore_found (found rows when.moment (secret_id restore.secret_id)) when
+restore_judgement rows when restore =
+    if_there (found rows when.moment (secret_id restore.secret_id)) (λ row. restore_on row when)
 
 -- ---- when it is refused, what it does to the rows
 
 -- the secret has to be there
-abbrev pub unless_there : Option SecretRow → Option Why
-unless_there None = Some NoSecret
-unless_there (Some row) = None
-
 abbrev pub restore_refusal : Rows → Moment → OfSecret → Option Why
 restore_refusal rows moment restore = unless_there (found rows moment (secret_id restore.secret_id))
 

@@ -22,7 +22,6 @@ use Rattle.sm_versions.specs.Versions.{has_value}
 use Rattle.sm_model.specs.Versions.{When, has_version}
 use Rattle.sm_versions.specs.Put.{has_too_many}
 use Rattle.sm_versions.specs.Move.{missing, may_move, move_to, unless_missing, move_answer}
-use Rattle.sm_versions.proofs.CountLaws.{few_counted}
 use Rattle.sm_versions.proofs.SoundLaws.{move_sound}
 use Rattle.sm_table.specs.Sweep.{sweep}
 use Rattle.sm_table.specs.Found.{found}
@@ -32,7 +31,7 @@ use Rattle.sm_judging.specs.Judged.{refusal_told, IfAccepted, IfChange}
 use Rattle.sm_judging.specs.Refusals.{refuse_if, first_refusal}
 use Rattle.sm_judging.specs.Secrets.{finished_row}
 use Rattle.sm_judging.proofs.JudgedLemmas.{on_secret_refusal, on_secret_reads}
-use Rattle.sm_judging.proofs.ChangeLemmas.{OnRow, on_secret_change, found_row_sound, found_row_few, found_change}
+use Rattle.sm_judging.proofs.ChangeLemmas.{OnRow, on_secret_change, found_change_beside}
 use Rattle.sm_judge_labels.specs.declared.update_secret_version_stage.MoveCall.{MoveCall}
 use Rattle.sm_judge_labels.specs.UpdateSecretVersionStage.{move_call, move_outcome, move_in, move_on, move_judgement, absent_refusal, target_refusal, move_refusal_on, move_refusal, move_effect}
 
@@ -152,14 +151,9 @@ on_change : (rows : Rows) (when : When) (call : MoveCall) (row : SecretRow) → 
 on_change rows when call row sound date e =
     outcome_change (move_answer row call.label call.to call.from) (finished_row (move_in call row) when)
     (OnRow rows when call.id (move_in call))
-    (λ accepted. found_change rows when call.id (move_in call) row sound date e (record {
-      serial = refl;
-      name = refl;
-      arn = refl;
-      sound = move_sound row call.label call.to call.from accepted
-          (found_row_sound rows when.moment call.id row sound e);
-      few = few_counted (move_in call row) when (found_row_few rows when.moment call.id row sound e);
-    }))
+    (λ accepted. found_change_beside rows when call.id (move_in call) row sound date e
+    (record { serial = refl; name = refl; arn = refl; versions = refl })
+    (move_sound row call.label call.to call.from accepted))
 
 -- a change is the entry's
 pub move_change : (rows : Rows) (when : When) (update : UpdateSecretVersionStage) → Sound rows

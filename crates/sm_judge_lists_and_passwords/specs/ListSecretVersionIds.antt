@@ -11,7 +11,6 @@ use Rattle.sm_model.specs.declared.rows.Rows.{Rows}
 use Rattle.sm_model.specs.declared.rows.SecretRow.{SecretRow}
 use Rattle.sm_model.specs.declared.rows.VersionRow.{VersionRow}
 use Rattle.sm_model.specs.declared.why.Why.{Why}
-use Rattle.sm_model.specs.declared.why.Why.TheVariants.{NoSecret}
 use Rattle.sm_model.specs.Bounds.{fits}
 use Rattle.sm_listing.specs.declared.asks.Listed.{Listed}
 use Rattle.sm_listing.specs.declared.tokens.TheConstants.{VERSIONS}
@@ -20,9 +19,10 @@ use Rattle.sm_base.specs.declared.limits.TheConstants.{PAGE_LIMIT}
 use Rattle.sm_forms.specs.Paging.{is_page_token}
 use Rattle.sm_table.specs.Found.{found}
 use Rattle.sm_judging.specs.declared.judged.Judged.{Judged}
-use Rattle.sm_judging.specs.declared.judged.Judged.TheVariants.{Accept, Refuse}
+use Rattle.sm_judging.specs.declared.judged.Judged.TheVariants.{Accept}
 use Rattle.sm_judging.specs.LabelsShown.{labels_shown}
-use Rattle.sm_judge_reads.specs.DescribeSecret.{unless_found}
+use Rattle.sm_judging.specs.Refusals.{unless_there}
+use Rattle.sm_judging.specs.Secrets.{if_there}
 use Rattle.sm_judge_lists_and_passwords.specs.declared.list_secret_version_ids.VersionsCall.{VersionsCall}
 use Rattle.sm_judge_lists_and_passwords.specs.Pages.{page_size, token_serial, picked}
 
@@ -75,16 +75,15 @@ version_page row call = record {
 
 -- ---- the judgement
 
-abbrev pub versions_found : VersionsCall → Option SecretRow → Judged
-versions_found call None = Refuse NoSecret
-versions_found call (Some row) = Accept (replies.ListSecretVersionIds (version_page row call)) None
+abbrev pub versions_on : SecretRow → VersionsCall → Judged
+versions_on row call = Accept (replies.ListSecretVersionIds (version_page row call)) None
 
 abbrev pub versions_judgement : Rows → Moment → ListSecretVersionIds → Judged
 versions_judgement rows moment list =
-    versions_found (versions_call list) (found rows moment (secret_id list.secret_id))
+    if_there (found rows moment (secret_id list.secret_id)) (λ row. versions_on row (versions_call list))
 
 -- ---- when it is refused
 
 -- the secret has to be there
 abbrev pub versions_refusal : Rows → Moment → ListSecretVersionIds → Option Why
-versions_refusal rows moment list = unless_found (found rows moment (secret_id list.secret_id))
+versions_refusal rows moment list = unless_there (found rows moment (secret_id list.secret_id))

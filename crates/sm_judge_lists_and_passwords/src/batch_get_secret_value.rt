@@ -1,17 +1,16 @@
 //! Judging BatchGetSecretValue (AWS Secrets Manager API Reference, BatchGetSecretValue).
-ghost use Rattle.std.specs.Prelude.{◌≡◌, ◌++◌, IfOk, OnOk, None, map};
+ghost use Rattle.std.specs.Prelude.{◌≡◌, ◌++◌, IfOk, OnOk, None};
 ghost use Rattle.sm_access.specs.Admission.{admission};
 ghost use Rattle.sm_forms.specs.BatchGetSecretValue.{batch_forms};
 ghost use Rattle.sm_forms.specs.GetSecretValue.{get_forms};
-ghost use Rattle.sm_listing.specs.Pages.{ordered};
 ghost use Rattle.sm_judge_lists_and_passwords.specs.BatchGetSecretValue.{alone, denial, value_question, unless_refused, answered_to, IsValue, IsAnswer, value_shown, value_in, error_in, batch_of, batch_ask, row_arn, page_batch, secret_batch, batch_judgement};
-ghost use Rattle.sm_judge_lists_and_passwords.specs.Pages.{IsPageAsk, picked, row_serial, page_rows, first_listed};
+ghost use Rattle.sm_judge_lists_and_passwords.specs.Pages.{IsPageAsk, page_rows, first_listed};
 ghost use Rattle.sm_model.specs.Causes.{error_of, message_of};
 ghost use Rattle.sm_model.specs.declared.request.Request.TheVariants as requests;
 ghost use Rattle.sm_table.specs.Sound.{Sound};
 ghost use Rattle.sm_judge_reads.specs.GetSecretValue.{get_judgement};
 
-use crate::pages::{filters_given, is_next, listed, page_size, row_at};
+use crate::pages::{Shown, filters_given, listed, page_size, shown_rows};
 use sm_access::{Admitted, admit_get};
 use sm_base::limits::BATCH_LIMIT;
 use sm_forms::get_secret_value::get_forms;
@@ -20,7 +19,7 @@ use sm_judging::Judged;
 use sm_listing::{Listed, PageAsk};
 use sm_model::{
     BatchError, BatchGetSecretValue, Copied, GetSecretValue, GotSecret, List, Moment, NoMemory,
-    Person, Reply, RowList, SecretBatch, Text, Why,
+    Person, Reply, SecretBatch, SecretRow, Text, Why,
 };
 use sm_table::Table;
 use std::alloc::Global;
@@ -96,31 +95,20 @@ fn page_batch(
         ≡ page_batch (answered_to person.now table.now moment) table.now moment ask.now) }
 {
     let Listed { serials, next } = listed(alloc, table, moment, ask)?;
-    let ids = arns(alloc, table, ask.descending, serials.as_slice())?;
+    let ids: List<Text> = shown_rows(alloc, table, ask.descending, serials.as_slice())?;
     batch_of(alloc, table, person, moment, next, ids.as_slice())
 }
 
-/// The ARNs of the secrets with these serials, which come in the order of the walk.
-fn arns(
-    alloc: Global,
-    table: &Table,
-    descending: bool,
-    serials: &[u64],
-) -> Result<List<Text>, NoMemory>
-    ensures { IfOk result (λ list. list
-        ≡ map row_arn (picked row_serial serials.now (ordered descending table.now.secrets))) }
-{
-    let mut list = List::empty(alloc);
-    for step in 0..table.count() {
-        if list.len() >= serials.len() {
-            return Ok(list);
-        }
-        let row = row_at(table, descending, step);
-        if is_next(serials, list.len(), row.serial) {
-            list.push(row.arn.as_text().copy(alloc)?)?;
-        }
+impl Shown for Text {
+    ghost use Rattle.sm_judge_lists_and_passwords.specs.BatchGetSecretValue.{row_arn};
+
+    ghost shown = { λ row. row_arn row };
+
+    fn shown(alloc: Global, row: &SecretRow) -> Result<Text, NoMemory>
+        ensures { IfOk result (λ made. made ≡ row_arn row.now) }
+    {
+        row.arn.as_text().copy(alloc)
     }
-    Ok(list)
 }
 
 /// The values and the refusals of these SecretIds.

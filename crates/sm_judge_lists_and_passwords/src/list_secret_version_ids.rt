@@ -4,7 +4,7 @@ ghost use Rattle.sm_forms.specs.ListSecretVersionIds.{list_versions_forms};
 ghost use Rattle.sm_forms.specs.Paging.{is_page_token};
 ghost use Rattle.sm_judging.specs.LabelsShown.{labels_shown};
 ghost use Rattle.sm_listing.specs.declared.tokens.TheConstants.{VERSIONS};
-ghost use Rattle.sm_judge_lists_and_passwords.specs.ListSecretVersionIds.{versions_call, stages_shown, version_item, version_serial, versions_listed, version_page, versions_found, versions_judgement, IsVersionsCall};
+ghost use Rattle.sm_judge_lists_and_passwords.specs.ListSecretVersionIds.{versions_call, stages_shown, version_item, version_serial, versions_listed, version_page, versions_on, versions_judgement, IsVersionsCall};
 ghost use Rattle.sm_judge_lists_and_passwords.specs.Pages.{picked};
 ghost use Rattle.sm_model.specs.Bounds.{fits};
 
@@ -67,7 +67,7 @@ fn versions_call(alloc: Global, list: &ListSecretVersionIds) -> Result<VersionsC
 /// Shows the versions of this row, also of one that is scheduled for deletion.
 fn show_versions(alloc: Global, row: &SecretRow, call: &VersionsCall) -> Result<Judged, NoMemory>
     requires { IsVersionsCall call.now }
-    ensures { IfOk result (λ judged. judged ≡ versions_found call.now (Some row.now)) }
+    ensures { IfOk result (λ judged. judged ≡ versions_on row.now call.now) }
 {
     let reply = version_page(alloc, row, call)?;
     Ok(Judged::Accept(Reply::ListSecretVersionIds(reply), None))

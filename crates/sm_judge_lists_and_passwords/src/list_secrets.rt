@@ -1,19 +1,18 @@
 //! Judging ListSecrets (AWS Secrets Manager API Reference, ListSecrets).
-ghost use Rattle.std.specs.Prelude.{◌≡◌, IfOk, None, map, option_copied};
+ghost use Rattle.std.specs.Prelude.{◌≡◌, IfOk, None, option_copied};
 ghost use Rattle.sm_forms.specs.ListSecrets.{list_forms};
-ghost use Rattle.sm_listing.specs.Pages.{ordered};
 ghost use Rattle.sm_judge_lists_and_passwords.specs.ListSecrets.{is_descending, list_ask, secret_page, list_judgement};
-ghost use Rattle.sm_judge_lists_and_passwords.specs.Pages.{IsPageAsk, picked, row_serial, page_rows, first_listed};
+ghost use Rattle.sm_judge_lists_and_passwords.specs.Pages.{IsPageAsk, page_rows, first_listed};
 ghost use Rattle.sm_table.specs.Sound.{Sound};
 ghost use Rattle.sm_judge_reads.specs.DescribeSecret.{described};
 
-use crate::pages::{filters_given, is_next, listed, page_size, row_at};
+use crate::pages::{Shown, filters_given, listed, page_size, shown_rows};
 use sm_base::limits::PAGE_LIMIT;
 use sm_judge_reads::describe_secret::described;
 use sm_judging::Judged;
 use sm_listing::{Listed, PageAsk};
 use sm_model::{
-    Copied, Described, List, ListSecrets, Moment, NoMemory, Reply, RowList, SecretPage, Text,
+    Copied, Described, ListSecrets, Moment, NoMemory, Reply, SecretPage, SecretRow, Text,
 };
 use sm_table::Table;
 use std::alloc::Global;
@@ -76,32 +75,21 @@ fn secret_page(
     ensures { IfOk result (λ page. page ≡ secret_page table.now moment ask.now) }
 {
     let Listed { serials, next } = listed(alloc, table, moment, ask)?;
-    let secret_list = described_rows(alloc, table, ask.descending, serials.as_slice())?;
+    let secret_list = shown_rows(alloc, table, ask.descending, serials.as_slice())?;
     Ok(SecretPage {
         next_token: next,
         secret_list,
     })
 }
 
-/// The secrets with these serials, which come in the order of the walk.
-fn described_rows(
-    alloc: Global,
-    table: &Table,
-    descending: bool,
-    serials: &[u64],
-) -> Result<List<Described>, NoMemory>
-    ensures { IfOk result (λ list. list
-        ≡ map described (picked row_serial serials.now (ordered descending table.now.secrets))) }
-{
-    let mut list = List::empty(alloc);
-    for step in 0..table.count() {
-        if list.len() >= serials.len() {
-            return Ok(list);
-        }
-        let row = row_at(table, descending, step);
-        if is_next(serials, list.len(), row.serial) {
-            list.push(described(alloc, row)?)?;
-        }
+impl Shown for Described {
+    ghost use Rattle.sm_judge_reads.specs.DescribeSecret.{described};
+
+    ghost shown = { λ row. described row };
+
+    fn shown(alloc: Global, row: &SecretRow) -> Result<Described, NoMemory>
+        ensures { IfOk result (λ made. made ≡ described row.now) }
+    {
+        described(alloc, row)
     }
-    Ok(list)
 }

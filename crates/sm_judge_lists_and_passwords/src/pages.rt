@@ -1,8 +1,8 @@
 //! Pages of secrets and of versions as they are shown.
-ghost use Rattle.std.specs.Prelude.{◌≡◌, ◌≤◌, ◌<◌, IfOk, IsTrue, Some, ◌↔◌, length, slice_get};
+ghost use Rattle.std.specs.Prelude.{◌≡◌, ◌≤◌, ◌<◌, IfOk, IsTrue, Some, ◌↔◌, length, map, slice_get};
 ghost use Rattle.sm_forms.specs.Paging.{is_count};
 ghost use Rattle.sm_listing.specs.Pages.{ordered};
-ghost use Rattle.sm_judge_lists_and_passwords.specs.Pages.{page_size, filters_given, IsPageAsk, listed};
+ghost use Rattle.sm_judge_lists_and_passwords.specs.Pages.{page_size, filters_given, IsPageAsk, listed, picked, row_serial};
 ghost use Rattle.sm_model.specs.Bounds.{fits};
 
 use sm_listing::{Listed, PageAsk, PageRefused, page};
@@ -55,7 +55,7 @@ pub(crate) fn listed(
 
 /// The row at which a walk over the table is after so many steps.
 #[tactic(auto, using(sm_listing::proofs::WalkLemmas::ordered_at, sm_listing::proofs::WalkLemmas::place_within))]
-pub(crate) fn row_at(table: &Table, descending: bool, step: usize) -> &SecretRow
+fn row_at(table: &Table, descending: bool, step: usize) -> &SecretRow
     requires { step < length table.now.secrets }
     ensures { slice_get (ordered descending table.now.secrets) step ≡ Some result.now }
 {
@@ -68,6 +68,40 @@ pub(crate) fn row_at(table: &Table, descending: bool, step: usize) -> &SecretRow
         Some(row) => row,
         None => unreachable!(),
     }
+}
+
+/// What a page shows of each of its secrets.
+pub(crate) trait Shown: Drop {
+    ghost use Rattle.sm_model.specs.declared.rows.SecretRow.{SecretRow};
+
+    /// What it shows of a row.
+    ghost shown: { SecretRow → Self };
+
+    fn shown(alloc: Global, row: &SecretRow) -> Result<Self, NoMemory>
+        ensures { IfOk result (λ made. made ≡ shown row.now) };
+}
+
+/// What is shown of the secrets with these serials, which come in the order of the walk.
+pub(crate) fn shown_rows<T: Shown>(
+    alloc: Global,
+    table: &Table,
+    descending: bool,
+    serials: &[u64],
+) -> Result<List<T>, NoMemory>
+    ensures { IfOk result (λ list. list
+        ≡ map T.shown (picked row_serial serials.now (ordered descending table.now.secrets))) }
+{
+    let mut list = List::empty(alloc);
+    for step in 0..table.count() {
+        if list.len() >= serials.len() {
+            return Ok(list);
+        }
+        let row = row_at(table, descending, step);
+        if is_next(serials, list.len(), row.serial) {
+            list.push(T::shown(alloc, row)?)?;
+        }
+    }
+    Ok(list)
 }
 
 /// Whether a serial is the one behind so many.

@@ -1,7 +1,7 @@
 -- GetResourcePolicy: its test on the rows and its reply. It works on a secret that is scheduled for deletion too, and
 -- changes nothing.
 -- AWS Secrets Manager API Reference, GetResourcePolicy.
-use Rattle.std.specs.Prelude.{Option, Some, None}
+use Rattle.std.specs.Prelude.{Option, None}
 use Rattle.sm_base.specs.declared.moment.Moment.{Moment}
 use Rattle.sm_base.specs.SecretId.{secret_id}
 use Rattle.sm_model.specs.declared.reply.PolicyOfSecret.{PolicyOfSecret}
@@ -10,10 +10,11 @@ use Rattle.sm_model.specs.declared.request.OfSecret.{OfSecret}
 use Rattle.sm_model.specs.declared.rows.Rows.{Rows}
 use Rattle.sm_model.specs.declared.rows.SecretRow.{SecretRow}
 use Rattle.sm_model.specs.declared.why.Why.{Why}
-use Rattle.sm_model.specs.declared.why.Why.TheVariants.{NoSecret}
 use Rattle.sm_table.specs.Found.{found}
 use Rattle.sm_judging.specs.declared.judged.Judged.{Judged}
-use Rattle.sm_judging.specs.declared.judged.Judged.TheVariants.{Accept, Refuse}
+use Rattle.sm_judging.specs.declared.judged.Judged.TheVariants.{Accept}
+use Rattle.sm_judging.specs.Refusals.{unless_there}
+use Rattle.sm_judging.specs.Secrets.{if_there}
 
 -- ---- the reply
 
@@ -26,19 +27,11 @@ policy_shown row = record { arn = row.arn; name = row.name; resource_policy = ro
 abbrev pub get_policy_on : SecretRow → Judged
 get_policy_on row = Accept (replies.GetResourcePolicy (policy_shown row)) None
 
-abbrev pub get_policy_found : Option SecretRow → Judged
-get_policy_found None = Refuse NoSecret
-get_policy_found (Some row) = get_policy_on row
-
 abbrev pub get_policy_judgement : Rows → Moment → OfSecret → Judged
-get_policy_judgement rows moment get = get_policy_found (found rows moment (secret_id get.secret_id))
+get_policy_judgement rows moment get = if_there (found rows moment (secret_id get.secret_id)) get_policy_on
 
 -- ---- when it is refused
 
 -- the secret has to be there
-abbrev pub unless_there : Option SecretRow → Option Why
-unless_there None = Some NoSecret
-unless_there (Some row) = None
-
 abbrev pub get_policy_refusal : Rows → Moment → OfSecret → Option Why
 get_policy_refusal rows moment get = unless_there (found rows moment (secret_id get.secret_id))

@@ -9,16 +9,17 @@ use Rattle.sm_model.specs.declared.reply.Reply.TheVariants as replies
 use Rattle.sm_model.specs.declared.reply.ValidationError.{ValidationError}
 use Rattle.sm_model.specs.declared.request.ValidateResourcePolicy.{ValidateResourcePolicy}
 use Rattle.sm_model.specs.declared.rows.Rows.{Rows}
-use Rattle.sm_model.specs.declared.rows.SecretRow.{SecretRow}
 use Rattle.sm_model.specs.declared.why.Why.{Why}
-use Rattle.sm_model.specs.declared.why.Why.TheVariants.{Malformed, NoSecret, Public}
+use Rattle.sm_model.specs.declared.why.Why.TheVariants.{Malformed, Public}
 use Rattle.sm_model.specs.Causes.{message_of}
 use Rattle.sm_policy_text.specs.declared.policy.Policy.{Policy}
 use Rattle.sm_policy.specs.Decisions.{public_number}
 use Rattle.sm_policy_text.specs.Documents.{Flaw, policy_of}
 use Rattle.sm_table.specs.Found.{found}
 use Rattle.sm_judging.specs.declared.judged.Judged.{Judged}
-use Rattle.sm_judging.specs.declared.judged.Judged.TheVariants.{Accept, Refuse}
+use Rattle.sm_judging.specs.declared.judged.Judged.TheVariants.{Accept}
+use Rattle.sm_judging.specs.Refusals.{unless_there}
+use Rattle.sm_judging.specs.Secrets.{if_there}
 
 -- ---- the reply
 
@@ -49,23 +50,15 @@ validation_of (Some fault) = record { policy_validation_passed = false; validati
 abbrev pub validated : List ℕ → Judged
 validated text = Accept (replies.ValidateResourcePolicy (validation_of (fault_of text))) None
 
-abbrev pub validate_found : Option SecretRow → List ℕ → Judged
-validate_found None text = Refuse NoSecret
-validate_found (Some row) text = validated text
-
 -- a secret that is named has to be there
 abbrev pub validate_for : Rows → Moment → Option (List ℕ) → List ℕ → Judged
 validate_for rows moment None text = validated text
-validate_for rows moment (Some id) text = validate_found (found rows moment (secret_id id)) text
+validate_for rows moment (Some id) text = if_there (found rows moment (secret_id id)) (λ _. validated text)
 
 abbrev pub validate_judgement : Rows → Moment → ValidateResourcePolicy → Judged
 validate_judgement rows moment validate = validate_for rows moment validate.secret_id validate.resource_policy
 
 -- ---- when it is refused
-
-abbrev pub unless_there : Option SecretRow → Option Why
-unless_there None = Some NoSecret
-unless_there (Some row) = None
 
 -- only where it names a secret that is not there
 abbrev pub refusal_for : Rows → Moment → Option (List ℕ) → Option Why

@@ -1,10 +1,8 @@
 //! Judging ValidateResourcePolicy (AWS Secrets Manager API Reference, ValidateResourcePolicy).
 ghost use Rattle.std.specs.Prelude.{◌≡◌, codes, IfOk, IsTrue, Some, None};
-ghost use Rattle.sm_base.specs.SecretId.{secret_id};
 ghost use Rattle.sm_base.specs.Spelling.{is_secret_id};
 ghost use Rattle.sm_forms.specs.ValidateResourcePolicy.{validate_forms};
-ghost use Rattle.sm_judge_policies.specs.ValidateResourcePolicy.{check_fault, public_fault, fault_of, validation_of, validated, validate_found, validate_judgement};
-ghost use Rattle.sm_table.specs.Found.{found};
+ghost use Rattle.sm_judge_policies.specs.ValidateResourcePolicy.{check_fault, public_fault, fault_of, validation_of, validated, validate_for, validate_judgement};
 
 use sm_judging::Judged;
 use sm_judging::members::secret_id;
@@ -44,7 +42,7 @@ fn validate_for(
 ) -> Result<Judged, NoMemory>
     requires { IsTrue (is_secret_id id.now) }
     ensures { IfOk result
-        (λ judged. judged ≡ validate_found (found table.now moment (secret_id id.now)) text.now) }
+        (λ judged. judged ≡ validate_for table.now moment (Some id.now) text.now) }
 {
     let id = secret_id(alloc, id)?;
     match table.find(&id, moment) {

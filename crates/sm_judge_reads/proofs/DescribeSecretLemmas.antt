@@ -1,5 +1,5 @@
 -- Judging DescribeSecret: when it is refused, and that it changes nothing.
-use Rattle.std.proofs.Common.{◌≡◌, ◌+◌, true, List, [], ◌∷◌, ◌++◌, Option, Some, None, is_none, refl, sym, ap, ◌∙◌, append_assoc, arith}
+use Rattle.std.proofs.Common.{◌≡◌, ◌+◌, true, List, [], ◌∷◌, ◌++◌, Some, is_none, refl, sym, ap, ◌∙◌, append_assoc, arith}
 use Rattle.std.proofs.lemmas.List.{append-nil}
 use Rattle.sm_base.specs.declared.moment.Moment.{Moment}
 use Rattle.sm_base.specs.SecretId.{secret_id}
@@ -11,31 +11,24 @@ use Rattle.sm_model.specs.declared.rows.VersionRow.{VersionRow}
 use Rattle.sm_table.specs.Found.{found}
 use Rattle.sm_judging.specs.Judged.{refusal_told, IfAccepted, IfChange}
 use Rattle.sm_judging.specs.LabelsShown.{labels_shown}
-use Rattle.sm_judge_reads.specs.DescribeSecret.{with_labels, staged, describe_found, describe_judgement, unless_found, describe_refusal}
-
-found_refuses : (row : Option SecretRow) → refusal_told (describe_found row) ≡ Some (unless_found row)
-found_refuses None = refl
-found_refuses (Some row) = refl
+use Rattle.sm_judging.proofs.JudgedLemmas.{if_there_refusal, if_there_accepts, if_there_change}
+use Rattle.sm_judge_reads.specs.DescribeSecret.{with_labels, staged, describe_on, describe_judgement, describe_refusal}
 
 pub describe_refuses : (rows : Rows) (moment : Moment) (describe : OfSecret)
     → refusal_told (describe_judgement rows moment describe) ≡ Some (describe_refusal rows moment describe)
-describe_refuses rows moment describe = found_refuses (found rows moment (secret_id describe.secret_id))
-
-found_reads : (row : Option SecretRow) → IfAccepted (describe_found row) (λ change. is_none change ≡ true)
-found_reads None = tt
-found_reads (Some row) = refl
+describe_refuses rows moment describe =
+    if_there_refusal (found rows moment (secret_id describe.secret_id)) describe_on (λ row. refl)
 
 pub describe_reads : (rows : Rows) (moment : Moment) (describe : OfSecret)
     → IfAccepted (describe_judgement rows moment describe) (λ change. is_none change ≡ true)
-describe_reads rows moment describe = found_reads (found rows moment (secret_id describe.secret_id))
-
-found_change : (row : Option SecretRow) (P : Change → Type 0) → IfChange (describe_found row) P
-found_change None P = tt
-found_change (Some row) P = tt
+describe_reads rows moment describe =
+    if_there_accepts (found rows moment (secret_id describe.secret_id)) describe_on (λ change. is_none change ≡ true)
+    (λ row. refl)
 
 pub describe_change : (rows : Rows) (moment : Moment) (describe : OfSecret) (P : Change → Type 0)
     → IfChange (describe_judgement rows moment describe) P
-describe_change rows moment describe P = found_change (found rows moment (secret_id describe.secret_id)) P
+describe_change rows moment describe P =
+    if_there_change (found rows moment (secret_id describe.secret_id)) describe_on P (λ row e. tt)
 
 -- ---- the versions with a label
 

@@ -14,12 +14,13 @@ use Rattle.sm_model.specs.declared.rows.Rows.{Rows}
 use Rattle.sm_model.specs.declared.rows.SecretRow.{SecretRow}
 use Rattle.sm_model.specs.declared.rows.VersionRow.{VersionRow}
 use Rattle.sm_model.specs.declared.why.Why.{Why}
-use Rattle.sm_model.specs.declared.why.Why.TheVariants.{NoSecret}
 use Rattle.sm_table.specs.Found.{found}
 use Rattle.sm_judging.specs.declared.judged.Judged.{Judged}
-use Rattle.sm_judging.specs.declared.judged.Judged.TheVariants.{Accept, Refuse}
+use Rattle.sm_judging.specs.declared.judged.Judged.TheVariants.{Accept}
 use Rattle.sm_judging.specs.LabelsShown.{labels_shown}
+use Rattle.sm_judging.specs.Refusals.{unless_there}
 use Rattle.sm_judging.specs.Regions.{replicas_shown}
+use Rattle.sm_judging.specs.Secrets.{if_there}
 
 -- ---- the reply
 
@@ -63,19 +64,14 @@ described row = record {
 
 -- ---- the judgement
 
-abbrev pub describe_found : Option SecretRow → Judged
-describe_found None = Refuse NoSecret
-describe_found (Some row) = Accept (replies.DescribeSecret (described row)) None
+abbrev pub describe_on : SecretRow → Judged
+describe_on row = Accept (replies.DescribeSecret (described row)) None
 
 abbrev pub describe_judgement : Rows → Moment → OfSecret → Judged
-describe_judgement rows moment describe = describe_found (found rows moment (secret_id describe.secret_id))
+describe_judgement rows moment describe = if_there (found rows moment (secret_id describe.secret_id)) describe_on
 
 -- ---- when it is refused
 
 -- the secret has to be there
-abbrev pub unless_found : Option SecretRow → Option Why
-unless_found None = Some NoSecret
-unless_found (Some row) = None
-
 abbrev pub describe_refusal : Rows → Moment → OfSecret → Option Why
-describe_refusal rows moment describe = unless_found (found rows moment (secret_id describe.secret_id))
+describe_refusal rows moment describe = unless_there (found rows moment (secret_id describe.secret_id))

@@ -2,7 +2,7 @@
 ghost use Rattle.std.specs.Prelude.{◌≡◌, ◌++◌, IfOk, OnOk, None};
 ghost use Rattle.sm_forms.specs.OfSecret.{of_secret_forms};
 ghost use Rattle.sm_judging.specs.LabelsShown.{labels_shown};
-ghost use Rattle.sm_judge_reads.specs.DescribeSecret.{with_labels, staged, keeps_rules, rules_shown, described, describe_found, describe_judgement};
+ghost use Rattle.sm_judge_reads.specs.DescribeSecret.{with_labels, staged, keeps_rules, rules_shown, described, describe_on, describe_judgement};
 
 use sm_base::{copy_three, copy_two};
 use sm_judging::Judged;
@@ -36,7 +36,7 @@ pub fn judge_describe(
 
 /// Shows the secret of this row, also one that is scheduled for deletion.
 fn describe_row(alloc: Global, row: &SecretRow) -> Result<Judged, NoMemory>
-    ensures { IfOk result (λ judged. judged ≡ describe_found (Some row.now)) }
+    ensures { IfOk result (λ judged. judged ≡ describe_on row.now) }
 {
     let reply = described(alloc, row)?;
     Ok(Judged::Accept(Reply::DescribeSecret(reply), None))

@@ -9,14 +9,13 @@ use Rattle.sm_model.specs.declared.rows.SecretRow.{SecretRow}
 use Rattle.sm_model.specs.Bounds.{is_date}
 use Rattle.sm_model.specs.Versions.{When}
 use Rattle.sm_versions.specs.Sound.{UnsettledSound}
-use Rattle.sm_versions.proofs.CountLaws.{few_counted}
 use Rattle.sm_table.specs.Sweep.{sweep}
 use Rattle.sm_table.specs.Found.{found}
 use Rattle.sm_table.specs.Sound.{Sound}
 use Rattle.sm_judging.specs.Changes.{settled, IsChange}
 use Rattle.sm_judging.specs.Judged.{refusal_told, IfAccepted, IfChange}
 use Rattle.sm_judging.proofs.JudgedLemmas.{on_secret_refusal, on_secret_reads}
-use Rattle.sm_judging.proofs.ChangeLemmas.{OnRow, on_secret_change, found_row_sound, found_row_few, found_change}
+use Rattle.sm_judging.proofs.ChangeLemmas.{OnRow, on_secret_change, found_change_beside}
 use Rattle.sm_judge_rotations.specs.CancelRotateSecret.{turned_off, cancelled, cancel_on, cancel_judgement, cancel_refusal, cancel_effect}
 use Rattle.sm_judge_rotations.proofs.RotationLemmas.{RotationFits, parts_of, of_parts, rerotated_sound}
 
@@ -56,13 +55,9 @@ cancelled_sound row sound =
 on_change : (rows : Rows) (when : When) (id : SecretId) (row : SecretRow) → Sound rows → IsTrue (is_date when.moment)
     → found rows when.moment id ≡ Some row → IfChange (cancel_on row when) (OnRow rows when id cancelled)
 on_change rows when id row sound date e =
-    found_change rows when id cancelled row sound date e (record {
-      serial = refl;
-      name = refl;
-      arn = refl;
-      sound = cancelled_sound row (found_row_sound rows when.moment id row sound e);
-      few = few_counted (cancelled row) when (found_row_few rows when.moment id row sound e);
-    })
+    found_change_beside rows when id cancelled row sound date e
+    (record { serial = refl; name = refl; arn = refl; versions = refl })
+    (cancelled_sound row)
 
 -- a change is the entry's
 pub cancel_change : (rows : Rows) (when : When) (cancel : OfSecret) → Sound rows → IsTrue (is_date when.moment)

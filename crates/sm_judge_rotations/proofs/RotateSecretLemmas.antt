@@ -27,7 +27,6 @@ use Rattle.sm_versions.specs.Versions.{version_of}
 use Rattle.sm_model.specs.Versions.{When, has_version, is_full_when}
 use Rattle.sm_cron.specs.Spelling.{is_schedule_expression}
 use Rattle.sm_versions.specs.Sound.{UnsettledSound}
-use Rattle.sm_versions.proofs.CountLaws.{few_counted}
 use Rattle.sm_rotation.specs.declared.starting.Began.{Began}
 use Rattle.sm_rotation.specs.declared.starting.Began.TheVariants as starts
 use Rattle.sm_rotation.specs.Begin.{is_of_rotation, begin_held, begin_answer, begin_row}
@@ -43,7 +42,7 @@ use Rattle.sm_judging.specs.Judged.{refusal_told, IfAccepted, IfChange}
 use Rattle.sm_judging.specs.Refusals.{refuse_if, first_refusal}
 use Rattle.sm_judging.specs.Secrets.{finished_row}
 use Rattle.sm_judging.proofs.JudgedLemmas.{on_secret_refusal, on_secret_repeat}
-use Rattle.sm_judging.proofs.ChangeLemmas.{OnRow, on_secret_change, found_row_sound, found_row_few, found_change}
+use Rattle.sm_judging.proofs.ChangeLemmas.{OnRow, on_secret_change, found_row_sound, found_change, found_change_beside}
 use Rattle.sm_judge_rotations.specs.declared.rotate_secret.KeptRules.{KeptRules}
 use Rattle.sm_judge_rotations.specs.declared.rotate_secret.Plan.{Plan}
 use Rattle.sm_judge_rotations.specs.RotateSecret.{days_of, rules_given, plan_of, token_to_start, days_or, schedule_or, turned_on, turned_on_in, dated, waits, rotates, started_by, start_judged, rotate_on, rotate_judgement, starts_again, pending_refusal, start_refusal, rotate_refusal_on, rotate_refusal, rotate_repeat, rotate_effect}
@@ -278,13 +277,9 @@ on_change : (rows : Rows) (when : When) (id : SecretId) (plan : Plan) (token : O
     → found rows when.moment id ≡ Some row
     → IfChange (rotate_on row when plan token) (OnRow rows when id (rotates plan token when.moment))
 on_change rows when id plan None row sound early date fit e =
-    found_change rows when id (rotates plan None when.moment) row sound date e (record {
-      serial = refl;
-      name = refl;
-      arn = refl;
-      sound = waits_sound plan when.moment row early fit (found_row_sound rows when.moment id row sound e);
-      few = few_counted (waits plan when.moment row) when (found_row_few rows when.moment id row sound e);
-    })
+    found_change_beside rows when id (rotates plan None when.moment) row sound date e
+    (record { serial = refl; name = refl; arn = refl; versions = refl })
+    (waits_sound plan when.moment row early fit)
 on_change rows when id plan (Some token) row sound early date fit e =
     outcome_change (begin_answer row token when) row (begin_row row token when.moment) when plan token
     (OnRow rows when id (rotates plan (Some token) when.moment))

@@ -36,37 +36,13 @@ of_parts rotation parts =
 abbrev pub rerotated : Rotation → Option Job → SecretRow → SecretRow
 rerotated rotation job row = record row { rotation = rotation; job = job }
 
-rerotated_job : (rotation : Rotation) (is : Option Job) (row : SecretRow) (job : Job) → JobFits row job
-    → JobFits (rerotated rotation is row) job
-rerotated_job rotation is row job h =
-    record { first = h.first; last = h.last; tested = h.tested; valued = h.valued }
-
 pub rerotated_sound : (rotation : Rotation) (job : Option Job) (row : SecretRow) → IsTrue (is_rotation rotation)
     → IfSome job (JobFits row) → IsTrue (fits is_job job) → UnsettledSound row
     → UnsettledSound (rerotated rotation job row)
-rerotated_sound rotation job row rotates kept fit sound =
-    let v = sound.kept.versions in
-    let f = sound.fits in
-    record {
-      kept = record {
-        versions = record { once = v.once; named = v.named; ids = v.ids; serials = v.serials; current = v.current };
-        job = IfSome_then job kept (λ j. rerotated_job rotation job row j);
-      };
-      fits = record {
-        arn = f.arn;
-        description = f.description;
-        kms = f.kms;
-        tag_count = f.tag_count;
-        tags = f.tags;
-        tag_once = f.tag_once;
-        policy = f.policy;
-        versions = f.versions;
-        labels = f.labels;
-        created = f.created;
-        changed = f.changed;
-        deletion = f.deletion;
-        rotation = rotates;
-        regions = f.regions;
-        job = fit;
-      };
-    }
+rerotated_sound rotation job row rotates kept fit sound = record {
+  kept = record {
+    versions = assumption sound.kept.versions;
+    job = IfSome_then job kept (λ job fits. assumption fits);
+  };
+  fits = assumption (rotates, fit, sound.fits);
+}

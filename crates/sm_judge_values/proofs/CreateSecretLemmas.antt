@@ -6,7 +6,7 @@ use Rattle.std.proofs.lemmas.Grind.{common_steps}
 use Rattle.sm_base.specs.declared.moment.Moment.{Moment}
 use Rattle.sm_model.specs.declared.entry.Change.{Change}
 use Rattle.sm_model.specs.declared.entry.Change.TheVariants as changes
-use Rattle.sm_base.specs.declared.limits.TheConstants.{SECRETS_LIMIT, TAGS_LIMIT, VERSIONS_LIMIT}
+use Rattle.sm_base.specs.declared.limits.TheConstants.{LABELS_LIMIT, SECRETS_LIMIT, TAGS_LIMIT, VERSIONS_LIMIT}
 use Rattle.sm_model.specs.declared.reply.Reply.{Reply}
 use Rattle.sm_model.specs.declared.request.CreateSecret.{CreateSecret}
 use Rattle.sm_model.specs.declared.rows.Rows.{Rows}
@@ -23,7 +23,7 @@ use Rattle.sm_versions.specs.Texts.{is_aws, once}
 use Rattle.sm_model.specs.Labels.{aws_current}
 use Rattle.sm_versions.specs.Labels.{own_count}
 use Rattle.sm_versions.specs.Regions.{are_regions}
-use Rattle.sm_versions.specs.Sound.{IsArnOf, tag_keys, each_tag, RowFits}
+use Rattle.sm_versions.specs.Sound.{IsArnOf, tag_keys, each_tag, each_version, RowFits}
 use Rattle.sm_versions.proofs.ArnLemmas.{drawn_is_arn_of}
 use Rattle.sm_versions.specs.Kept.{CurrentKept}
 use Rattle.sm_versions.proofs.TextLemmas.{same_text_itself}
@@ -45,7 +45,7 @@ use Rattle.sm_judging.proofs.RegionLemmas.{new_regions}
 use Rattle.sm_judge_values.specs.declared.new_value.NewValue.{NewValue}
 use Rattle.sm_judge_values.specs.declared.create_secret.CreateCall.{CreateCall}
 use Rattle.sm_judge_values.specs.NewValue.{is_repeat}
-use Rattle.sm_judge_values.specs.CreateSecret.{create_needs, create_call, empty_row, with_first, created_row, has_too_many_tags, is_full, create_held, create_on, create_judgement, holds_same, create_repeat, create_refusal_on, create_refusal, create_effect}
+use Rattle.sm_judge_values.specs.CreateSecret.{create_needs, create_call, empty_row, first_version, with_first, created_row, has_too_many_tags, is_full, create_held, create_on, create_judgement, holds_same, create_repeat, create_refusal_on, create_refusal, create_effect}
 use Rattle.sm_judge_values.proofs.NewValueLemmas.{value_small, new_small}
 
 -- ---- what is drawn
@@ -194,23 +194,12 @@ empty_fits serial moment call date few fit = record {
 with_first_fits : (row : SecretRow) (moment : Moment) (first : Option NewValue) → IsTrue (is_date moment)
     → IfSome first (λ f. IsTrue (is_small f.value)) → RowFits row → RowFits (with_first row moment first)
 with_first_fits row moment None date small fit = fit
-with_first_fits row moment (Some first) date small fit = record {
-  arn = fit.arn;
-  description = fit.description;
-  kms = fit.kms;
-  tag_count = fit.tag_count;
-  tags = fit.tags;
-  tag_once = fit.tag_once;
-  policy = fit.policy;
-  versions = and_from _ _ (and_from _ _ (and_from _ _ small refl) date) refl;
-  labels = omega (arith, none_own first);
-  created = fit.created;
-  changed = fit.changed;
-  deletion = fit.deletion;
-  rotation = fit.rotation;
-  regions = fit.regions;
-  job = fit.job;
-}
+with_first_fits row moment (Some first) date small fit =
+    let versions : each_version (first_version moment first ∷ []) ≡ true =
+    and_from _ _ (and_from _ _ (and_from _ _ small refl) date) refl in
+    let labels : own_count (record { label = aws_current; id = first.token } ∷ []) ≤ LABELS_LIMIT =
+    omega (arith, none_own first) in
+    assumption (versions, labels, fit)
 
 text_fits : (text : Option (List ℕ)) → IfSome text (λ t. IsTrue (is_description t)) → IsTrue (fits is_description text)
 text_fits None h = refl

@@ -6,7 +6,6 @@ use Rattle.sm_base.specs.declared.moment.Moment.{Moment}
 use Rattle.sm_model.specs.Versions.{When}
 use Rattle.sm_base.specs.SecretId.{secret_id}
 use Rattle.sm_model.specs.declared.request.UpdateSecret.{UpdateSecret}
-use Rattle.sm_model.specs.declared.rows.Job.{Job}
 use Rattle.sm_model.specs.declared.rows.Rows.{Rows}
 use Rattle.sm_model.specs.declared.rows.SecretRow.{SecretRow}
 use Rattle.sm_model.specs.Bounds.{fits, is_description, is_small, is_date}
@@ -14,10 +13,10 @@ use Rattle.sm_forms.specs.UpdateSecret.{update_forms}
 use Rattle.sm_forms.proofs.UpdateSecretLemmas.{update_text, update_binary, update_description, update_kms}
 use Rattle.sm_model.specs.Labels.{aws_current, holder}
 use Rattle.sm_versions.specs.Put.{put_row}
-use Rattle.sm_versions.specs.Kept.{JobFits, will_have_current}
+use Rattle.sm_versions.specs.Kept.{will_have_current}
 use Rattle.sm_versions.specs.Sound.{UnsettledSound}
 use Rattle.sm_versions.proofs.TextLemmas.{same_text_itself}
-use Rattle.sm_versions.proofs.CountLaws.{few_counted, put_counted}
+use Rattle.sm_versions.proofs.CountLaws.{put_counted}
 use Rattle.sm_versions.proofs.SoundLaws.{put_sound, put_same_secret}
 use Rattle.sm_table.specs.Sweep.{sweep}
 use Rattle.sm_table.specs.Found.{found}
@@ -28,7 +27,7 @@ use Rattle.sm_judging.specs.Judged.{refusal_told, IfAccepted, IfChange}
 use Rattle.sm_judging.specs.Members.{value_of}
 use Rattle.sm_judging.specs.Secrets.{finished_row}
 use Rattle.sm_judging.proofs.JudgedLemmas.{on_secret_refusal, on_secret_repeat}
-use Rattle.sm_judging.proofs.ChangeLemmas.{OnRow, on_secret_change, found_row_sound, found_row_few, found_change}
+use Rattle.sm_judging.proofs.ChangeLemmas.{OnRow, on_secret_change, found_row_sound, found_row_few, found_change, found_change_beside}
 use Rattle.sm_judge_values.specs.declared.new_value.NewValue.{NewValue}
 use Rattle.sm_judge_values.specs.declared.update_secret.UpdateCall.{UpdateCall}
 use Rattle.sm_judge_values.specs.NewValue.{token_of, judged_by, is_repeat}
@@ -96,38 +95,18 @@ record Fits (call : UpdateCall) : Type 0 where
   kms : IfSome call.kms (λ t. IsTrue (is_description t))
   small : IfSome call.value (λ new. IsTrue (is_small new.value))
 
-redescribed_job : (call : UpdateCall) (row : SecretRow) (job : Job) → JobFits row job
-    → JobFits (redescribed call row) job
-redescribed_job call row job h = record { first = h.first; last = h.last; tested = h.tested; valued = h.valued }
-
 -- a description and a KMS key id that fit keep a secret sound
 redescribed_sound : (call : UpdateCall) (row : SecretRow) → Fits call → UnsettledSound row
     → UnsettledSound (redescribed call row)
 redescribed_sound call row fit sound =
-    let v = sound.kept.versions in
-    let f = sound.fits in
+    let description = given_fits call.description row.description fit.description sound.fits.description in
+    let kms = given_fits call.kms row.kms fit.kms sound.fits.kms in
     record {
       kept = record {
-        versions = record { once = v.once; named = v.named; ids = v.ids; serials = v.serials; current = v.current };
-        job = IfSome_then row.job sound.kept.job (λ job. redescribed_job call row job);
+        versions = assumption sound.kept.versions;
+        job = IfSome_then row.job sound.kept.job (λ job fits. assumption fits);
       };
-      fits = record {
-        arn = f.arn;
-        description = given_fits call.description row.description fit.description f.description;
-        kms = given_fits call.kms row.kms fit.kms f.kms;
-        tag_count = f.tag_count;
-        tags = f.tags;
-        tag_once = f.tag_once;
-        policy = f.policy;
-        versions = f.versions;
-        labels = f.labels;
-        created = f.created;
-        changed = f.changed;
-        deletion = f.deletion;
-        rotation = f.rotation;
-        regions = f.regions;
-        job = f.job;
-      };
+      fits = assumption (description, kms, sound.fits);
     }
 
 current_placed : (row : SecretRow) → will_have_current row (aws_current ∷ []) ≡ true
@@ -149,13 +128,9 @@ on_value : (rows : Rows) (when : When) (call : UpdateCall) (value : Option NewVa
     → found rows when.moment call.id ≡ Some row
     → IfChange (on_with call value row when) (OnRow rows when call.id (into_with call value when.moment))
 on_value rows when call None row sound date fit small e =
-    found_change rows when call.id (into_with call None when.moment) row sound date e (record {
-      serial = refl;
-      name = refl;
-      arn = refl;
-      sound = redescribed_sound call row fit (found_row_sound rows when.moment call.id row sound e);
-      few = few_counted (redescribed call row) when (found_row_few rows when.moment call.id row sound e);
-    })
+    found_change_beside rows when call.id (into_with call None when.moment) row sound date e
+    (record { serial = refl; name = refl; arn = refl; versions = refl })
+    (redescribed_sound call row fit)
 on_value rows when call (Some new) row sound date fit small e =
     let labels : List (List ℕ) = aws_current ∷ [] in
     let same = put_same_secret row new.token new.value labels when.moment in

@@ -7,11 +7,13 @@ use Rattle.sm_model.specs.declared.entry.Change.{Change}
 use Rattle.sm_model.specs.declared.entry.Change.TheVariants as changes
 use Rattle.sm_model.specs.declared.rows.Rows.{Rows}
 use Rattle.sm_model.specs.declared.rows.SecretRow.{SecretRow}
+use Rattle.sm_model.specs.declared.rows.VersionRow.{VersionRow}
 use Rattle.sm_model.specs.Bounds.{is_date}
 use Rattle.sm_model.specs.Versions.{When, counted}
 use Rattle.sm_versions.specs.Prune.{pruned}
 use Rattle.sm_versions.specs.Settle.{settle}
 use Rattle.sm_versions.specs.Sound.{UnsettledSound, RowSound}
+use Rattle.sm_versions.proofs.CountLaws.{few_counted}
 use Rattle.sm_versions.proofs.KeptLaws.{settle_keeps, settle_stays}
 use Rattle.sm_versions.proofs.PruneLaws.{settle_pruned, pruned_sound}
 use Rattle.sm_versions.proofs.SoundLaws.{settle_fits, unsettled_sound, changed_sound}
@@ -147,3 +149,26 @@ found_change rows when id change row sound date e new =
     (sym e)
     (replace_is_change rows when row (change row) sound date
     (found_is_row rows when.moment id row (sound_rows_kept rows sound) e) new)
+
+-- a row of the same secret with the same versions
+pub record HasVersionsOf (row next : SecretRow) : Type 0 where
+  pub serial : next.serial ≡ row.serial
+  pub name : next.name ≡ row.name
+  pub arn : next.arn ≡ row.arn
+  pub versions : next.versions ≡ row.versions
+
+-- the row that was found, changed beside its versions
+pub found_change_beside : (rows : Rows) (when : When) (id : SecretId) (change : SecretRow → SecretRow) (row : SecretRow)
+    → Sound rows → IsTrue (is_date when.moment) → found rows when.moment id ≡ Some row
+    → HasVersionsOf row (change row) → (UnsettledSound row → UnsettledSound (change row))
+    → OnRow rows when id change (changes.Replace (finished_row (change row) when))
+found_change_beside rows when id change row sound date e same keeps =
+    found_change rows when id change row sound date e (record {
+      serial = same.serial;
+      name = same.name;
+      arn = same.arn;
+      sound = keeps (found_row_sound rows when.moment id row sound e);
+      few = few_counted (change row) when
+          (subst (λ (vs : List VersionRow). length vs ≤ VERSIONS_LIMIT) (sym same.versions)
+          (found_row_few rows when.moment id row sound e));
+    })

@@ -8,8 +8,8 @@ use Rattle.sm_model.specs.declared.why.Why.{Why}
 use Rattle.sm_judging.specs.declared.judged.Judged.{Judged}
 use Rattle.sm_judging.specs.declared.judged.Judged.TheVariants.{Accept, Refuse, Memory}
 use Rattle.sm_judging.specs.Judged.{judged_told, refusal_told, IfAccepted, IfChange}
-use Rattle.sm_judging.specs.Refusals.{first_refusal, scheduled_refusal, refusal_at, repeat_at}
-use Rattle.sm_judging.specs.Secrets.{unless_scheduled, on_secret}
+use Rattle.sm_judging.specs.Refusals.{first_refusal, unless_there, scheduled_refusal, refusal_at, repeat_at}
+use Rattle.sm_judging.specs.Secrets.{unless_scheduled, on_secret, if_there}
 
 -- ---- what a call answers: the judgement, or want of memory
 
@@ -69,3 +69,21 @@ pub on_secret_reads : (found : Option SecretRow) (judge : SecretRow → Judged) 
 on_secret_reads None judge b each = tt
 on_secret_reads (Some row) judge b each = unless_scheduled_accepts row.deletion (judge row)
     (λ change. is_none change ≡ b) (each row)
+
+-- ---- on a secret that is there, scheduled for deletion or not
+
+pub if_there_refusal : (found : Option SecretRow) (judge : SecretRow → Judged)
+    → ((row : SecretRow) → refusal_told (judge row) ≡ Some None)
+    → refusal_told (if_there found judge) ≡ Some (unless_there found)
+if_there_refusal None judge each = refl
+if_there_refusal (Some row) judge each = each row
+
+pub if_there_accepts : (found : Option SecretRow) (judge : SecretRow → Judged) (P : Option Change → Type 0)
+    → ((row : SecretRow) → IfAccepted (judge row) P) → IfAccepted (if_there found judge) P
+if_there_accepts None judge P each = tt
+if_there_accepts (Some row) judge P each = each row
+
+pub if_there_change : (found : Option SecretRow) (judge : SecretRow → Judged) (P : Change → Type 0)
+    → ((row : SecretRow) → found ≡ Some row → IfChange (judge row) P) → IfChange (if_there found judge) P
+if_there_change None judge P each = tt
+if_there_change (Some row) judge P each = each row refl

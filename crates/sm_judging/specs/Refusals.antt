@@ -15,6 +15,11 @@ first_refusal [] = None
 first_refusal (None ∷ tests) = first_refusal tests
 first_refusal (Some why ∷ tests) = Some why
 
+-- the secret is there
+abbrev pub unless_there : Option SecretRow → Option Why
+unless_there None = Some NoSecret
+unless_there (Some row) = None
+
 -- a secret is not scheduled for deletion
 abbrev pub scheduled_refusal : Option Moment → Option Why
 scheduled_refusal None = None

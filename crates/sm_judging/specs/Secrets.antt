@@ -22,6 +22,11 @@ abbrev pub on_secret : Option SecretRow → (SecretRow → Judged) → Judged
 on_secret None judge = Refuse NoSecret
 on_secret (Some row) judge = unless_scheduled row.deletion (judge row)
 
+-- a secret has to be there, and may be scheduled for deletion
+abbrev pub if_there : Option SecretRow → (SecretRow → Judged) → Judged
+if_there None judge = Refuse NoSecret
+if_there (Some row) judge = judge row
+
 -- the row that the SecretId names has to be there and not scheduled for deletion
 abbrev pub with_secret : Rows → Moment → SecretId → (SecretRow → Judged) → Judged
 with_secret rows moment id judge = on_secret (found rows moment id) judge

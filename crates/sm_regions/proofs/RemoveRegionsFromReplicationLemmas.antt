@@ -13,14 +13,13 @@ use Rattle.sm_model.specs.Versions.{When}
 use Rattle.sm_versions.specs.Regions.{is_region, are_regions}
 use Rattle.sm_versions.specs.Sound.{UnsettledSound}
 use Rattle.sm_versions.specs.Texts.{is_among}
-use Rattle.sm_versions.proofs.CountLaws.{few_counted}
 use Rattle.sm_table.specs.Sweep.{sweep}
 use Rattle.sm_table.specs.Found.{found}
 use Rattle.sm_table.specs.Sound.{Sound}
 use Rattle.sm_judging.specs.Changes.{settled, IsChange}
 use Rattle.sm_judging.specs.Judged.{refusal_told, IfAccepted, IfChange}
 use Rattle.sm_judging.proofs.JudgedLemmas.{on_secret_refusal, on_secret_reads}
-use Rattle.sm_judging.proofs.ChangeLemmas.{OnRow, on_secret_change, found_row_sound, found_row_few, found_change}
+use Rattle.sm_judging.proofs.ChangeLemmas.{OnRow, on_secret_change, found_change_beside}
 use Rattle.sm_judging.proofs.RegionLemmas.{few_regions, each_region, regions_from}
 use Rattle.sm_regions.specs.RemoveRegionsFromReplication.{without_regions, unreplicated, remove_on, remove_judgement, remove_refusal, remove_effect}
 use Rattle.sm_regions.proofs.RegionalLemmas.{regional_sound}
@@ -95,13 +94,9 @@ on_change : (rows : Rows) (when : When) (id : SecretId) (gone : List (List ℕ))
     → IsTrue (is_date when.moment) → found rows when.moment id ≡ Some row
     → IfChange (remove_on row when gone) (OnRow rows when id (unreplicated gone))
 on_change rows when id gone row sound date e =
-    found_change rows when id (unreplicated gone) row sound date e (record {
-      serial = refl;
-      name = refl;
-      arn = refl;
-      sound = unreplicated_sound row gone (found_row_sound rows when.moment id row sound e);
-      few = few_counted (unreplicated gone row) when (found_row_few rows when.moment id row sound e);
-    })
+    found_change_beside rows when id (unreplicated gone) row sound date e
+    (record { serial = refl; name = refl; arn = refl; versions = refl })
+    (unreplicated_sound row gone)
 
 -- a change is the entry's
 pub remove_change : (rows : Rows) (when : When) (remove : RegionsOfSecret) → Sound rows → IsTrue (is_date when.moment)

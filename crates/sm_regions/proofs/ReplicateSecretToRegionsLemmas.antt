@@ -18,7 +18,6 @@ use Rattle.sm_forms.specs.RegionsOfSecret.{replicate_forms}
 use Rattle.sm_forms.proofs.RegionsOfSecretLemmas.{replicate_regions}
 use Rattle.sm_versions.specs.Regions.{is_region}
 use Rattle.sm_versions.specs.Sound.{UnsettledSound}
-use Rattle.sm_versions.proofs.CountLaws.{few_counted}
 use Rattle.sm_table.specs.Sweep.{sweep}
 use Rattle.sm_table.specs.Found.{found}
 use Rattle.sm_table.specs.Sound.{Sound}
@@ -29,7 +28,7 @@ use Rattle.sm_judging.specs.Judged.{refusal_told, IfAccepted, IfChange}
 use Rattle.sm_judging.specs.Refusals.{refuse_if}
 use Rattle.sm_judging.specs.Regions.{with_regions}
 use Rattle.sm_judging.proofs.JudgedLemmas.{on_secret_refusal, on_secret_reads}
-use Rattle.sm_judging.proofs.ChangeLemmas.{OnRow, on_secret_change, found_row_sound, found_row_few, found_change}
+use Rattle.sm_judging.proofs.ChangeLemmas.{OnRow, on_secret_change, found_change_beside}
 use Rattle.sm_judging.proofs.RegionLemmas.{with_regions_each, each_region, regions_from}
 use Rattle.sm_regions.specs.ReplicateSecretToRegions.{replicated, has_too_many_regions, replicate_within_limit, replicate_on, replicate_judgement, replicate_refusal_on, replicate_refusal, replicate_effect}
 use Rattle.sm_regions.proofs.RegionalLemmas.{regional_sound}
@@ -97,13 +96,9 @@ on_change : (rows : Rows) (when : When) (id : SecretId) (given : List (List ℕ)
 on_change rows when id given row sound date each e =
     limit_change (has_too_many_regions (with_regions row.regions given)) (Limit REGIONS_LIMIT Regions)
     (replicate_within_limit row when (with_regions row.regions given)) (OnRow rows when id (replicated given))
-    (λ few. found_change rows when id (replicated given) row sound date e (record {
-      serial = refl;
-      name = refl;
-      arn = refl;
-      sound = replicated_sound row given few each (found_row_sound rows when.moment id row sound e);
-      few = few_counted (replicated given row) when (found_row_few rows when.moment id row sound e);
-    }))
+    (λ few. found_change_beside rows when id (replicated given) row sound date e
+    (record { serial = refl; name = refl; arn = refl; versions = refl })
+    (replicated_sound row given few each))
 
 -- a change is the entry's
 pub replicate_change : (rows : Rows) (when : When) (replicate : RegionsOfSecret) → Sound rows

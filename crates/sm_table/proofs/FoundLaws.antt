@@ -13,7 +13,7 @@ use Rattle.sm_versions.specs.Kept.{CurrentKept}
 use Rattle.sm_table.specs.Sweep.{is_gone, swept}
 use Rattle.sm_table.specs.Found.{row_named, row_with_arn, row_with_short_arn, short_arn, or_else, named_by, found, found_arn}
 use Rattle.sm_table.specs.Changes.{row_with}
-use Rattle.sm_table.specs.Kept.{row_serials, EachKept, RowsKept, IsRowOf}
+use Rattle.sm_table.specs.Kept.{row_serials, Each, RowsKept, IsRowOf}
 use Rattle.sm_versions.proofs.TextLemmas.{same_text_decides}
 use Rattle.sm_table.proofs.KeptLaws.{sweep_keeps}
 
@@ -86,10 +86,11 @@ row_with_own (r ∷ rs) low next row h (inr i) =
     let rest = row_with_own rs (r.serial + 1) next row parts.1 i in
     grind (arith, nat_tests)
 
-in_kept : (rows : List SecretRow) (row : SecretRow) → EachKept rows → IsIn rows row → CurrentKept row
-in_kept [] row each i = absurd i
-in_kept (r ∷ rs) row each (inl e) = subst CurrentKept e each.0
-in_kept (r ∷ rs) row each (inr i) = in_kept rs row each.1 i
+pub each_in : (Fact : SecretRow → Type 0) (rows : List SecretRow) (row : SecretRow) → Each Fact rows → IsIn rows row
+    → Fact row
+each_in Fact [] row each i = absurd i
+each_in Fact (r ∷ rs) row each (inl e) = subst Fact e each.0
+each_in Fact (r ∷ rs) row each (inr i) = each_in Fact rs row each.1 i
 
 -- a row at a place is one of the rows
 pub slice_in : (rows : List SecretRow) (i : ℕ) (row : SecretRow) → slice_get rows i ≡ Some row → IsIn rows row
@@ -118,7 +119,7 @@ row_at_is_row rows moment i row kept e stays =
       there = row_with_own rows.secrets 0 rows.next row kept.serials here;
       stands = row_with_own (swept rows.secrets moment) 0 rows.next row after.serials
           (in_swept rows.secrets moment row stays here);
-      kept = in_kept rows.secrets row kept.each here;
+      kept = each_in CurrentKept rows.secrets row kept.each here;
     }
 
 -- a row that is still there is the one with its serial, and it is kept
@@ -129,7 +130,7 @@ row_still rows moment row kept still =
     record {
       there = row_with_own rows.secrets 0 rows.next row kept.serials (unswept_in rows.secrets moment row still);
       stands = row_with_own (swept rows.secrets moment) 0 rows.next row after.serials still;
-      kept = in_kept (swept rows.secrets moment) row after.each still;
+      kept = each_in CurrentKept (swept rows.secrets moment) row after.each still;
     }
 
 -- what a look-up gives is the row with its own serial

@@ -13,6 +13,7 @@ use Rattle.sm_versions.proofs.ValueLemmas.{rises_push}
 use Rattle.sm_table.specs.Sweep.{is_gone, swept, sweep}
 use Rattle.sm_table.specs.Changes.{replaced, dropped, changed, CanMake}
 use Rattle.sm_table.specs.Kept.{row_serials, EachKept, RowsKept, ChangeKept}
+use Rattle.sm_table.proofs.EachLemmas.{swept_each, dropped_each, replaced_each, push_each}
 
 -- ---- serials
 
@@ -71,42 +72,13 @@ serials_push : (rows : List SecretRow) (row : SecretRow) → row_serials (rows +
 serials_push [] row = refl
 serials_push (r ∷ rs) row = ap (λ ns. r.serial ∷ ns) (serials_push rs row)
 
--- ---- each row
-
-swept_each : (rows : List SecretRow) (moment : Moment) → EachKept rows → EachKept (swept rows moment)
-swept_each [] moment each = each
-swept_each (r ∷ rs) moment each = by (is_gone r moment) (swept_each rs moment each.1)
-  where
-    by : (b : Bool) → EachKept (swept rs moment) → EachKept (cond b (swept rs moment) (r ∷ swept rs moment))
-    by true rest = rest
-    by false rest = (each.0, rest)
-
-dropped_each : (rows : List SecretRow) (serial : ℕ) → EachKept rows → EachKept (dropped rows serial)
-dropped_each [] serial each = each
-dropped_each (r ∷ rs) serial each = by (eqb r.serial serial) (dropped_each rs serial each.1)
-  where
-    by : (b : Bool) → EachKept (dropped rs serial) → EachKept (cond b (dropped rs serial) (r ∷ dropped rs serial))
-    by true rest = rest
-    by false rest = (each.0, rest)
-
-replaced_each : (rows : List SecretRow) (row : SecretRow) → CurrentKept row → EachKept rows
-    → EachKept (replaced rows row)
-replaced_each [] row kept each = each
-replaced_each (r ∷ rs) row kept each = by (eqb r.serial row.serial) (replaced_each rs row kept each.1)
-  where
-    by : (b : Bool) → EachKept (replaced rs row) → EachKept (cond b (row ∷ rs) (r ∷ replaced rs row))
-    by true rest = (kept, each.1)
-    by false rest = (each.0, rest)
-
-push_each : (rows : List SecretRow) (row : SecretRow) → CurrentKept row → EachKept rows → EachKept (rows ++ row ∷ [])
-push_each [] row kept each = (kept, tt)
-push_each (r ∷ rs) row kept each = (each.0, push_each rs row kept each.1)
+-- ---- all rows
 
 -- a sweep keeps what holds of the rows
 pub sweep_keeps : (rows : Rows) (moment : Moment) → RowsKept rows → RowsKept (sweep rows moment)
 sweep_keeps rows moment kept = record {
   serials = swept_rises rows.secrets moment 0 rows.next kept.serials;
-  each = swept_each rows.secrets moment kept.each;
+  each = swept_each CurrentKept rows.secrets moment kept.each;
 }
 
 -- an added row has the next serial
@@ -129,9 +101,9 @@ change_rises rows Nothing next h = h
 -- a change keeps each row, where its own is kept
 change_each : (rows : Rows) (change : Change) → ChangeKept change → EachKept rows.secrets
     → EachKept (changed rows change).secrets
-change_each rows (Add row) new each = push_each rows.secrets row new each
-change_each rows (Replace row) new each = replaced_each rows.secrets row new each
-change_each rows (Drop serial) new each = dropped_each rows.secrets serial each
+change_each rows (Add row) new each = push_each CurrentKept rows.secrets row new each
+change_each rows (Replace row) new each = replaced_each CurrentKept rows.secrets row new each
+change_each rows (Drop serial) new each = dropped_each CurrentKept rows.secrets serial each
 change_each rows Nothing new each = each
 
 -- a change keeps it, where its row is kept and an added row has the next serial

@@ -1,4 +1,5 @@
 pub mod FoundLemmas
+pub mod EachLemmas
 pub mod KeptLaws
 pub mod NameLaws
 pub mod FoundLaws

@@ -1,5 +1,5 @@
 -- What a change keeps of the names and ARNs of the rows.
-use Rattle.std.proofs.Common.{◌≡◌, ℕ, ◌+◌, ◌<◌, eqb, leb, Bool, true, false, ◌||◌, cond, List, [], ◌∷◌, ◌++◌, Option, Some, None, IsSome, IsNone, IsSomeAnd, refl, sym, ap, subst, ◌∙◌, arith}
+use Rattle.std.proofs.Common.{◌≡◌, ℕ, ◌+◌, ◌<◌, eqb, leb, Bool, true, false, ◌||◌, cond, List, [], ◌∷◌, ◌++◌, Option, Some, None, IsSome, IsNone, IsSomeAnd, refl, sym, ap, ◌∙◌, arith}
 use Rattle.std.proofs.lemmas.Grind.{common_steps}
 use Rattle.std.proofs.lemmas.Bool.{and_parts, false≢true}
 use Rattle.std.proofs.lemmas.Bool.Decides.{nat_tests}
@@ -10,13 +10,13 @@ use Rattle.sm_model.specs.declared.rows.SecretRow.{SecretRow}
 use Rattle.sm_model.specs.declared.rows.Rows.{Rows}
 use Rattle.sm_versions.specs.Texts.{is_among, once}
 use Rattle.sm_base.specs.Texts.{same_text}
-use Rattle.sm_versions.specs.Sound.{IsArnOf}
 use Rattle.sm_versions.specs.Serials.{rises}
 use Rattle.sm_versions.proofs.TextLemmas.{same_text_tells}
 use Rattle.sm_table.specs.Sweep.{is_gone, swept, sweep}
 use Rattle.sm_table.specs.Found.{row_named}
 use Rattle.sm_table.specs.Changes.{row_with, replaced, dropped, changed, CanMake, StandsAt}
-use Rattle.sm_table.specs.Kept.{row_serials, row_names, EachArn, NamesKept}
+use Rattle.sm_table.specs.Kept.{row_serials, row_names, HasOwnArn, EachArn, NamesKept}
+use Rattle.sm_table.proofs.EachLemmas.{swept_each, dropped_each, replaced_each, push_each, each_with}
 
 -- ---- which names there are
 
@@ -74,42 +74,11 @@ replaced_names (r ∷ rs) row old found e = by (eqb r.serial row.serial) found (
 
 -- ---- each ARN of its name
 
-swept_arns : (rows : List SecretRow) (moment : Moment) → EachArn rows → EachArn (swept rows moment)
-swept_arns [] moment each = each
-swept_arns (r ∷ rs) moment each = by (is_gone r moment) (swept_arns rs moment each.1)
-  where
-    by : (b : Bool) → EachArn (swept rs moment) → EachArn (cond b (swept rs moment) (r ∷ swept rs moment))
-    by true rest = rest
-    by false rest = (each.0, rest)
-
-dropped_arns : (rows : List SecretRow) (serial : ℕ) → EachArn rows → EachArn (dropped rows serial)
-dropped_arns [] serial each = each
-dropped_arns (r ∷ rs) serial each = by (eqb r.serial serial) (dropped_arns rs serial each.1)
-  where
-    by : (b : Bool) → EachArn (dropped rs serial) → EachArn (cond b (dropped rs serial) (r ∷ dropped rs serial))
-    by true rest = rest
-    by false rest = (each.0, rest)
-
-push_arns : (rows : List SecretRow) (row : SecretRow) → IsArnOf row.arn row.name → EachArn rows
-    → EachArn (rows ++ row ∷ [])
-push_arns [] row own each = (own, tt)
-push_arns (r ∷ rs) row own each = (each.0, push_arns rs row own each.1)
-
 replaced_arns : (rows : List SecretRow) (row old : SecretRow) → row_with rows row.serial ≡ Some old
     → row.name ≡ old.name → row.arn ≡ old.arn → EachArn rows → EachArn (replaced rows row)
-replaced_arns [] row old found e f each = each
-replaced_arns (r ∷ rs) row old found e f each =
-    by (eqb r.serial row.serial) found (λ g. replaced_arns rs row old g e f each.1)
-  where
-    by : (b : Bool) → cond b (Some r) (row_with rs row.serial) ≡ Some old
-        → (row_with rs row.serial ≡ Some old → EachArn (replaced rs row))
-        → EachArn (cond b (row ∷ rs) (r ∷ replaced rs row))
-    by true found rest =
-        let same : r ≡ old = cc in
-        let name : r.name ≡ row.name = ap (λ q. q.name) same ∙ sym e in
-        let arn : r.arn ≡ row.arn = ap (λ q. q.arn) same ∙ sym f in
-        (subst (λ (n : List ℕ). IsArnOf row.arn n) name (subst (λ (a : List ℕ). IsArnOf a r.name) arn each.0), each.1)
-    by false found rest = (each.0, rest found)
+replaced_arns rows row old found e f each =
+    let own : HasOwnArn old = each_with HasOwnArn rows row.serial old found each in
+    replaced_each HasOwnArn rows row (rw (e, f) own) each
 
 -- ---- a row that is still there is the one that was there
 
@@ -151,15 +120,15 @@ still_there (r ∷ rs) moment low next serial old now h found there =
 pub sweep_names : (rows : Rows) (moment : Moment) → NamesKept rows → NamesKept (sweep rows moment)
 sweep_names rows moment kept = record {
   once = swept_once rows.secrets moment kept.once;
-  arns = swept_arns rows.secrets moment kept.arns;
+  arns = swept_each HasOwnArn rows.secrets moment kept.arns;
 }
 
-add_names : (rows : Rows) (row : SecretRow) → IsArnOf row.arn row.name → row_named rows.secrets row.name ≡ None
+add_names : (rows : Rows) (row : SecretRow) → HasOwnArn row → row_named rows.secrets row.name ≡ None
     → NamesKept rows → NamesKept (changed rows (Add row))
 add_names rows row own free kept = record {
   once = rw (names_push rows.secrets row)
       (push_once (row_names rows.secrets) row.name kept.once (named_lacks rows.secrets row.name free));
-  arns = push_arns rows.secrets row own kept.arns;
+  arns = push_each HasOwnArn rows.secrets row own kept.arns;
 }
 
 replace_names : (rows : Rows) (row old : SecretRow) → row_with rows.secrets row.serial ≡ Some old → row.name ≡ old.name
@@ -172,7 +141,7 @@ replace_names rows row old found e f kept = record {
 drop_names : (rows : Rows) (serial : ℕ) → NamesKept rows → NamesKept (changed rows (Drop serial))
 drop_names rows serial kept = record {
   once = dropped_once rows.secrets serial kept.once;
-  arns = dropped_arns rows.secrets serial kept.arns;
+  arns = dropped_each HasOwnArn rows.secrets serial kept.arns;
 }
 
 none_from : (o : Option SecretRow) → IsNone o → o ≡ None

@@ -20,10 +20,14 @@ row_serials (r ∷ rs) = r.serial ∷ row_serials rs
 abbrev pub IsRising : List SecretRow → Type 0
 IsRising rows = (next : ℕ) × IsTrue (rises 0 (row_serials rows) next)
 
+-- a fact of each row
+abbrev pub Each : (SecretRow → Type 0) → List SecretRow → Type 0
+Each Fact [] = Unit {0}
+Each Fact (r ∷ rs) = Fact r × Each Fact rs
+
 -- each row is as a secret is between any two changes
 abbrev pub EachKept : List SecretRow → Type 0
-EachKept [] = Unit {0}
-EachKept (r ∷ rs) = CurrentKept r × EachKept rs
+EachKept rows = Each CurrentKept rows
 
 -- serials rise and are below the next one, and each row is kept
 pub record RowsKept (rows : Rows) : Type 0 where
@@ -41,10 +45,12 @@ abbrev pub row_names : List SecretRow → List (List ℕ)
 row_names [] = []
 row_names (r ∷ rs) = r.name ∷ row_names rs
 
--- each row's ARN is one of its name
+-- the row's ARN is one of its name
+abbrev pub HasOwnArn : SecretRow → Type 0
+HasOwnArn row = IsArnOf row.arn row.name
+
 abbrev pub EachArn : List SecretRow → Type 0
-EachArn [] = Unit {0}
-EachArn (r ∷ rs) = IsArnOf r.arn r.name × EachArn rs
+EachArn rows = Each HasOwnArn rows
 
 -- no name stands twice, and each row's ARN is one of its name
 pub record NamesKept (rows : Rows) : Type 0 where

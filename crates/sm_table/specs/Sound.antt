@@ -1,6 +1,6 @@
 -- What holds of all rows between any two changes, all of it.
 -- AWS Secrets Manager User Guide: "AWS Secrets Manager quotas".
-use Rattle.std.specs.Prelude.{◌<◌, ◌≤◌, List, [], ◌∷◌, length, IsTrue}
+use Rattle.std.specs.Prelude.{◌<◌, ◌≤◌, List, length, IsTrue}
 use Rattle.sm_base.specs.declared.limits.TheConstants.{SECRETS_LIMIT}
 use Rattle.sm_model.specs.declared.entry.Change.{Change}
 use Rattle.sm_model.specs.declared.entry.Change.TheVariants.{Add, Replace, Drop, Nothing}
@@ -9,11 +9,10 @@ use Rattle.sm_model.specs.declared.rows.Rows.{Rows}
 use Rattle.sm_versions.specs.Texts.{once}
 use Rattle.sm_versions.specs.Serials.{rises}
 use Rattle.sm_versions.specs.Sound.{RowSound}
-use Rattle.sm_table.specs.Kept.{row_serials, row_names}
+use Rattle.sm_table.specs.Kept.{row_serials, row_names, Each}
 
 abbrev pub EachSound : List SecretRow → Type 0
-EachSound [] = Unit {0}
-EachSound (r ∷ rs) = RowSound r × EachSound rs
+EachSound rows = Each RowSound rows
 
 -- Serials rise and are below the next one, no name stands twice, there are not too many secrets, and each is sound.
 pub record Sound (rows : Rows) : Type 0 where

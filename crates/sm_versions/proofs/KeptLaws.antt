@@ -251,17 +251,12 @@ versions_kept_move row label (Some to) accepted kept =
           to (holder row.labels aws_current) refl accepted.1 kept.current);
     }
 
-job_fits_move : (row : SecretRow) (label : List ℕ) (to : Option (List ℕ)) (job : Job) → JobFits row job
-    → JobFits (move_row row label to) job
-job_fits_move row label to job fits =
-    record { first = fits.first; last = fits.last; tested = fits.tested; valued = fits.valued }
-
 -- an accepted move keeps what stands before settling
 pub move_keeps : (row : SecretRow) (label : List ℕ) (to from : Option (List ℕ)) → move_answer row label to from ≡ Placed
     → KeptUnsettled row → KeptUnsettled (move_row row label to)
 move_keeps row label to from accepted kept = record {
   versions = versions_kept_move row label to (accepts_from_answer row label to from accepted) kept.versions;
-  job = IfSome_then row.job kept.job (λ job. job_fits_move row label to job);
+  job = IfSome_then row.job kept.job (λ job fits. assumption fits);
 }
 
 -- ---- settling
@@ -321,14 +316,7 @@ job_settled row (Some job) fits = by (is_live row job) refl
 -- what stands before settling, settled, is what holds between changes
 pub settle_keeps : (row : SecretRow) → KeptUnsettled row → CurrentKept (settle row)
 settle_keeps row kept = record {
-  versions = record {
-    once = kept.versions.once;
-    named = kept.versions.named;
-    ids = kept.versions.ids;
-    serials =
-        kept.versions.serials;
-    current = kept.versions.current;
-  };
+  versions = assumption kept.versions;
   job = job_settled row row.job kept.job;
 }
 

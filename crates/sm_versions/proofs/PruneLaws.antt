@@ -230,23 +230,7 @@ each_filtered keep (v ∷ vs) h =
     by false here rest = rest
 
 fits_pruned : (row : SecretRow) (moment : Moment) → RowFits row → RowFits (kept row moment)
-fits_pruned row moment f = record {
-  arn = f.arn;
-  description = f.description;
-  kms = f.kms;
-  tag_count = f.tag_count;
-  tags = f.tags;
-  tag_once = f.tag_once;
-  policy = f.policy;
-  versions = each_filtered (is_kept row moment) row.versions f.versions;
-  labels = f.labels;
-  created = f.created;
-  changed = f.changed;
-  deletion = f.deletion;
-  rotation = f.rotation;
-  regions = f.regions;
-  job = f.job;
-}
+fits_pruned row moment f = assumption (each_filtered (is_kept row moment) row.versions f.versions, f)
 
 -- a secret of which no more versions count than there may be is sound when the others are dropped
 pub pruned_sound : (row : SecretRow) (when : When) → CurrentKept row → RowFits row

@@ -25,7 +25,7 @@ use Rattle.sm_versions.specs.Versions.{has_value, same_value, version_of, filled
 use Rattle.sm_versions.specs.Put.{has_too_many, put_placed, put_held, put_answer_on, put_answer, new_version, put_row, put_row_on}
 use Rattle.sm_versions.specs.Move.{missing, move_placed, move_to, move_held, unless_missing, move_answer, move_row}
 use Rattle.sm_versions.specs.Settle.{is_live, is_create, advanced_job, settled_job, settle}
-use Rattle.sm_versions.specs.Kept.{JobFits, will_have_current}
+use Rattle.sm_versions.specs.Kept.{will_have_current}
 use Rattle.sm_versions.specs.Sound.{is_version, each_version, is_job, RowFits, UnsettledSound, RowSound}
 use Rattle.sm_versions.proofs.KeptLaws.{put_keeps, moved_past, moved_held, move_keeps, settle_keeps, unsettled_from_kept}
 
@@ -101,41 +101,15 @@ put_fits_on : (row : SecretRow) (token : List ℕ) (value : Value) (labels : Lis
     → RowFits row → RowFits (put_row_on row token value labels when.moment found)
 put_fits_on row token value labels when None h small date f =
     let parts = not_full (is_full_when row when) VERSIONS_LIMIT (put_placed (place_all row.labels labels token)) h in
-    record {
-      arn = f.arn;
-      description = f.description;
-      kms = f.kms;
-      tag_count = f.tag_count;
-      tags = f.tags;
-      tag_once = f.tag_once;
-      policy = f.policy;
-      versions = each_push row.versions (new_version row token value when.moment) f.versions
-          (and_from _ _ (and_from _ _ small refl) date);
-      labels = put_few (place_all row.labels labels token) parts.1;
-      created = f.created;
-      changed = f.changed;
-      deletion = f.deletion;
-      rotation = f.rotation;
-      regions = f.regions;
-      job = f.job;
-    }
-put_fits_on row token value labels when (Some version) h small date f = record {
-  arn = f.arn;
-  description = f.description;
-  kms = f.kms;
-  tag_count = f.tag_count;
-  tags = f.tags;
-  tag_once = f.tag_once;
-  policy = f.policy;
-  versions = each_filled row.versions token value f.versions small;
-  labels = held_few row token value labels version.value h;
-  created = f.created;
-  changed = f.changed;
-  deletion = f.deletion;
-  rotation = f.rotation;
-  regions = f.regions;
-  job = f.job;
-}
+    let versions = each_push row.versions (new_version row token value when.moment) f.versions
+    (and_from _ _ (and_from _ _ small refl) date) in
+    assumption (versions, put_few (place_all row.labels labels token) parts.1, f)
+put_fits_on row token value labels when (Some version) h small date f =
+    assumption (
+      each_filled row.versions token value f.versions small,
+      held_few row token value labels version.value h,
+      f,
+    )
 
 -- a put that is done keeps a sound secret sound before settling, where the value is small and AWSCURRENT has a holder
 -- or is placed
@@ -185,42 +159,14 @@ placed_onto true false placed id h = absurd (cc)
 
 moved_fits : (row : SecretRow) (label : List ℕ) (to : Option (List ℕ)) → move_to row label to ≡ moves.Ok → RowFits row
     → RowFits (move_row row label to)
-moved_fits row label None h f = record {
-  arn = f.arn;
-  description = f.description;
-  kms = f.kms;
-  tag_count = f.tag_count;
-  tags = f.tags;
-  tag_once = f.tag_once;
-  policy = f.policy;
-  versions = f.versions;
-  labels = omega (arith, fewer_without row.labels label, f.labels);
-  created = f.created;
-  changed = f.changed;
-  deletion = f.deletion;
-  rotation = f.rotation;
-  regions = f.regions;
-  job = f.job;
-}
-moved_fits row label (Some to) h f = record {
-  arn = f.arn;
-  description = f.description;
-  kms = f.kms;
-  tag_count = f.tag_count;
-  tags = f.tags;
-  tag_once = f.tag_once;
-  policy = f.policy;
-  versions = f.versions;
-  labels = move_few (place row.labels label to)
-      (placed_onto (same_text label aws_current) (has_value row.versions to) (move_placed (place row.labels label to))
-      to h);
-  created = f.created;
-  changed = f.changed;
-  deletion = f.deletion;
-  rotation = f.rotation;
-  regions = f.regions;
-  job = f.job;
-}
+moved_fits row label None h f =
+    let labels : own_count (without row.labels label) ≤ LABELS_LIMIT =
+    omega (arith, fewer_without row.labels label, f.labels) in
+    assumption (labels, f)
+moved_fits row label (Some to) h f =
+    let placed = placed_onto (same_text label aws_current) (has_value row.versions to)
+    (move_placed (place row.labels label to)) to h in
+    assumption (move_few (place row.labels label to) placed, f)
 
 -- an accepted move keeps a sound secret sound before settling
 pub move_sound : (row : SecretRow) (label : List ℕ) (to from : Option (List ℕ))
@@ -253,25 +199,7 @@ settled_fits row (Some job) h = by (is_live row job)
     by false = refl
 
 pub settle_fits : (row : SecretRow) → UnsettledSound row → RowFits (settle row)
-settle_fits row sound =
-    let f = sound.fits in
-    record {
-      arn = f.arn;
-      description = f.description;
-      kms = f.kms;
-      tag_count = f.tag_count;
-      tags = f.tags;
-      tag_once = f.tag_once;
-      policy = f.policy;
-      versions = f.versions;
-      labels = f.labels;
-      created = f.created;
-      changed = f.changed;
-      deletion = f.deletion;
-      rotation = f.rotation;
-      regions = f.regions;
-      job = settled_fits row row.job f.job;
-    }
+settle_fits row sound = assumption (settled_fits row row.job sound.fits.job, sound.fits)
 
 -- what is sound before settling, settled, is sound between changes where there are not too many versions
 pub settle_sound : (row : SecretRow) → UnsettledSound row → length row.versions ≤ VERSIONS_LIMIT
@@ -283,37 +211,13 @@ settle_sound row sound few =
 pub unsettled_sound : (row : SecretRow) → RowSound row → UnsettledSound row
 unsettled_sound row sound = record { kept = unsettled_from_kept row sound.kept; fits = sound.fits }
 
-changed_job : (row : SecretRow) (moment : Moment) (job : Job) → JobFits row job
-    → JobFits (record row { changed = moment }) job
-changed_job row moment job h = record { first = h.first; last = h.last; tested = h.tested; valued = h.valued }
-
 -- a secret changed at a moment
 pub changed_sound : (row : SecretRow) (moment : Moment) → IsTrue (is_date moment) → UnsettledSound row
     → UnsettledSound (record row { changed = moment })
-changed_sound row moment date sound =
-    let k = sound.kept in
-    let v = k.versions in
-    let f = sound.fits in
-    record {
-      kept = record {
-        versions = record { once = v.once; named = v.named; ids = v.ids; serials = v.serials; current = v.current };
-        job = IfSome_then row.job k.job (λ job. changed_job row moment job);
-      };
-      fits = record {
-        arn = f.arn;
-        description = f.description;
-        kms = f.kms;
-        tag_count = f.tag_count;
-        tags = f.tags;
-        tag_once = f.tag_once;
-        policy = f.policy;
-        versions = f.versions;
-        labels = f.labels;
-        created = f.created;
-        changed = date;
-        deletion = f.deletion;
-        rotation = f.rotation;
-        regions = f.regions;
-        job = f.job;
-      };
-    }
+changed_sound row moment date sound = record {
+  kept = record {
+    versions = assumption sound.kept.versions;
+    job = IfSome_then row.job sound.kept.job (λ job fits. assumption fits);
+  };
+  fits = assumption (date, sound.fits);
+}
