@@ -18,7 +18,7 @@ module _ {T O E : Type 0} where
   abbrev pub seats : Gate T O E → ℕ
   seats gate = gate.seats
 
-  abbrev pub IsSeatOf : (T → O) → (T → List (ℕ × E)) → Gate T O E → Seat (Option T) (View O E) → Type 0
+  abbrev pub IsSeatOf : {B : Type 0} → (T → O) → (T → List (ℕ × E)) → Gate T O E → Seat (Option B) (View O E) → Type 0
   IsSeatOf origin story gate seat =
       (seat.table_id ≡ gate.board.shared.table_id) × (seat.me.0.origin ≡ Some (origin (built_with gate)))
       × (seat.me.0.built ≡ story (built_with gate))

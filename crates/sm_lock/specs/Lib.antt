@@ -4,3 +4,4 @@ pub mod Rule
 pub mod Told
 pub mod SeatStates
 pub mod Handles
+pub mod Boxed

@@ -1,5 +1,5 @@
 //! The table that all seats of a lock share: three words, a flag for each ticket that may be out, and one slot, which
-//! holds the value.
+//! holds the value. It lies in a block of its own, so that a turn moves its place and not all of it.
 use crate::storied::Storied;
 use crate::view::View;
 use atomic_table::{Seat, Table, TableRule};
@@ -37,17 +37,25 @@ pub struct Key<T> {
 /// The rule of the table.
 pub struct Counting;
 
-impl<T: Storied> TableRule<Option<T>, View<T::Origin, T::Entry>, Key<T>> for Counting {
+impl<T: Storied> TableRule<Option<Box<T>>, View<T::Origin, T::Entry>, Key<T>> for Counting {
+    ghost use Rattle.sm_lock.specs.Boxed.{boxed};
     ghost use Rattle.sm_lock.specs.Rule.{Counted};
     ghost use Rattle.sm_lock.specs.View.{first_view};
 
-    ghost holds = { λ key. Counted T.origin T.story (T.origin key.built.value) (T.story key.built.value) key.seats };
+    ghost holds = { λ key. Counted (boxed T.origin) (boxed T.story) (T.origin key.built.value)
+        (T.story key.built.value) key.seats };
 
     ghost first = { λ key. first_view (T.origin key.built.value) (T.story key.built.value) };
 }
 
 /// The table of one lock.
-pub type Board<T: Storied> = Table<Option<T>, View<T::Origin, T::Entry>, Key<T>, Counting, Global>;
+pub type Board<T: Storied> = Table<
+    Option<Box<T>>,
+    View<T::Origin, T::Entry>,
+    Key<T>,
+    Counting,
+    Global,
+>;
 
 /// One seat at it. It has no bytes.
-pub type Place<T: Storied> = Seat<Option<T>, View<T::Origin, T::Entry>>;
+pub type Place<T: Storied> = Seat<Option<Box<T>>, View<T::Origin, T::Entry>>;

@@ -3,6 +3,7 @@ ghost use Rattle.std.specs.Prelude.{◌≡◌, ◌≤◌, [], ◌∷◌, IfOk, I
 ghost use Rattle.sm_base.specs.declared.limits.TheConstants.{SEATS_LIMIT};
 ghost use Rattle.std.specs.List.{range_with_len};
 ghost use Rattle.sm_lock.specs.declared.gate.BuildRefused.TheVariants.{Memory};
+ghost use Rattle.sm_lock.specs.Boxed.{IsSlotOf};
 ghost use Rattle.sm_lock.specs.View.{first_view};
 ghost use Rattle.sm_lock.specs.Handles.{built_with, seats as seats_of, number, seen, mine, IsIn};
 
@@ -13,7 +14,7 @@ use crate::plays::Number;
 use crate::storied::Storied;
 use atomic_table::{Refused, Table};
 use sm_base::List;
-use std::alloc::Global;
+use std::alloc::{AllocFailed, Global};
 use std::snapshot::Snapshot;
 
 /// The one value of a list of slots.
@@ -26,6 +27,26 @@ fn only<T>(mut slots: Vec<Option<T>>) -> T
     };
     slots.destroy_empty();
     value
+}
+
+/// The one slot, with the value in a block of its own. Without memory the value comes back.
+fn slots_of<T: Storied>(alloc: Global, value: T) -> Result<Vec<Option<Box<T>>>, T>
+    ensures ok { IfOk result (λ slots. IsSlotOf value slots.items) }
+    ensures err { IfErr result (λ back. back ≡ value) }
+{
+    let Ok(mut slots) = Vec::with_capacity(alloc, 1) else {
+        return Err(value);
+    };
+    match Box::new(alloc, value) {
+        Ok(block) => {
+            slots.push_reserved(Some(block));
+            Ok(slots)
+        }
+        Err(AllocFailed { value }) => {
+            slots.destroy_empty();
+            Err(value)
+        }
+    }
 }
 
 /// The table with the value in its slot, and the builder's place at it.
@@ -46,13 +67,12 @@ fn lay<T: Storied>(
     };
     let mut words = [0; FIRST_FLAG + FLAGS];
     words[COUNT] = value.length();
-    let Ok(mut slots) = Vec::with_capacity(alloc, 1) else {
-        return Err(BuildRefused::Memory(value));
-    };
-    slots.push_reserved(Some(value));
-    match Table::new(alloc, &words, slots, &about) {
-        Ok(made) => Ok(made),
-        Err(Refused { slots }) => Err(BuildRefused::Memory(only(slots))),
+    match slots_of(alloc, value) {
+        Ok(slots) => match Table::new(alloc, &words, slots, &about) {
+            Ok(made) => Ok(made),
+            Err(Refused { slots }) => Err(BuildRefused::Memory(Box::into_inner(only(slots)))),
+        },
+        Err(value) => Err(BuildRefused::Memory(value)),
     }
 }
 

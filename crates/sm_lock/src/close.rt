@@ -36,7 +36,7 @@ impl<T: Storied> Gate<T> {
             unreachable!()
         };
         closed.free();
-        value
+        Box::into_inner(value)
     }
 
     /// One place, with all that these passes knew and all their numbers.

@@ -10,9 +10,9 @@ impl<T: Storied> Held<T> {
     /// The value. Whatever is written through it stays in it. It takes no memory.
     pub fn value(&mut self) -> &mut T
         ensures* writes_back { sem 𝓛 (Lends (the_row T.row T.Origin.row T.Entry.row T.Storied) T.row self.entry result
-            (λ w. record self.old { value = w })) }
-        ensures value { result.now ≡ self.old.value }
+            (λ w. record self.old { value = record self.old.value { value = w } })) }
+        ensures value { result.now ≡ self.old.value.value }
     {
-        &mut self.value
+        &mut *self.value
     }
 }

@@ -38,6 +38,6 @@ pub struct Stay<T: Storied> {
 
 /// The value, out of its lock. It has no `Drop`, so it ends in `Gate::leave`.
 pub struct Held<T: Storied> {
-    pub(crate) value: T,
+    pub(crate) value: Box<T>,
     pub(crate) stay: Stay<T>,
 }

@@ -1,4 +1,5 @@
 //! The names of the steps, and what each tells its seat.
+ghost use Rattle.sm_lock.specs.Boxed.{boxed};
 ghost use Rattle.sm_lock.specs.Told.{drew, looked, flagged, looked_again, took, raised, returned, served, saw_flag, lowered, took_in};
 ghost use Rattle.sm_lock.specs.View.{beside, spent, counted_up, newcomer, noted};
 
@@ -32,14 +33,14 @@ impl<T, O, E> Play<Option<T>, View<O, E>> for LookAgain {
 
 pub(crate) struct Take;
 
-impl<T: Storied> Play<Option<T>, View<T::Origin, T::Entry>> for Take {
-    ghost then = { took T.origin T.story };
+impl<T: Storied> Play<Option<Box<T>>, View<T::Origin, T::Entry>> for Take {
+    ghost then = { took (boxed T.origin) (boxed T.story) };
 }
 
 pub(crate) struct Raise;
 
-impl<T: Storied> Play<Option<T>, View<T::Origin, T::Entry>> for Raise {
-    ghost then = { raised T.story };
+impl<T: Storied> Play<Option<Box<T>>, View<T::Origin, T::Entry>> for Raise {
+    ghost then = { raised (boxed T.story) };
 }
 
 pub(crate) struct Return;

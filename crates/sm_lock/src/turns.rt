@@ -19,9 +19,9 @@ impl<T: Storied> Gate<T> {
         requires { IsIn self.now pass }
         ensures gate { IsOutOf self.now result }
         ensures holder { holder result ≡ number pass }
-        ensures origin { T.origin result.value ≡ T.origin (built_with self.now) }
-        ensures entered { entered result ≡ T.story result.value }
-        ensures seen { Grows (number pass ∷ []) (seen pass) (T.story result.value) }
+        ensures origin { T.origin result.value.value ≡ T.origin (built_with self.now) }
+        ensures entered { entered result ≡ T.story result.value.value }
+        ensures seen { Grows (number pass ∷ []) (seen pass) (T.story result.value.value) }
         ensures mine { holder_made result ≡ mine pass }
     {
         let Pass {
@@ -29,6 +29,7 @@ impl<T: Storied> Gate<T> {
             count: _,
             mut place,
         } = pass;
+        self.approach();
         let ticket = self.board.shared.fetch_add::<Draw>(&mut place, TICKET, 1);
         self.wait_for(rt, &mut place, ticket);
         let (value, count) = self.take(&mut place);
@@ -43,14 +44,14 @@ impl<T: Storied> Gate<T> {
     }
 
     /// Takes the value out of its slot, with the number of its entries.
-    fn take(&self, place: &mut Place<T>) -> (T, u64)
+    fn take(&self, place: &mut Place<T>) -> (Box<T>, u64)
         requires gate { IsSeatOf T.origin T.story self.now place.old }
         requires turn { (place.old.me.0.turn ≡ Inside (ticket_of place.old.me.0.turn)) × (place.old.me.1 ≡ []) }
         ensures gate { place.new.table_id ≡ place.old.table_id }
         ensures place { place.new.me
             ≡ (turned (Holding (ticket_of place.old.me.0.turn)) place.old.me.0, (0, None) ∷ []) }
-        ensures value { (T.story result.0 ≡ place.old.me.0.own.seen)
-            × (T.origin result.0 ≡ T.origin (built_with self.now)) }
+        ensures value { (T.story result.0.value ≡ place.old.me.0.own.seen)
+            × (T.origin result.0.value ≡ T.origin (built_with self.now)) }
         ensures count { result.1 ≡ length place.old.me.0.own.seen }
     {
         let shared = &self.board.shared;
@@ -64,14 +65,14 @@ impl<T: Storied> Gate<T> {
     /// Gives the value back, with at most one entry more, which is this seat's. It takes no memory.
     pub fn leave(&self, held: Held<T>) -> Pass<T>
         requires gate { IsOutOf self.now held }
-        requires origin { T.origin held.value ≡ T.origin (built_with self.now) }
-        requires entry { (T.story held.value ≡ entered held)
-            ⊎ ((entry : T.Entry) × (T.story held.value ≡ entered held ++ (holder held, entry) ∷ [])) }
+        requires origin { T.origin held.value.value ≡ T.origin (built_with self.now) }
+        requires entry { (T.story held.value.value ≡ entered held)
+            ⊎ ((entry : T.Entry) × (T.story held.value.value ≡ entered held ++ (holder held, entry) ∷ [])) }
         ensures gate { IsIn self.now result }
         ensures number { number result ≡ holder held }
-        ensures seen { seen result ≡ T.story held.value }
-        ensures kept { T.story held.value ≡ entered held → mine result ≡ holder_made held }
-        ensures added { (entry : T.Entry) → T.story held.value ≡ entered held ++ (holder held, entry) ∷ []
+        ensures seen { seen result ≡ T.story held.value.value }
+        ensures kept { T.story held.value.value ≡ entered held → mine result ≡ holder_made held }
+        ensures added { (entry : T.Entry) → T.story held.value.value ≡ entered held ++ (holder held, entry) ∷ []
             → mine result ≡ holder_made held ++ entry ∷ [] }
     {
         let Held { value, stay } = held;
@@ -90,14 +91,15 @@ impl<T: Storied> Gate<T> {
     }
 
     /// Puts the value back into its slot with so many more entries, and lets the next one in.
-    fn put(&self, place: &mut Place<T>, value: T, more: u64)
+    fn put(&self, place: &mut Place<T>, value: Box<T>, more: u64)
         requires gate { IsSeatOf T.origin T.story self.now place.old }
         requires turn { (place.old.me.0.turn ≡ Holding (ticket_of place.old.me.0.turn))
             × (place.old.me.1 ≡ (0, None) ∷ []) }
-        requires value { (T.origin value ≡ T.origin (built_with self.now)) × (length (T.story value) < 2 ^ 64) }
-        requires more { AddsOne place.old.me.0 (T.story value) more }
+        requires value { (T.origin value.value ≡ T.origin (built_with self.now))
+            × (length (T.story value.value) < 2 ^ 64) }
+        requires more { AddsOne place.old.me.0 (T.story value.value) more }
         ensures gate { place.new.table_id ≡ place.old.table_id }
-        ensures place { place.new.me ≡ (turned Out (saw (T.story value) place.old.me.0), []) }
+        ensures place { place.new.me ≡ (turned Out (saw (T.story value.value) place.old.me.0), []) }
     {
         let shared = &self.board.shared;
         let before = shared.exchange(place, 0, Some(value));

@@ -1,5 +1,10 @@
 //! Waiting for a ticket, and waking who waits for it.
 //!
+//! Tickets are served in their order, also while the thread whose turn it is doesn't run: where more threads come than
+//! there are processors, each turn would cost a sleep. So who comes first looks for a while whether nobody is at the
+//! lock, and lets other threads run meanwhile. It draws a ticket then, or after so many looks: nobody is passed over
+//! for ever.
+//!
 //! No wake-up is lost. Who waits raises its ticket's flag, looks whether the ticket is served, and parks only while
 //! the flag is up. Who leaves serves the next ticket, and then looks at its flag: where that is up, it lowers it and
 //! wakes. All steps stand in one order. If the flag was raised before the leave looked at it, the leave wakes. If not,
@@ -15,12 +20,17 @@ ghost use Rattle.sm_lock.specs.Story.{Grows};
 ghost use Rattle.sm_lock.specs.View.{turned, saw, ticket as ticket_of};
 ghost use Rattle.sm_lock.specs.Rule.{flag_word};
 
-use crate::board::{DOWN, FIRST_FLAG, FLAGS, Place, SERVING, UP};
+use crate::board::{DOWN, FIRST_FLAG, FLAGS, Place, SERVING, TICKET, UP};
 use crate::gate::Gate;
 use crate::plays::{Flag, Look, LookAgain, Lower, SeeFlag};
 use crate::storied::Storied;
+use crossbeam_utils::Backoff;
 use std::hint;
 use std::sync::Wait;
+
+/// How often one that comes looks whether nobody is at the lock before it draws a ticket: the first seven times with
+/// pauses of the processor in between, then with other threads let run.
+const APPROACHES: u32 = 40;
 
 /// How often the next in line looks before it parks: about as long as parking and being woken takes.
 const LOOKS: u32 = 100;
@@ -33,6 +43,17 @@ fn flag_of(ticket: u64) -> usize
 }
 
 impl<T: Storied> Gate<T> {
+    /// Leaves the lock to those who are at it for a while. It tells nothing.
+    pub(crate) fn approach(&self) {
+        let backoff = Backoff::new();
+        for _ in 0..APPROACHES {
+            if self.board.shared.peek(TICKET) == self.board.shared.peek(SERVING) {
+                return;
+            }
+            backoff.snooze();
+        }
+    }
+
     /// Waits until the ticket is served.
     pub(crate) fn wait_for<R: Wait>(&self, rt: &R, place: &mut Place<T>, ticket: u64)
         requires gate { place.old.table_id ≡ self.now.board.shared.table_id }

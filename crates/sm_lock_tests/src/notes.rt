@@ -56,11 +56,11 @@ pub fn tell_another<T: Adds, R: Wait>(
 ) -> (Pass<T>, Held<T>, bool)
     requires { IsIn gate.now one × IsIn gate.now other }
     ensures gate { IsIn gate.now result.0 × IsOutOf gate.now result.1 }
-    ensures value { (T.origin result.1.value ≡ T.origin (built_with gate.now))
-        × (entered result.1 ≡ T.story result.1.value) }
+    ensures value { (T.origin result.1.value.value ≡ T.origin (built_with gate.now))
+        × (entered result.1 ≡ T.story result.1.value.value) }
     ensures numbers { (number result.0 ≡ number one) × (holder result.1 ≡ number other) }
     ensures added { result.2 ≡ true → mine result.0 ≡ mine one ++ entry ∷ [] }
-    ensures heard { Grows [] (seen result.0) (T.story result.1.value) }
+    ensures heard { Grows [] (seen result.0) (T.story result.1.value.value) }
 {
     let (one, added) = add(rt, gate, one, entry);
     let (one, note) = gate.tell(one);

@@ -7,7 +7,7 @@ use Rattle.sm_lock_tests.proofs.calls.add.Goals as goal
 
 pub returns-clause-seen : goal.returns-clause-seen
 returns-clause-seen g c =
-    let story = g.T.Storied.story in let before = seen c.args.pass in let held = c.enter-held.result.value in
+    let story = g.T.Storied.story in let before = seen c.args.pass in let held = c.enter-held.result.value.value in
     let entered = grows-none before (story held) (number c.args.pass ∷ []) c.enter-held.ensures.seen in
     let more = grown_by c.add.result (c.seat-seat.result, c.args.entry) (story c.value.result.now)
     (story c.add.new.self) c.add.ensures.ok c.add.ensures.err in

@@ -39,7 +39,7 @@ returns g c added =
     let built : after.place.me.0.built ≡ g.T.Storied.story c.args.value = c.tell_another-one.ensures.gate.0.2
     ∙ ap g.T.Storied.story made.gate.0 in
     let now = longer_by_one (number after) after.place.me.0.built (seen after)
-    (g.T.Storied.story c.tell_another-one.result.1.value) c.args.entry
+    (g.T.Storied.story c.tell_another-one.result.1.value.value) c.args.entry
     (c.tell_another-one.ensures.added added ∙ ap (λ l. l ++ c.args.entry ∷ []) (new 0 one (omega arith)).2)
     c.tell_another-one.ensures.heard in
     omega (

@@ -20,5 +20,6 @@ returns-clause-starts g c =
     start_held (Grows (number pass ∷ [])) _ _ c.seat-seat.ensures (seen pass) _ _ _
     (subst (λ a. Grows (number pass ∷ []) (seen pass) (history a)) (sym c.value.ensures.value)
     c.enter-held.ensures.seen) c.leave.ensures.seen _ _
-    (ap (λ a. base a) c.value.ensures.value ∙ same_base c.enter-held.result.value built c.enter-held.ensures.origin)
+    (ap (λ a. base a) c.value.ensures.value
+    ∙ same_base c.enter-held.result.value.value built c.enter-held.ensures.origin)
     _ _ _ c.start-begun.ensures.starts

@@ -43,11 +43,11 @@ returns-clause-holds g c =
       drawn = c.args.drawn.now;
       request = c.args.request.now;
     } in
-    let before : History = history held.value in
-    let stood : c.value-2.result.now ≡ held.value = c.value-2.ensures.value ∙ c.value.ensures.value in
+    let before : History = history held.value.value in
+    let stood : c.value-2.result.now ≡ held.value.value = c.value-2.ensures.value ∙ c.value.ensures.value in
     let built : Base = base (built_with c.args.gate.now) in
-    let based : base held.value ≡ built = same_base held.value (built_with c.args.gate.now) c.enter-held.ensures.origin
-    in (
+    let based : base held.value.value ≡ built =
+    same_base held.value.value (built_with c.args.gate.now) c.enter-held.ensures.origin in (
       record {
         before = before;
         gap = c.enter-held.ensures.seen;

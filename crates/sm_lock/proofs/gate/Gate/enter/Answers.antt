@@ -1,4 +1,5 @@
 use Rattle.std.proofs.Common.{rules, ap, ◌∙◌, sym, subst, arith, length, [], ◌∷◌}
+use Rattle.sm_lock.specs.Boxed.{boxed}
 use Rattle.sm_lock.specs.Story.{Grows}
 use Rattle.sm_lock.proofs.Stories.{mine-same}
 use Rattle.sm_lock.proofs.QueueSteps.{draws}
@@ -8,7 +9,7 @@ pub fetch_add-ticket-requires : goal.fetch_add-ticket-requires
 fetch_add-ticket-requires g c = let pass = c.args.pass in (
   c.requires.0,
   search rules,
-  draws g.T.Storied.origin g.T.Storied.story _ _ _ _ _ pass.place.me pass.rests.turn
+  draws (boxed g.T.Storied.origin) (boxed g.T.Storied.story) _ _ _ _ _ pass.place.me pass.rests.turn
       (omega (arith, ap length pass.rests.numbers)),
 )
 

@@ -4,6 +4,7 @@ use Rattle.std.proofs.Math.Seq.{take-length}
 use Rattle.std.proofs.lemmas.List.{map-append}
 use Rattle.std.proofs.lemmas.List.Elements.{All-push}
 use Rattle.std.specs.List.{range_with_len}
+use Rattle.sm_lock.specs.Boxed.{boxed}
 use Rattle.sm_lock.specs.View.{builders, newcomer, counted_up}
 use Rattle.sm_lock.specs.SeatStates.{Outside}
 use Rattle.sm_lock.specs.Handles.{built_with, number, seen, mine, IsIn}
@@ -18,7 +19,7 @@ split_seat-place-requires g c =
     let v = c.loop-number.builder.me.0 in let gives : v.given ≡ c.loop-number.number = ap (λ m. m.0.given) inv.1 in (
       inv.0,
       search rules,
-      numbers_next g.T.Storied.origin g.T.Storied.story _ _ _ _ v (omega (arith, gives, inv.2))
+      numbers_next (boxed g.T.Storied.origin) (boxed g.T.Storied.story) _ _ _ _ v (omega (arith, gives, inv.2))
           (omega (arith, gives, few.0, c.loop-number-test.true))
           (ap (λ m. m.0.origin) inv.1) (ap (λ m. m.0.built) inv.1),
     )

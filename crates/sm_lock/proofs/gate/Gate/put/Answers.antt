@@ -1,5 +1,6 @@
 use Rattle.std.proofs.Common.{rules, ◌+◌, ◌∷◌, [], ap, ◌∙◌, sym, subst, arith, Some}
 use Rattle.atomic_table.specs.Table.{rest}
+use Rattle.sm_lock.specs.Boxed.{boxed}
 use Rattle.sm_lock.specs.declared.view.QueuePlace.TheVariants.{Out, Inside, Waking}
 use Rattle.sm_lock.specs.View.{turned, saw, ticket}
 use Rattle.sm_lock.specs.SeatStates.{AddsOne}
@@ -12,10 +13,11 @@ fetch_add-requires g c =
     let put = c.exchange-before.ensures.3 in let value = c.args.value in (
       search rules,
       search rules,
-      raises g.T.Storied.origin g.T.Storied.story _ _ _ _ _ c.exchange-before.new.seat.me _ value _
+      raises (boxed g.T.Storied.origin) (boxed g.T.Storied.story) _ _ _ _ _ c.exchange-before.new.seat.me _ value _
           (ap (λ m. m.0.turn) put ∙ c.requires.turn.0)
           (ap (λ m. m.1) put ∙ ap (λ l. (0, Some value) ∷ rest l) c.requires.turn.1) c.requires.value.1
-          (subst (λ v. AddsOne v (g.T.Storied.story value) c.args.more) (sym (ap (λ m. m.0) put)) c.requires.more),
+          (subst (λ v. AddsOne v (g.T.Storied.story value.value) c.args.more) (sym (ap (λ m. m.0) put))
+          c.requires.more),
     )
 
 pub load-requires : goal.load-requires
@@ -25,7 +27,7 @@ load-requires g c =
     let raised = c.fetch_add.ensures.2 value [] carries in (
       search rules,
       search rules,
-      returns_value g.T.Storied.origin g.T.Storied.story _ _ _ _ _ c.fetch_add.new.seat.me _ value
+      returns_value (boxed g.T.Storied.origin) (boxed g.T.Storied.story) _ _ _ _ _ c.fetch_add.new.seat.me _ value
           (ap (λ m. m.0.turn) raised ∙ (ap (λ m. m.0.turn) put ∙ c.requires.turn.0))
           (ap (λ m. m.1) raised ∙ carries) (sym (ap (λ m. m.0.own.seen) raised)) c.requires.value.0,
     )
@@ -38,7 +40,8 @@ fetch_add-served-requires g c =
     let returned = c.load.ensures.2 _ (ap (λ m. m.0.turn) raised ∙ (ap (λ m. m.0.turn) put ∙ c.requires.turn.0)) in (
       search rules,
       search rules,
-      serves g.T.Storied.origin g.T.Storied.story _ _ _ _ _ c.load.new.seat.me _ (ap (λ m. m.0.turn) returned),
+      serves (boxed g.T.Storied.origin) (boxed g.T.Storied.story) _ _ _ _ _ c.load.new.seat.me _
+          (ap (λ m. m.0.turn) returned),
     )
 
 pub wake-requires-clause-turn : goal.wake-requires-clause-turn
@@ -53,7 +56,7 @@ wake-requires-clause-turn g c =
 
 pub returns-clause-place : goal.returns-clause-place
 returns-clause-place g c =
-    let m = c.args.place.now.me in let t = ticket m.0.turn in let list = g.T.Storied.story c.args.value in
+    let m = c.args.place.now.me in let t = ticket m.0.turn in let list = g.T.Storied.story c.args.value.value in
     let put = c.exchange-before.ensures.3 in let value = c.args.value in
     let carries = ap (λ x. x.1) put ∙ ap (λ l. (0, Some value) ∷ rest l) c.requires.turn.1 in
     let raised = c.fetch_add.ensures.2 value [] carries in

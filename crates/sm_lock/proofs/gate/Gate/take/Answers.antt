@@ -1,5 +1,6 @@
 use Rattle.std.proofs.Common.{rules, ◌∷◌, ap, ◌∙◌, sym, Some}
 use Rattle.atomic_table.specs.Table.{rest}
+use Rattle.sm_lock.specs.Boxed.{boxed}
 use Rattle.sm_lock.proofs.SlotSteps.{takes_value}
 use Rattle.sm_lock.proofs.gate.Gate.take.Goals as goal
 
@@ -7,7 +8,8 @@ pub load-count-requires : goal.load-count-requires
 load-count-requires g c = (
   search rules,
   search rules,
-  takes_value g.T.Storied.origin g.T.Storied.story _ _ _ _ _ c.args.place.now.me _ c.requires.turn.0 c.requires.gate.1,
+  takes_value (boxed g.T.Storied.origin) (boxed g.T.Storied.story) _ _ _ _ _ c.args.place.now.me _ c.requires.turn.0
+      c.requires.gate.1,
 )
 
 pub exchange-requires : goal.exchange-requires

@@ -1,4 +1,5 @@
 use Rattle.std.proofs.Common.{rules, ap, ◌∙◌}
+use Rattle.sm_lock.specs.Boxed.{boxed}
 use Rattle.sm_lock.specs.View.{ticket}
 use Rattle.sm_lock.proofs.FlagSteps.{sees_flag, lowers, same_flag}
 use Rattle.sm_lock.proofs.gate.Gate.wake.Goals as goal
@@ -7,7 +8,8 @@ pub load-requires : goal.load-requires
 load-requires g c = let v = c.args.place.now.me.0 in (
   search rules,
   search rules,
-  sees_flag g.T.Storied.origin g.T.Storied.story _ _ _ _ _ c.args.place.now.me (ticket v.turn) _ c.requires.turn.0
+  sees_flag (boxed g.T.Storied.origin) (boxed g.T.Storied.story) _ _ _ _ _ c.args.place.now.me (ticket v.turn) _
+      c.requires.turn.0
       (same_flag (ticket v.turn) _ _ c.requires.turn.1 c.flag_of-flag.ensures),
 )
 
@@ -16,7 +18,7 @@ store-requires g c =
     let v = c.args.place.now.me.0 in let same = c.load.ensures.2.0 c.if-load-ne-UP.false in (
       c.load.ensures.0 ∙ c.requires.gate,
       search rules,
-      lowers g.T.Storied.origin g.T.Storied.story _ _ _ _ _ c.load.new.seat.me (ticket v.turn) _
+      lowers (boxed g.T.Storied.origin) (boxed g.T.Storied.story) _ _ _ _ _ c.load.new.seat.me (ticket v.turn) _
           (ap (λ m. m.0.turn) same ∙ c.requires.turn.0)
           (same_flag (ticket v.turn) _ _ c.requires.turn.1 c.flag_of-flag.ensures),
     )
