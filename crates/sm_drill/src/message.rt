@@ -8,8 +8,8 @@ ghost use Rattle.sm_http.specs.Reading.{content, pair_of};
 
 use crate::bodies::body_of;
 use crate::step::{Step, step_of};
-use sm_base::{Bytes, List, NoMemory};
-use sm_http::{Field, Message};
+use sm_base::{List, NoMemory};
+use sm_http::{Excerpt, Field, Message};
 use std::alloc::Global;
 
 /// The operation that a step asks for, as messages name it.
@@ -27,8 +27,8 @@ fn target_of(step: Step) -> &'static str
 fn fields_of(alloc: Global, target: &str) -> Result<List<Field>, NoMemory>
     ensures { IfOk result (λ fields. map pair_of fields ≡ target_field target.now ∷ []) }
 {
-    let name = Bytes::from_slice(alloc, b"X-Amz-Target")?;
-    let value = Bytes::from_slice(alloc, target.as_bytes())?;
+    let name = Excerpt::from_slice(alloc, b"X-Amz-Target")?;
+    let value = Excerpt::from_slice(alloc, target.as_bytes())?;
     let mut fields = List::empty(alloc);
     fields.push(Field { name, value })?;
     Ok(fields)
@@ -41,8 +41,8 @@ pub(crate) fn message_of(alloc: Global, index: u64, word: u32) -> Result<Message
     ensures asks { IfOk result (λ message. AsksFor (content message) (request_by (step_of index word) index word)) }
 {
     let step = step_of(index, word);
-    let method = Bytes::from_slice(alloc, b"POST")?;
-    let path = Bytes::from_slice(alloc, b"/")?;
+    let method = Excerpt::from_slice(alloc, b"POST")?;
+    let path = Excerpt::from_slice(alloc, b"/")?;
     let fields = fields_of(alloc, target_of(step))?;
     let body = body_of(alloc, step, index, word)?;
     Ok(Message {

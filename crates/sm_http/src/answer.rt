@@ -2,20 +2,21 @@
 ghost use Rattle.std.specs.Prelude.{◌≡◌};
 ghost use Rattle.sm_http.specs.Reading.{stopped};
 
+use crate::excerpt::Excerpt;
 use sm_base::{BadKind, Bytes, List};
 
 /// A field of a head: its name, and its value without the white space around it.
 #[derive(Drop)]
 pub struct Field {
-    pub name: Bytes,
-    pub value: Bytes,
+    pub name: Excerpt,
+    pub value: Excerpt,
 }
 
 /// A whole message.
 #[derive(Drop)]
 pub struct Message {
-    pub method: Bytes,
-    pub path: Bytes,
+    pub method: Excerpt,
+    pub path: Excerpt,
     pub fields: List<Field>,
     /// Whether the stream ends after it.
     pub closing: bool,

@@ -4,6 +4,7 @@
 
 mod ahead;
 pub mod answer;
+mod excerpt;
 mod head;
 pub mod laws;
 pub mod message;
@@ -14,6 +15,7 @@ mod request;
 
 pub use ahead::{Ahead, More};
 pub use answer::{Field, Message, Next, Stop};
+pub use excerpt::Excerpt;
 pub use laws::{messages_go_on, one_reading, whole_messages};
 pub use message::{
     BODY_LIMIT, FIELD_LIMIT, FieldRoom, Front, HEAD_LIMIT, MessageView, field_room, front_of,

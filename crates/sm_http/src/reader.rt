@@ -2,7 +2,7 @@
 ghost use Rattle.std.specs.Prelude.{◌≡◌, ℕ, ◌+◌, ◌<◌, ◌≤◌, List, [], length, take, Some, None, IfSome, IfNone, if◌then◌else◌};
 ghost use Rattle.std.specs.Io.KnownBytes.{IsAtEnd};
 ghost use Rattle.sm_base.specs.Faults.{Rose};
-ghost use Rattle.sm_http.specs.Heads.{head_length};
+ghost use Rattle.sm_http.specs.Heads.{field_limit, head_length};
 ghost use Rattle.sm_http.specs.Messages.{IsPartial};
 ghost use Rattle.sm_http.specs.Ahead.{Moves, OnMore, OnNoMore, OnMoreEnd, OnMoreFailed};
 ghost use Rattle.sm_http.specs.Fronts.{IsWholeHead};
@@ -11,7 +11,7 @@ ghost use Rattle.sm_http.specs.Waiting.{LacksHead, IsSought, OnSoughtEnd, OnSoug
 
 use crate::ahead::{Ahead, More};
 use crate::answer::{Message, Next, Stop, stopped};
-use crate::message::{HEAD_LIMIT, field_room};
+use crate::message::{FieldRoom, HEAD_LIMIT, field_room};
 use crate::owned::{Parts, own};
 use crate::request::{HeadRead, head_length, read_head};
 use httparse::spans::{HeaderSpan, RequestSpans};
@@ -123,14 +123,17 @@ fn take_message(
     }
 }
 
-/// The message at the front, whose head is so long: more bytes are taken until its body is there.
+/// The message at the front, whose head is so long: more bytes are taken until its body is there. The places of its
+/// fields are written to the room.
 fn find_body<S: Source>(
     alloc: Global,
     ahead: &mut Ahead,
     at: u64,
     source: &mut S,
+    room: &mut [HeaderSpan],
     end: usize,
 ) -> Found
+    requires room { length room.old ≡ field_limit }
     requires ends { head_length ahead.old ≡ Some end }
     requires within { end ≤ length ahead.old }
     ensures found { FindsMore ahead.old at result ahead.new (S.left source.old) (S.left source.new) }
@@ -141,8 +144,7 @@ fn find_body<S: Source>(
     ensures beside { S.beside_source source.new ≡ S.beside_source source.old }
     ensures still { (IsPartial ahead.old → ⊥) → source.new ≡ source.old }
 {
-    let mut room = field_room();
-    match read_head(ahead.as_slice(), end, &mut room) {
+    match read_head(ahead.as_slice(), end, room) {
         HeadRead::Whole(spans, size) => match await_bytes(ahead, source, end + size) {
             More::Got => take_message(alloc, ahead, at, spans, &room[..spans.headers], size),
             More::End => Found::Stop(Stop::Cut(ahead.len() as u64)),
@@ -154,7 +156,14 @@ fn find_body<S: Source>(
 }
 
 /// The next message: more bytes are taken until it is there.
-fn find_message<S: Source>(alloc: Global, ahead: &mut Ahead, at: u64, source: &mut S) -> Found
+fn find_message<S: Source>(
+    alloc: Global,
+    ahead: &mut Ahead,
+    at: u64,
+    source: &mut S,
+    room: &mut [HeaderSpan],
+) -> Found
+    requires { length room.old ≡ field_limit }
     ensures found { FindsMore ahead.old at result ahead.new (S.left source.old) (S.left source.new) }
     ensures end { IfStopped result (λ why. OnStopEnd why (IsAtEnd (S.left source.new))) }
     ensures failed { IfStopped result (λ why. OnStopFault why
@@ -164,7 +173,7 @@ fn find_message<S: Source>(alloc: Global, ahead: &mut Ahead, at: u64, source: &m
     ensures still { (IsPartial ahead.old → ⊥) → source.new ≡ source.old }
 {
     match seek_head(ahead, source) {
-        Sought::Head(end) => find_body(alloc, ahead, at, source, end),
+        Sought::Head(end) => find_body(alloc, ahead, at, source, room, end),
         Sought::TooLong => Found::Stop(Stop::Bad(BadKind::HeadTooLong, at)),
         Sought::End => {
             if ahead.len() == 0 {
@@ -178,21 +187,27 @@ fn find_message<S: Source>(alloc: Global, ahead: &mut Ahead, at: u64, source: &m
     }
 }
 
-/// Reads the messages of a source. What it read and did not use stands ahead.
+/// Reads the messages of a source. What it read and did not use stands ahead. The room for the places of fields is made
+/// once, and used for each message.
 #[derive(Drop)]
 pub struct Reader {
     alloc: Global,
     ahead: Ahead,
     at: u64,
     ended: Option<Stop>,
+    room: FieldRoom,
 }
 
 impl Model for Reader {
+    ghost use Rattle.std.specs.Prelude.{◌≡◌, length};
+    ghost use Rattle.sm_http.specs.Heads.{field_limit};
     ghost use Rattle.sm_http.specs.Reading.{ReaderState};
 
     ghost Value = { ReaderState };
 
     ghost view = { λ r. record { ahead = r.ahead; at = r.at; ended = r.ended } };
+
+    ghost invariant = { λ r. length r.room ≡ field_limit };
 }
 
 impl Reader {
@@ -205,6 +220,7 @@ impl Reader {
             ahead: Ahead::empty(alloc),
             at: 0,
             ended: None,
+            room: field_room(),
         }
     }
 
@@ -222,7 +238,13 @@ impl Reader {
     {
         match self.ended {
             Some(why) => stopped(why),
-            None => match find_message(self.alloc, &mut self.ahead, self.at, source) {
+            None => match find_message(
+                self.alloc,
+                &mut self.ahead,
+                self.at,
+                source,
+                &mut self.room,
+            ) {
                 Found::Message(message, used) => {
                     self.at = self.at.saturating_add(used as u64);
                     self.ended = closing_stop(message.closing);

@@ -125,56 +125,58 @@ fn signature_of(alloc: Global, day: &str, service: &str, text: &str) -> Result<S
     Ok(hex::encode(alloc, hmac(&key_for(day, service), text.as_bytes()))?)
 }
 
+/// A day, a service, and the digits of their key.
+const KEYS: [(&str, &str, &str); 2] = [
+    (
+        "20120215",
+        "iam",
+        "f4780e2d9f65fa895f9c67b32ce1baf0b0d8a43505a000a1a9e090d414db404d",
+    ),
+    (
+        "20150830",
+        "iam",
+        "c4afb1cc5771d871763a393e44b703571b55cc28424d1a5e86da6ed3c154a4b9",
+    ),
+];
+
 #[test]
 fn published_keys(rt: HostRuntime) -> Result<(), Fail> {
-    let key = hex::encode(rt.alloc(), key_for("20120215", "iam"))?;
-    assert_eq!(rt;
-        key.as_str(),
-        "f4780e2d9f65fa895f9c67b32ce1baf0b0d8a43505a000a1a9e090d414db404d"
-    );
-    let key = hex::encode(rt.alloc(), key_for("20150830", "iam"))?;
-    assert_eq!(rt;
-        key.as_str(),
-        "c4afb1cc5771d871763a393e44b703571b55cc28424d1a5e86da6ed3c154a4b9"
-    );
+    for (day, service, digits) in KEYS {
+        let key = hex::encode(rt.alloc(), key_for(day, service))?;
+        assert_eq!(rt; key.as_str(), digits, "{day} {service}");
+    }
     Ok(())
 }
 
+/// A service, the digest of a request of 2015-08-30, 12:36:00, and the digits of its signature: the General Reference's
+/// worked example, get-vanilla and post-vanilla.
+const SIGNATURES: [(&str, &str, &str); 3] = [
+    (
+        "iam",
+        "f536975d06c0309214f805bb90ccff089219ecd68b2577efef23edd43b7e1a59",
+        "5d672d79c15b13162d9279b0855cfba6789a8edb4c82c400e06b5924a6f2b5d7",
+    ),
+    (
+        "service",
+        "bb579772317eb040ac9ed261061d46c1f17a8133879d6129b6e1c25292927e63",
+        "5fa00fa31553b73ebf1942676e86291e8372ff2a2260956d9b8aae1d763fbf31",
+    ),
+    (
+        "service",
+        "553f88c9e4d10fc9e109e2aeb65f030801b70c2f6468faca261d401ae622fc87",
+        "5da7c1a2acd57cee7505fc6676e4e544621c30862966e37dddb68e92efbe5d6b",
+    ),
+];
+
 #[test]
 fn published_signatures(rt: HostRuntime) -> Result<(), Fail> {
-    // The string to sign of the General Reference's worked example, and those of get-vanilla and post-vanilla.
-    let listed = signature_of(
-        rt.alloc(),
-        "20150830",
-        "iam",
-        "AWS4-HMAC-SHA256\n20150830T123600Z\n20150830/us-east-1/iam/aws4_request\n\
-         f536975d06c0309214f805bb90ccff089219ecd68b2577efef23edd43b7e1a59",
-    )?;
-    assert_eq!(rt;
-        listed.as_str(),
-        "5d672d79c15b13162d9279b0855cfba6789a8edb4c82c400e06b5924a6f2b5d7"
-    );
-    let vanilla = signature_of(
-        rt.alloc(),
-        "20150830",
-        "service",
-        "AWS4-HMAC-SHA256\n20150830T123600Z\n20150830/us-east-1/service/aws4_request\n\
-         bb579772317eb040ac9ed261061d46c1f17a8133879d6129b6e1c25292927e63",
-    )?;
-    assert_eq!(rt;
-        vanilla.as_str(),
-        "5fa00fa31553b73ebf1942676e86291e8372ff2a2260956d9b8aae1d763fbf31"
-    );
-    let posted = signature_of(
-        rt.alloc(),
-        "20150830",
-        "service",
-        "AWS4-HMAC-SHA256\n20150830T123600Z\n20150830/us-east-1/service/aws4_request\n\
-         553f88c9e4d10fc9e109e2aeb65f030801b70c2f6468faca261d401ae622fc87",
-    )?;
-    assert_eq!(rt;
-        posted.as_str(),
-        "5da7c1a2acd57cee7505fc6676e4e544621c30862966e37dddb68e92efbe5d6b"
-    );
+    let alloc = rt.alloc();
+    for (service, digest, digits) in SIGNATURES {
+        let text = format!(in alloc;
+            "AWS4-HMAC-SHA256\n20150830T123600Z\n20150830/us-east-1/{service}/aws4_request\n{digest}"
+        )?;
+        let signature = signature_of(alloc, "20150830", service, text.as_str())?;
+        assert_eq!(rt; signature.as_str(), digits, "{digest}");
+    }
     Ok(())
 }

@@ -4,7 +4,7 @@
 //! are `name>value` with `;` between them. A `.` stands for what the first line has.
 use crate::messages::FIRST;
 use sm_base::{Bytes, List, NoMemory};
-use sm_http::{Field, Message};
+use sm_http::{Excerpt, Field, Message};
 use std::alloc::Global;
 
 const NAME: usize = 0;
@@ -66,10 +66,14 @@ fn bytes_of(alloc: Global, text: &str) -> Result<Bytes, NoMemory> {
     Bytes::from_slice(alloc, text.as_bytes())
 }
 
+fn excerpt_of(alloc: Global, text: &str) -> Result<Excerpt, NoMemory> {
+    Excerpt::from_slice(alloc, text.as_bytes())
+}
+
 fn field_of(alloc: Global, name: &str, value: &str) -> Result<Field, NoMemory> {
     Ok(Field {
-        name: bytes_of(alloc, name)?,
-        value: bytes_of(alloc, value)?,
+        name: excerpt_of(alloc, name)?,
+        value: excerpt_of(alloc, value)?,
     })
 }
 
@@ -98,8 +102,8 @@ pub fn message_with(alloc: Global, row: &'static str, value: &str) -> Result<Mes
         fields.push(field_of(alloc, "Authorization", value)?)?;
     }
     Ok(Message {
-        method: bytes_of(alloc, column(row, METHOD))?,
-        path: bytes_of(alloc, column(row, PATH))?,
+        method: excerpt_of(alloc, column(row, METHOD))?,
+        path: excerpt_of(alloc, column(row, PATH))?,
         fields,
         closing: false,
         body: bytes_of(alloc, column(row, BODY))?,
