@@ -1,5 +1,5 @@
 -- A stream of frames as far as it has come.
-use Rattle.std.proofs.Common.{◌≡◌, ◌⊎◌, ℕ, ◌+◌, ◌-◌, ◌^◌, ◌<◌, ◌≤◌, min, List, [], ◌∷◌, ◌++◌, length, take, map, Option, None, Some, Result, Ok, Err, inl, inr, refl, sym, ap, subst, ◌∙◌, append_assoc, append-nil, length-append, length-take, arith}
+use Rattle.std.proofs.Common.{◌≡◌, ℕ, ◌+◌, ◌-◌, ◌<◌, ◌≤◌, min, List, [], ◌∷◌, ◌++◌, length, take, Option, None, Err, inl, inr, refl, sym, ap, subst, ◌∙◌, append_assoc, append-nil, length-append, length-take, arith}
 use Rattle.std.proofs.lemmas.Grind.{flat_map-append}
 use Rattle.std.proofs.lemmas.List.{map-append}
 use Rattle.std.specs.Io.KnownBytes.{append_known, prepend_known, IsAtEnd}
@@ -18,11 +18,10 @@ use Rattle.sm_seat_traces.proofs.KnownLemmas.{append_known-nil, prepend_known-ni
 use Rattle.sm_follow.specs.declared.end.End.{End}
 use Rattle.sm_follow.specs.declared.end.End.TheVariants as ends
 use Rattle.sm_follow.specs.declared.follower.Follower.{Follower}
-use Rattle.sm_follow.specs.Disks.{IfFails, KeepsOnDisk, Stands}
 use Rattle.sm_follow.specs.Outputs.{Outgoing, counted, joined, output_bytes}
-use Rattle.sm_follow.specs.Steps.{EndsOutput, GoesNoFurther, GoesNowhere, GoesOn, IsFailed, OnInputEnd, OnInputFault, Written, WritesPart, WritesWhole, next_of}
+use Rattle.sm_follow.specs.Steps.{EndsOutput, GoesNoFurther, GoesNowhere, GoesOn, IsFailed, OnInputEnd, OnInputFault, WritesPart, next_of}
 use Rattle.sm_follow.specs.Streams.{AreFrames, Around, EndsAt, EndsBy, Followed, Passage, frame_limit, frames_bytes}
-use Rattle.sm_follow.specs.InputTurns.{Follows, Goes, Fails, Lacks, LastOf, Onward, State, InputTurn, InputTurnOf, InputTurnsOf, outputs_of, readings_of}
+use Rattle.sm_follow.specs.InputTurns.{Follows, Goes, Fails, Lacks, Onward, State, InputTurn, InputTurnOf, InputTurnsOf, outputs_of, readings_of}
 
 -- ---- one more
 

@@ -1,5 +1,5 @@
 -- What holds of whole runs of a replica.
-use Rattle.std.proofs.Common.{◌≡◌, ◌⊎◌, ◌≤◌, ℕ, zero, suc, Bool, true, false, List, [], ◌∷◌, take, drop, Option, None, Some, Result, Ok, Err, inl, inr, refl, sym, ap, subst, ◌∙◌, take-append-drop, arith}
+use Rattle.std.proofs.Common.{◌≡◌, ◌⊎◌, ◌≤◌, ℕ, zero, suc, Bool, true, false, List, [], ◌∷◌, take, drop, Option, None, Some, Result, Ok, Err, inl, inr, refl, sym, ap, subst, length-take, take-append-drop, arith}
 use Rattle.sm_base.specs.declared.moment.Moment.{Moment}
 use Rattle.sm_core.specs.Histories.{InTime}
 use Rattle.sm_disk.specs.declared.disk.Disk.{Ghosts}
@@ -12,8 +12,8 @@ use Rattle.sm_opening.proofs.LawfulLaws.{stays_lawful}
 use Rattle.sm_opening.specs.Lawful.{IsLawful}
 use Rattle.sm_principal.specs.declared.people.People.{People}
 use Rattle.sm_record.specs.declared.base.Base.{Base}
-use Rattle.sm_replay.proofs.FollowLemmas.{come_front, nothing_sound}
-use Rattle.sm_replay.specs.Following.{MayCome, origin}
+use Rattle.sm_replay.proofs.FollowLemmas.{after_count, come_front, nothing_sound}
+use Rattle.sm_replay.specs.Following.{after_all, MayCome, origin}
 use Rattle.sm_replica.proofs.PrefixLaws.{follows_history}
 use Rattle.sm_replica.specs.declared.replica.Taken.{Taken}
 use Rattle.sm_replica.specs.Histories.{IsAt, IsHistory, IsOf, Step}
@@ -24,8 +24,8 @@ use Rattle.sm_session.specs.Answer.{Asked, heard}
 use Rattle.sm_store.specs.Held.{Held, only}
 use Rattle.sm_follow.specs.declared.end.End.{End}
 use Rattle.sm_follow.specs.Disks.{FollowsOver, KeepsOnDisk, first_state}
-use Rattle.sm_follow.specs.InputTurns.{Answers, AnswersAt, AnswersMessage, AsksFor, Fails, Follows, Goes, InputTurn, InputTurnOf, InputTurnsOf, Kept, Lacks, Onward, PromotesAs, State, StopsUnless, Sure, TakesFrame, kept_of, moment_at, stopped_by}
-use Rattle.sm_follow.specs.Laws.{HoldsBy, IsAPrefix, KeepsOrPromotes, LeavesPrefix, RunsLeavePrefix, frames_in}
+use Rattle.sm_follow.specs.InputTurns.{Answers, AnswersMessage, AsksFor, Fails, Follows, Goes, InputTurn, InputTurnsOf, Kept, Lacks, Onward, PromotesAs, State, StopsUnless, Sure, TakesFrame, kept_of, moment_at, stopped_by}
+use Rattle.sm_follow.specs.Laws.{Climbs, HoldsBy, IsAPrefix, KeepsOrPromotes, LeavesPrefix, RunsLeavePrefix, frames_in}
 use Rattle.sm_follow.specs.Outputs.{Outgoing}
 use Rattle.sm_follow.specs.Streams.{Around}
 
@@ -83,34 +83,40 @@ module _ (old new : State) where
 -- ---- a replica is a prefix
 
 module _ (history : List Entry) (h : IsHistory history) where
-  -- what so many first entries make, and at least so many
-  abbrev Climbs : ℕ → Base → Type 0
-  Climbs n base = (m : ℕ) × (n ≤ m) × IsAt history m base
+  -- the position of what so many first entries make
+  told_at : (n : ℕ) (base : Base) → IsAt history n base → base.entries ≡ n
+  told_at n base at =
+      let entries : base.entries ≡ (after_all origin (take n history)).entries = ap (λ (b : Base). b.entries) at.is in
+      omega (arith, entries, after_count origin (take n history), length-take n history, at.within)
 
-  same_place : (n : ℕ) (old new : Base) → new ≡ old → IsAt history n old → Climbs n new
-  same_place n old new same at = (n, omega arith, subst (λ (b : Base). IsAt history n b) (sym same) at)
+  climbs_to : (n m : ℕ) (base : Base) → n ≤ m → IsAt history m base → Climbs history n base
+  climbs_to n m base rises at = record { count = m; rises = rises; prefix = at; told = told_at m base at }
+
+  same_place : (n : ℕ) (old new : Base) → new ≡ old → IsAt history n old → Climbs history n new
+  same_place n old new same at =
+      climbs_to n n new (omega arith) (subst (λ (b : Base). IsAt history n b) (sym same) at)
 
   frame_climbs : (n : ℕ) (old : Replica) (frame : Frame) (answer : Taken) (new : Replica) → IsAt history n old.base
-      → IsOf history frame → Takes old frame answer new → Climbs n new.base
+      → IsOf history frame → Takes old frame answer new → Climbs history n new.base
   frame_climbs n old frame answer new at of takes = by old.promoted takes
     where
-      by : (is : Bool) → TakesIf is old frame answer new → Climbs n new.base
+      by : (is : Bool) → TakesIf is old frame answer new → Climbs history n new.base
       by true (told, same) = same_place n old.base new.base (ap (λ (r : Replica). r.base) same) at
       by false (taken, region, going) =
           let step : Step = record { frame = frame; answer = answer; after = new.base } in
           let one = follows_history history n old.base (step ∷ []) h at (of, tt) (taken, tt) in
-          (one.0, one.1, one.2)
+          climbs_to n one.0 new.base one.1 one.2
 
   turn_climbs : (n : ℕ) (old new : State) (frame : Frame) (turn : InputTurn) → IsAt history n old.replica.base
-      → IsOf history frame → TakesFrame old frame turn (Goes new) → Climbs n new.replica.base
+      → IsOf history frame → TakesFrame old frame turn (Goes new) → Climbs history n new.replica.base
   turn_climbs n old new frame turn at of takes =
-      subst (λ (s : State). Climbs n s.replica.base)
+      subst (λ (s : State). Climbs history n s.replica.base)
       (sym (goes_is new (record old { replica = takes.new }) takes.goes))
       (frame_climbs n old.replica frame takes.answer takes.new at of takes.takes)
 
   message_climbs : (people : People) (n : ℕ) (old new : State) (bytes : List ℕ) (turn : InputTurn)
       → IsAt history n old.replica.base → AnswersMessage people old bytes turn (Goes new)
-      → Climbs n new.replica.base
+      → Climbs history n new.replica.base
   message_climbs people n old new bytes turn at answers = elim (after_message old new people bytes turn answers) [
     | inl is ↦ same_place n old.replica.base new.replica.base (ap (λ (s : State). s.replica.base) is) at
     | inr is ↦ same_place n old.replica.base new.replica.base (ap (λ (s : State). s.replica.base) is) at
@@ -118,17 +124,17 @@ module _ (history : List Entry) (h : IsHistory history) where
 
   run_climbs : (people : People) (n : ℕ) (old : State) (inputs : List Input) (turns : List InputTurn) (new : State)
       → IsAt history n old.replica.base → AllOf history (frames_in inputs) → InputTurnsOf people old inputs turns new
-      → Climbs n new.replica.base
+      → Climbs history n new.replica.base
   run_climbs people n old [] turns new at all (none, is) =
       same_place n old.replica.base new.replica.base (ap (λ (s : State). s.replica.base) is) at
   run_climbs people n old (read.Frame frame ∷ others) turns new at all (turn, later, mid, one, are, rest) =
       let first = turn_climbs n old mid frame turn at all.0 one in
-      let next = run_climbs people first.0 mid others later new first.2 all.1 rest in
-      (next.0, omega (arith, first.1, next.1), next.2)
+      let next = run_climbs people first.count mid others later new first.prefix all.1 rest in
+      climbs_to n next.count new.replica.base (omega (arith, first.rises, next.rises)) next.prefix
   run_climbs people n old (read.Message bytes ∷ others) turns new at all (turn, later, mid, one, are, rest) =
       let first = message_climbs people n old mid bytes turn at one in
-      let next = run_climbs people first.0 mid others later new first.2 all rest in
-      (next.0, omega (arith, first.1, next.1), next.2)
+      let next = run_climbs people first.count mid others later new first.prefix all rest in
+      climbs_to n next.count new.replica.base (omega (arith, first.rises, next.rises)) next.prefix
 
 pub is_a_prefix : IsAPrefix
 is_a_prefix people history n old inputs turns new h at all run =
@@ -224,13 +230,12 @@ module _ {D : Type 0} (G : Ghosts D) (people : People) (region : List ℕ) (end 
       (at_first history) all run_turns in
       let holds = run_holds run.held people first run.followed.inputs run.followed.turns state refl run_turns in
       record {
-        count = climbed.0;
-        prefix = climbed.2;
+        prefix = subst (λ (n : ℕ). IsAt history n state.replica.base) (sym climbed.told) climbed.prefix;
         kept = λ not. subst (λ (w : Held). KeepsOnDisk (Sure w) (G.sight new))
             (holds_kept state.replica.promoted run.held state holds not) run_on_disk;
         promoted = λ was. subst (λ (w : Held). KeepsOnDisk (Sure w) (G.sight new))
             (holds_promoted state.replica.promoted run.held state holds was) run_on_disk;
-        lawful = lawful_at history climbed.0 state.replica.base h climbed.2;
+        lawful = lawful_at history climbed.count state.replica.base h climbed.prefix;
       }
 
 pub runs_leave_prefix : {D : Type 0} (G : Ghosts D) → RunsLeavePrefix G

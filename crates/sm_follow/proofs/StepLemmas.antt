@@ -1,5 +1,5 @@
 -- One step of a replica's stream: what an input came to, and what was written of it.
-use Rattle.std.proofs.Common.{◌≡◌, ℕ, List, [], Option, Some, None, inl, inr, refl, sym, ap, subst, ◌∙◌}
+use Rattle.std.proofs.Common.{◌≡◌, ℕ, List, Option, Some, None, inl, inr, refl, sym, ap, subst, ◌∙◌}
 use Rattle.std.specs.Io.KnownBytes.{append_known}
 use Rattle.sm_base.specs.declared.limits.TheConstants.{JOURNAL_LIMIT}
 use Rattle.sm_disk.specs.Sight.{Sight}

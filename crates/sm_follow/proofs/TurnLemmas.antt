@@ -1,11 +1,9 @@
 -- What a replica does with what it reads.
-use Rattle.std.proofs.Common.{◌≡◌, ◌⊎◌, ◌≤◌, ℕ, max, List, [], ◌∷◌, IsTrue, true, false, Option, None, Some, Result, Ok, Err, inl, inr, refl, sym, ap, subst, ◌∙◌}
-use Rattle.sm_base.specs.Faults.{Rose}
+use Rattle.std.proofs.Common.{◌≡◌, ℕ, max, List, [], IsTrue, true, Option, None, Some, Result, Ok, Err, inl, inr, refl, sym, ap, subst, ◌∙◌}
 use Rattle.sm_base.specs.Outcomes.{OrMemory}
 use Rattle.sm_base.specs.SecretId.{secret_id}
 use Rattle.sm_base.specs.declared.limits.TheConstants.{JOURNAL_LIMIT}
 use Rattle.sm_base.specs.declared.moment.Moment.{Moment}
-use Rattle.sm_disk.specs.Sight.{Image, Sight}
 use Rattle.sm_disk.specs.declared.disk.Disk.{Ghosts}
 use Rattle.sm_frame.specs.declared.frame.Frame.{Frame}
 use Rattle.sm_frames.specs.declared.input.Input.{Input}
@@ -34,21 +32,19 @@ use Rattle.sm_session.specs.declared.said.Said.TheVariants as replies
 use Rattle.sm_sound.specs.Bases.{IsSound}
 use Rattle.sm_store.proofs.BaseStands.{holds_recover}
 use Rattle.sm_store.specs.BaseStores.{IsOpened, disk_of}
-use Rattle.sm_store.specs.Held.{Held, only, Recovered}
+use Rattle.sm_store.specs.Held.{Held, only}
 use Rattle.sm_store.specs.declared.base_store.BaseStore.{BaseStore}
 use Rattle.sm_table.specs.Found.{found}
-use Rattle.sm_follow.specs.declared.end.End.{End}
 use Rattle.sm_follow.specs.declared.end.End.TheVariants as ends
 use Rattle.sm_follow.specs.declared.follower.Follower.{Follower}
 use Rattle.sm_follow.specs.declared.follower.Turned.{Turned}
 use Rattle.sm_follow.specs.declared.follower.Turned.TheVariants as turned
-use Rattle.sm_follow.specs.declared.output.Output.{Output as outputs}
 use Rattle.sm_follow.specs.declared.output.Output.TheVariants as said
-use Rattle.sm_follow.specs.Disks.{ComesBy, ComesTo, IfFails, KeepsOnDisk, Stands, turn_by}
+use Rattle.sm_follow.specs.Disks.{ComesBy, ComesTo, KeepsOnDisk, Stands, turn_by}
 use Rattle.sm_follow.specs.Outputs.{IsReply, IsWritten, Outgoing, Position, Reply}
-use Rattle.sm_follow.specs.Promotions.{PutsBase, StopsPut}
+use Rattle.sm_follow.specs.Promotions.{PutsBase}
 use Rattle.sm_session.specs.Answer.{Asked}
-use Rattle.sm_follow.specs.InputTurns.{Answers, Asks, AsksFor, Goes, Fails, Lacks, Kept, Sure, Either, Onward, PromotesAs, Says, State, StopsUnless, judged_answer, moment_at, old_or_base, promoted_answer, stop_refusal, stopped_by}
+use Rattle.sm_follow.specs.InputTurns.{Answers, Asks, AsksFor, Goes, Fails, Lacks, Sure, Either, Onward, PromotesAs, Says, State, StopsUnless, judged_answer, moment_at, old_or_base, promoted_answer, stop_refusal, stopped_by}
 
 same_answer : (status : ℕ) (body : List ℕ) (a : Answered) → status ≡ a.status → body ≡ a.body
     → reply_of (replies.Reply status body) ≡ a

@@ -1,6 +1,5 @@
 -- A replica beside its disk.
-use Rattle.std.specs.Prelude.{◌≡◌, ◌⊎◌, ◌≤◌, ⊤, false, List, [], ◌++◌, ◌∷◌, ℕ, length, Option, None, Some, Result, Ok, Err}
-use Rattle.std.specs.Io.KnownBytes.{append_known}
+use Rattle.std.specs.Prelude.{◌≡◌, ◌⊎◌, ◌≤◌, ⊤, false, List, [], ℕ}
 use Rattle.sm_base.specs.Faults.{Rose}
 use Rattle.sm_base.specs.declared.limits.TheConstants.{JOURNAL_LIMIT}
 use Rattle.sm_disk.specs.Sight.{Image, Sight}
@@ -20,7 +19,7 @@ use Rattle.sm_follow.specs.declared.follower.Turned.{Turned}
 use Rattle.sm_follow.specs.declared.follower.Turned.TheVariants as turned
 use Rattle.sm_follow.specs.Outputs.{Outgoing, IsWritten}
 use Rattle.sm_follow.specs.Streams.{Around, Followed}
-use Rattle.sm_follow.specs.InputTurns.{State, Kept, Sure, Either, Onward, Goes, Fails, Lacks, InputTurn, InputTurnOf, kept_of}
+use Rattle.sm_follow.specs.InputTurns.{State, Kept, Sure, Either, Onward, Goes, Fails, Lacks, InputTurnOf, kept_of}
 
 -- each image of the disk recovers to what is kept
 abbrev pub KeepsOnDisk : Kept → Sight → Type 0

@@ -7,6 +7,7 @@ use Rattle.sm_frames.specs.declared.input.Input.TheVariants as read
 use Rattle.sm_model.specs.declared.entry.Entry.{Entry}
 use Rattle.sm_opening.specs.Lawful.{IsLawful}
 use Rattle.sm_principal.specs.declared.people.People.{People}
+use Rattle.sm_record.specs.declared.base.Base.{Base}
 use Rattle.sm_replica.specs.Histories.{IsAt, IsHistory}
 use Rattle.sm_replica.specs.Laws.{AllOf}
 use Rattle.sm_store.specs.Held.{Held, only}
@@ -21,13 +22,21 @@ frames_in [] = []
 frames_in (read.Frame frame ∷ others) = frame ∷ frames_in others
 frames_in (read.Message bytes ∷ others) = frames_in others
 
+-- what at least so many first entries of a history make, which the position tells
+pub record Climbs (history : List Entry) (n : ℕ) (base : Base) : Type 0 where
+  pub count : ℕ
+  pub rises : n ≤ count
+  pub prefix : IsAt history count base
+  pub told : base.entries ≡ count
+
 -- Inputs whose frames tell of a primary's history, lost, repeated and in any order, leave a replica that held what so
--- many first entries make with what so many make, and never fewer.
+-- many first entries make with what so many make, and never fewer. The position, which is written after each frame, is
+-- how many.
 abbrev pub IsAPrefix : Type 0
 IsAPrefix = (people : People) (history : List Entry) (n : ℕ) (old : State) (inputs : List Input)
     (turns : List InputTurn) (new : State) → IsHistory history → IsAt history n old.replica.base
     → AllOf history (frames_in inputs) → InputTurnsOf people old inputs turns new
-    → (m : ℕ) × (n ≤ m) × IsAt history m new.replica.base
+    → Climbs history n new.replica.base
 
 -- the disk holds this where the replica was not promoted, and else the replica's base alone
 abbrev pub HoldsBy : Bool → Held → State → Type 0
@@ -40,13 +49,12 @@ KeepsOrPromotes = (people : People) (held : Held) (old : State) (inputs : List I
     (new : State) → HoldsBy old.replica.promoted held old → InputTurnsOf people old inputs turns new
     → HoldsBy new.replica.promoted held new
 
--- Where a run leaves a replica that goes on, and its disk: the replica holds what so many first entries of the history
--- make. Until it was promoted each image of the disk recovers to what the opening took, and from then on to the
--- replica's base alone, which an account may be opened over.
+-- Where a run leaves a replica that goes on, and its disk: the replica holds what the first entries of the history
+-- make, as many as its position says. Until it was promoted each image of the disk recovers to what the opening took,
+-- and from then on to the replica's base alone, which an account may be opened over.
 pub record LeavesPrefix {D : Type 0} (G : Ghosts D) (history : List Entry) (held : Held) (state : State) (new : D)
     : Type 0 where
-  pub count : ℕ
-  pub prefix : IsAt history count state.replica.base
+  pub prefix : IsAt history state.replica.base.entries state.replica.base
   pub kept : state.replica.promoted ≡ false → KeepsOnDisk (Sure held) (G.sight new)
   pub promoted : state.replica.promoted ≡ true → KeepsOnDisk (Sure (only state.replica.base)) (G.sight new)
   pub lawful : IsLawful (only state.replica.base)

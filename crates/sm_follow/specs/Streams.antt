@@ -15,7 +15,7 @@ use Rattle.sm_session.specs.Told.{Growth}
 use Rattle.sm_follow.specs.declared.end.End.{End}
 use Rattle.sm_follow.specs.declared.end.End.TheVariants.{Closed, Cut, Bad, Enough, ReadFault, WriteFault, DiskFault, Memory}
 use Rattle.sm_follow.specs.Outputs.{Outgoing, output_bytes, joined}
-use Rattle.sm_follow.specs.InputTurns.{State, InputTurn, Onward, Goes, Fails, Lacks, Follows, outputs_of, readings_of}
+use Rattle.sm_follow.specs.InputTurns.{State, InputTurn, Onward, Goes, Fails, Follows, outputs_of, readings_of}
 
 -- how many frames are read at most
 abbrev pub frame_limit : ℕ

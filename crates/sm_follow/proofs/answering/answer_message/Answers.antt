@@ -1,12 +1,12 @@
-use Rattle.std.proofs.Common.{◌≡◌, List, ℕ, [], ◌∷◌, Result, Ok, Err, inl, inr, refl, sym, subst}
+use Rattle.std.proofs.Common.{◌≡◌, [], ◌∷◌, Result, Ok, Err, inl, refl, sym, subst}
 use Rattle.sm_frames.specs.declared.input.Input.TheVariants as inputs
 use Rattle.sm_http.specs.Messages.{Message}
 use Rattle.sm_model.specs.declared.why.Why.{Why}
 use Rattle.sm_reply.specs.Shown.{refused}
 use Rattle.sm_session.specs.Answer.{Asked, heard}
 use Rattle.sm_seat_traces.proofs.KnownLemmas.{append_known-nil}
-use Rattle.sm_follow.specs.Disks.{ComesBy, disk_in, turn_by}
-use Rattle.sm_follow.specs.InputTurns.{Answers, AnswersMessage, Asks, Goes, moment_at}
+use Rattle.sm_follow.specs.Disks.{disk_in, turn_by}
+use Rattle.sm_follow.specs.InputTurns.{Answers, Asks, Goes, moment_at}
 use Rattle.sm_follow.proofs.TurnLemmas.{comes_memory, comes_said, comes_to, comes_weaker, unasked_memory}
 use Rattle.sm_follow.proofs.answering.answer_message.Goals as goal
 

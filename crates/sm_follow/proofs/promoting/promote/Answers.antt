@@ -2,14 +2,13 @@ use Rattle.std.proofs.Common.{◌≡◌, IsTrue, inl, inr, true, false, refl, sy
 use Rattle.sm_base.specs.SecretId.{secret_id}
 use Rattle.sm_base.specs.declared.limits.TheConstants.{JOURNAL_LIMIT}
 use Rattle.sm_base.specs.declared.secret_id.SecretId.{SecretId}
-use Rattle.sm_disk.specs.declared.disk.Disk.{Ghosts}
 use Rattle.sm_model.specs.declared.why.Why.TheVariants as whys
 use Rattle.sm_replica.specs.Promoting.{shows}
 use Rattle.sm_replica.specs.Replicas.{Replica}
 use Rattle.sm_reply.specs.Shown.{refused}
 use Rattle.sm_session.specs.Replies.{Says}
 use Rattle.sm_table.specs.Found.{found}
-use Rattle.sm_follow.specs.Disks.{KeepsOnDisk, Stands, disk_in}
+use Rattle.sm_follow.specs.Disks.{KeepsOnDisk, disk_in}
 use Rattle.sm_follow.specs.InputTurns.{PromotesAs, Sure, Lacks, promoted_answer}
 use Rattle.sm_follow.proofs.TurnLemmas.{comes_said, keeps_opened, put_comes, written_memory}
 use Rattle.sm_follow.proofs.promoting.promote.Goals as goal

@@ -1,10 +1,10 @@
-use Rattle.std.proofs.Common.{◌≡◌, Option, None, Some, refl, sym, ap, subst, ◌∙◌}
+use Rattle.std.proofs.Common.{◌≡◌, Option, None, Some, sym, ap, subst, ◌∙◌}
 use Rattle.sm_model.specs.declared.why.Why.{Why}
 use Rattle.sm_replica.specs.Replicas.{Replica}
 use Rattle.sm_reply.specs.Shown.{refused}
 use Rattle.sm_session.specs.Answer.{Asked}
 use Rattle.sm_follow.specs.Disks.{ComesBy, disk_in}
-use Rattle.sm_follow.specs.InputTurns.{Goes, State, StopsUnless, stop_refusal}
+use Rattle.sm_follow.specs.InputTurns.{Goes, StopsUnless, stop_refusal}
 use Rattle.sm_follow.proofs.TurnLemmas.{comes_memory, comes_said, stops_lacking}
 use Rattle.sm_follow.proofs.promoting.stop_replication.Goals as goal
 
