@@ -86,12 +86,12 @@ impl Hall {
         self.came.notify_all();
     }
 
-    /// Whether a connection waits for which no door was promised yet.
+    /// Whether a connection waits for which no worker was promised yet.
     pub fn is_wanted(&self) -> bool {
         self.is_waiting.load(Ordering::SeqCst)
     }
 
-    /// Whether a connection waits for which no door was promised yet. The one who asks promises its own by that.
+    /// Whether a connection waits for which no worker was promised yet. The one who asks promises its own by that.
     pub fn promise(&self) -> bool {
         self.is_waiting.swap(false, Ordering::SeqCst)
     }

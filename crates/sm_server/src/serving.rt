@@ -37,8 +37,8 @@ pub enum RanBy<A, D> {
 pub type Ran<D: Disk, R: Rotator> = RanBy<Account<D, R>, D>;
 
 /// Follows the words of a command line: reads the text of the people who may ask, opens the account of the disk, and
-/// runs all workers in threads of their own, until no door has a connection left and no rotation worker anything to do.
-/// The witness is told what was opened.
+/// runs all workers in threads of their own, until no connection worker has a connection left and no rotation worker
+/// anything to do. The witness is told what was opened.
 pub fn run_server<
     E: Edge<ConnEnd> + Send,
     C: Clock + Send,
