@@ -8,142 +8,72 @@ use sm_http::Message;
 use std::alloc::Global;
 use std::test::Fail;
 
-/// What the message of a number at a place is.
-type Row = (u64, &'static str);
+/// What a message asks for: a secret by its number, and its value. A creation and a put have a token of their place.
+#[derive(Clone, Copy)]
+enum Asked {
+    Create(u64, &'static str),
+    Put(u64, &'static str),
+    Get(u64),
+}
+
+/// What the message of a number at a place asks for.
+type Row = (u64, Asked);
 
 /// A number, and rows of its places, which ascend.
 static MADE: [(u64, &[Row]); 4] = [
-    (
-        0,
-        &[(
-            0,
-            "POST / secretsmanager.CreateSecret \
-                 {\"ClientRequestToken\":\"drill-token-00000000000000000000\",\
-                 \"Name\":\"d/0\",\"SecretString\":\"2fef003e\"}",
-        )],
-    ),
+    (0, &[(0, Asked::Create(0, "2fef003e"))]),
     (
         1,
         &[
-            (
-                0,
-                "POST / secretsmanager.CreateSecret \
-                 {\"ClientRequestToken\":\"drill-token-00000000000000000000\",\
-                 \"Name\":\"d/0\",\"SecretString\":\"a0e95ecf\"}",
-            ),
-            (
-                5,
-                "POST / secretsmanager.CreateSecret \
-                 {\"ClientRequestToken\":\"drill-token-00000000000000000005\",\
-                 \"Name\":\"d/5\",\"SecretString\":\"cc5a63ee\"}",
-            ),
-            (
-                16,
-                "POST / secretsmanager.CreateSecret \
-                 {\"ClientRequestToken\":\"drill-token-00000000000000000016\",\
-                 \"Name\":\"d/16\",\"SecretString\":\"7d5a35b4\"}",
-            ),
-            (
-                31,
-                "POST / secretsmanager.CreateSecret \
-                 {\"ClientRequestToken\":\"drill-token-00000000000000000031\",\
-                 \"Name\":\"d/31\",\"SecretString\":\"b4c07832\"}",
-            ),
+            (0, Asked::Create(0, "a0e95ecf")),
+            (5, Asked::Create(5, "cc5a63ee")),
+            (16, Asked::Create(16, "7d5a35b4")),
+            (31, Asked::Create(31, "b4c07832")),
         ],
     ),
     (
         18446744073709551615,
         &[
-            (
-                0,
-                "POST / secretsmanager.CreateSecret \
-                 {\"ClientRequestToken\":\"drill-token-00000000000000000000\",\
-                 \"Name\":\"d/0\",\"SecretString\":\"227148c7\"}",
-            ),
-            (
-                63,
-                "POST / secretsmanager.CreateSecret \
-                 {\"ClientRequestToken\":\"drill-token-00000000000000000063\",\
-                 \"Name\":\"d/63\",\"SecretString\":\"04f55077\"}",
-            ),
-            (
-                64,
-                "POST / secretsmanager.CreateSecret \
-                 {\"ClientRequestToken\":\"drill-token-00000000000000000064\",\
-                 \"Name\":\"d/64\",\"SecretString\":\"e1b100dc\"}",
-            ),
-            (
-                2063,
-                "POST / secretsmanager.PutSecretValue \
-                 {\"ClientRequestToken\":\"drill-token-00000000000000002063\",\
-                 \"SecretId\":\"d/126\",\"SecretString\":\"f3794c7e\"}",
-            ),
+            (0, Asked::Create(0, "227148c7")),
+            (63, Asked::Create(63, "04f55077")),
+            (64, Asked::Create(64, "e1b100dc")),
+            (2063, Asked::Put(126, "f3794c7e")),
         ],
     ),
     (
         7,
         &[
-            (
-                0,
-                "POST / secretsmanager.CreateSecret \
-                 {\"ClientRequestToken\":\"drill-token-00000000000000000000\",\
-                 \"Name\":\"d/0\",\"SecretString\":\"2c44ba73\"}",
-            ),
-            (
-                1,
-                "POST / secretsmanager.CreateSecret \
-                 {\"ClientRequestToken\":\"drill-token-00000000000000000001\",\
-                 \"Name\":\"d/1\",\"SecretString\":\"c39ca672\"}",
-            ),
-            (
-                1999,
-                "POST / secretsmanager.CreateSecret \
-                 {\"ClientRequestToken\":\"drill-token-00000000000000001999\",\
-                 \"Name\":\"d/1999\",\"SecretString\":\"d5363f03\"}",
-            ),
-            (
-                2000,
-                "POST / secretsmanager.PutSecretValue \
-                 {\"ClientRequestToken\":\"drill-token-00000000000000002000\",\
-                 \"SecretId\":\"d/1\",\"SecretString\":\"be8af645\"}",
-            ),
-            (
-                2001,
-                "POST / secretsmanager.PutSecretValue \
-                 {\"ClientRequestToken\":\"drill-token-00000000000000002001\",\
-                 \"SecretId\":\"d/3\",\"SecretString\":\"508acf5d\"}",
-            ),
-            (
-                2999,
-                "POST / secretsmanager.PutSecretValue \
-                 {\"ClientRequestToken\":\"drill-token-00000000000000002999\",\
-                 \"SecretId\":\"d/1998\",\"SecretString\":\"30350d96\"}",
-            ),
-            (
-                3000,
-                "POST / secretsmanager.PutSecretValue \
-                 {\"ClientRequestToken\":\"drill-token-00000000000000003000\",\
-                 \"SecretId\":\"d/0\",\"SecretString\":\"690f29ba\"}",
-            ),
-            (
-                7999,
-                "POST / secretsmanager.PutSecretValue \
-                 {\"ClientRequestToken\":\"drill-token-00000000000000007999\",\
-                 \"SecretId\":\"d/1999\",\"SecretString\":\"8749241d\"}",
-            ),
-            (
-                8000,
-                "POST / secretsmanager.GetSecretValue \
-                 {\"SecretId\":\"d/1864\"}",
-            ),
-            (
-                9999,
-                "POST / secretsmanager.GetSecretValue \
-                 {\"SecretId\":\"d/206\"}",
-            ),
+            (0, Asked::Create(0, "2c44ba73")),
+            (1, Asked::Create(1, "c39ca672")),
+            (1999, Asked::Create(1999, "d5363f03")),
+            (2000, Asked::Put(1, "be8af645")),
+            (2001, Asked::Put(3, "508acf5d")),
+            (2999, Asked::Put(1998, "30350d96")),
+            (3000, Asked::Put(0, "690f29ba")),
+            (7999, Asked::Put(1999, "8749241d")),
+            (8000, Asked::Get(1864)),
+            (9999, Asked::Get(206)),
         ],
     ),
 ];
+
+/// The message of a row, as it is shown.
+fn line_of(alloc: Global, at: u64, asked: Asked) -> Result<String, NoMemory> {
+    let line = match asked {
+        Asked::Create(secret, value) => format!(in alloc;
+            "POST / secretsmanager.CreateSecret {{\"ClientRequestToken\":\"drill-token-{at:020}\",\
+             \"Name\":\"d/{secret}\",\"SecretString\":\"{value}\"}}"
+        )?,
+        Asked::Put(secret, value) => format!(in alloc;
+            "POST / secretsmanager.PutSecretValue {{\"ClientRequestToken\":\"drill-token-{at:020}\",\
+             \"SecretId\":\"d/{secret}\",\"SecretString\":\"{value}\"}}"
+        )?,
+        Asked::Get(secret) => format!(in alloc;
+            "POST / secretsmanager.GetSecretValue {{\"SecretId\":\"d/{secret}\"}}"
+        )?,
+    };
+    Ok(line)
+}
 
 #[test]
 fn messages_are_those_of_their_words(rt: HostRuntime) -> Result<(), Fail> {
@@ -163,9 +93,9 @@ fn first_other(alloc: Global, number: u64, rows: &[Row]) -> Result<Option<u64>, 
             return Ok(None);
         }
         let message = drill.next(alloc)?;
-        let (place, wanted) = rows[row];
+        let (place, asked) = rows[row];
         if at == place {
-            if !is_shown(alloc, &message, wanted)? {
+            if !is_shown(alloc, &message, line_of(alloc, place, asked)?.as_str())? {
                 return Ok(Some(place));
             }
             row += 1;

@@ -1,8 +1,10 @@
 //! What the disk that gathers answers, which calls it makes below, and what a crash leaves.
-use crate::steps::{Shown, Step, compare, fails_of, new_disk, run_all, show_crashes};
+use crate::steps::{Step, compare, run_all};
 use sm_base::Fails;
 use sm_disk::{Disk, MemoryDisk};
 use sm_gather::Gathered;
+use sm_memory_fixtures::fails::fails_of;
+use sm_memory_fixtures::shown::{Shown, new_disk, show_crashes};
 use std::alloc::Global;
 use std::test::Fail;
 
@@ -187,7 +189,7 @@ fn calls_are_gathered(rt: HostRuntime) -> Result<(), Fail> {
     let alloc = rt.alloc();
     for row in &ROWS {
         let mut shown = Vec::new(alloc);
-        let disk = new_disk(alloc, fails_of(alloc, row.fails)?)?;
+        let disk = new_disk(alloc, fails_of(alloc, row.fails, None)?)?;
         show_gathered(alloc, disk, row.steps, &mut shown)?;
         compare(&rt, row.name, shown.as_slice(), row.wanted);
     }

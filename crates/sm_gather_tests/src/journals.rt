@@ -2,10 +2,12 @@
 ghost use Rattle.std.specs.Prelude.{◌≡◌, [], false, OnOk};
 ghost use Rattle.sm_journal.specs.Freshes.{IsBegun, has_failed};
 
-use sm_base::{Bytes, Fails, List, NoMemory};
+use sm_base::NoMemory;
 use sm_disk::{Disk, DiskFailed, MemoryDisk};
 use sm_gather::Gathered;
 use sm_journal::{Appended, Format, Fresh, Journal};
+use sm_memory_fixtures::disks::disk_of;
+use sm_memory_fixtures::fails::fails_from;
 use std::alloc::Global;
 use std::test::Fail;
 
@@ -14,17 +16,7 @@ const MOST: u64 = 64;
 
 /// A disk whose files are empty, and whose calls from this one on fail.
 fn disk_until(alloc: Global, from: u64) -> Result<MemoryDisk, NoMemory> {
-    let fails = Fails {
-        calls: List::empty(alloc),
-        from: Some(from),
-    };
-    MemoryDisk::new(
-        alloc,
-        Bytes::empty(alloc),
-        Bytes::empty(alloc),
-        Bytes::empty(alloc),
-        fails,
-    )
+    disk_of(alloc, b"", fails_from(alloc, Some(from)))
 }
 
 /// Opens a new journal on the disk and adds so many records, and says whether all of it succeeded.

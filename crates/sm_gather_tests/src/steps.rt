@@ -2,14 +2,11 @@
 ghost use Rattle.std.specs.Prelude.{◌≡◌, ◌<◌, ◌≤◌, IfOk, length};
 ghost use Rattle.sm_disk.specs.Sight.{Image};
 
-use sm_base::{Bytes, Fails, List, NoMemory};
-use sm_disk::{Disk, DiskFailed, MemoryDisk};
-use std::alloc::{AllocError, Global};
+use sm_disk::{Disk, DiskFailed};
+use sm_memory_fixtures::shown::{Shown, write};
+use std::alloc::Global;
 use std::process::Abort;
 use std::test::Fail;
-
-/// What came so far.
-pub type Shown = Vec<u8>;
 
 /// A step of a table. Each asks for the length of the file first, which is a call too.
 pub enum Step {
@@ -32,21 +29,6 @@ pub enum Step {
 /// Compares what came of a row.
 pub fn compare(rt: &impl Abort, name: &str, came: &[u8], wanted: &[u8]) {
     assert!(rt; came == wanted, "{name}: {came:?}, not {wanted:?}");
-}
-
-/// A disk whose file 0 holds `abcdef` and file 1 `xyz`.
-pub fn new_disk(alloc: Global, fails: Fails) -> Result<MemoryDisk, NoMemory> {
-    let journal_0 = Bytes::from_slice(alloc, b"abcdef")?;
-    let journal_1 = Bytes::from_slice(alloc, b"xyz")?;
-    MemoryDisk::new(alloc, journal_0, journal_1, Bytes::empty(alloc), fails)
-}
-
-/// The calls that are told to fail.
-pub fn fails_of(alloc: Global, calls: &[u64]) -> Result<Fails, AllocError> {
-    Ok(Fails {
-        calls: List::new(Vec::from_slice(alloc, calls)?),
-        from: None,
-    })
 }
 
 /// Writes pieces at the end of a file, and gives where that was.
@@ -79,16 +61,6 @@ fn rewrite<D: Disk>(disk: &mut D, file: u8, pieces: &[&[u8]]) -> Result<(), Disk
         at = next;
     }
     Ok(())
-}
-
-/// Writes where the place is within the file.
-fn write<D: Disk>(disk: &mut D, file: u8, at: u64, piece: &[u8]) -> Result<(), DiskFailed>
-    requires { file < 3 }
-{
-    if disk.length(file)? < at {
-        return Ok(());
-    }
-    disk.write_at(file, at, piece)
 }
 
 /// Writes pieces at the end of a file, tries a sync, and cuts them off again.
@@ -164,24 +136,6 @@ pub fn run_all<D: Disk>(
 ) -> Result<(), Fail> {
     for step in steps {
         run(alloc, disk, step, shown)?;
-    }
-    Ok(())
-}
-
-/// Shows what a crash with this fill leaves of the two files.
-fn show_crash(alloc: Global, disk: &MemoryDisk, fill: u8, shown: &mut Shown) -> Result<(), Fail> {
-    let mut left = disk.crash(fill)?;
-    for file in 0..2u8 {
-        shown.push(b' ')?;
-        look(alloc, &mut left, file, shown)?;
-    }
-    Ok(())
-}
-
-/// Shows what crashes with the fills 0, 1 and 7 leave of the two files.
-pub fn show_crashes(alloc: Global, disk: &MemoryDisk, shown: &mut Shown) -> Result<(), Fail> {
-    for fill in [0, 1, 7] {
-        show_crash(alloc, disk, fill, shown)?;
     }
     Ok(())
 }

@@ -1,9 +1,10 @@
 //! The images that a disk in memory gives for each fill, and a call that is told to fail.
 ghost use Rattle.std.specs.Prelude.{◌<◌};
 
-use crate::rows::{Shown, compare};
-use sm_base::{Bytes, Fails, List, NoMemory};
-use sm_disk::{Disk, DiskFailed, MemoryDisk, QuietDisk};
+use crate::rows::compare;
+use sm_disk::{Disk, DiskFailed, QuietDisk};
+use sm_memory_fixtures::fails::fails_of;
+use sm_memory_fixtures::shown::{Shown, new_disk, show_crashes, write};
 use std::alloc::Global;
 use std::test::Fail;
 
@@ -83,26 +84,6 @@ const ROWS: [Row; 8] = [
     },
 ];
 
-fn new_disk(alloc: Global, fails: &[u64]) -> Result<MemoryDisk, NoMemory> {
-    let journal_0 = Bytes::from_slice(alloc, b"abcdef")?;
-    let journal_1 = Bytes::from_slice(alloc, b"xyz")?;
-    let fails = Fails {
-        calls: List::new(Vec::from_slice(alloc, fails)?),
-        from: None,
-    };
-    MemoryDisk::new(alloc, journal_0, journal_1, Bytes::empty(alloc), fails)
-}
-
-/// Writes where the place is within the file.
-fn write<D: Disk>(disk: &mut D, file: u8, at: u64, piece: &[u8]) -> Result<(), DiskFailed>
-    requires { file < 3 }
-{
-    if disk.length(file)? < at {
-        return Ok(());
-    }
-    disk.write_at(file, at, piece)
-}
-
 /// Cuts where the end is within the file.
 fn cut<D: Disk>(disk: &mut D, file: u8, end: u64) -> Result<(), DiskFailed>
     requires { file < 3 }
@@ -111,30 +92,6 @@ fn cut<D: Disk>(disk: &mut D, file: u8, end: u64) -> Result<(), DiskFailed>
         return Ok(());
     }
     disk.cut(file, end)
-}
-
-/// What a file holds.
-pub fn content<D: Disk>(alloc: Global, disk: &mut D, file: u8) -> Result<Vec<u8>, Fail>
-    requires { file < 3 }
-{
-    let length = disk.length(file)?;
-    let mut bytes = vec![in alloc; 0u8; length as usize]?;
-    disk.read(file, 0, bytes.as_mut_slice())?;
-    Ok(bytes)
-}
-
-/// Shows what a file holds.
-pub fn show_content<D: Disk>(
-    alloc: Global,
-    disk: &mut D,
-    file: u8,
-    shown: &mut Shown,
-) -> Result<(), Fail>
-    requires { file < 3 }
-{
-    let bytes = content(alloc, disk, file)?;
-    shown.extend_from_slice(bytes.as_slice())?;
-    Ok(())
 }
 
 fn run<D: Disk>(disk: &mut D, step: &Step) -> Result<(), DiskFailed> {
@@ -157,31 +114,9 @@ fn faults<D: Disk>(disk: &mut D, steps: &[Step]) -> u8 {
     b'0' + faults % 10
 }
 
-/// Shows what the two files hold.
-fn show_files(alloc: Global, disk: &mut MemoryDisk, shown: &mut Shown) -> Result<(), Fail> {
-    for file in 0..2u8 {
-        shown.push(b' ')?;
-        show_content(alloc, disk, file, shown)?;
-    }
-    Ok(())
-}
-
-/// Shows what a crash with this fill leaves of the two files.
-fn show_crash(alloc: Global, disk: &MemoryDisk, fill: u8, shown: &mut Shown) -> Result<(), Fail> {
-    show_files(alloc, &mut disk.crash(fill)?, shown)
-}
-
-/// Shows what each fill leaves of the two files.
-fn show_crashes(alloc: Global, disk: &MemoryDisk, shown: &mut Shown) -> Result<(), Fail> {
-    for fill in [0, 1, 7] {
-        show_crash(alloc, disk, fill, shown)?;
-    }
-    Ok(())
-}
-
 /// Shows the faults of a row, and what its crashes leave.
 fn show_row(alloc: Global, row: &Row, shown: &mut Shown) -> Result<(), Fail> {
-    let mut disk = new_disk(alloc, row.fails)?;
+    let mut disk = new_disk(alloc, fails_of(alloc, row.fails, None)?)?;
     shown.push(faults(&mut disk, row.steps))?;
     show_crashes(alloc, &disk, shown)
 }

@@ -2,9 +2,10 @@
 //! connection what it gives and takes.
 use crate::fakes::FlakyListener;
 use crate::forms::{put_once, read, second};
-use crate::rows::{Shown, compare};
+use crate::rows::compare;
 use sm_base::{Bytes, Fails, List, NoMemory};
 use sm_io::{Accepted, Conn, Edge, ListenerEdge, MemoryConn, MemoryEdge, MemorySink, MemorySource};
+use sm_memory_fixtures::shown::Shown;
 use std::alloc::Global;
 use std::sync::atomic::AtomicU64;
 use std::test::Fail;

@@ -1,7 +1,7 @@
 //! A disk over a folder of the system.
-use crate::disks::show_content;
-use crate::rows::{Shown, compare};
+use crate::rows::compare;
 use sm_disk::{Disk, DiskFailed, FileDisk, FolderRefused};
+use sm_memory_fixtures::shown::{Shown, show_content};
 use std::alloc::{AllocError, Global};
 use std::fs;
 use std::os::unix::fs::{MetadataExt, symlink};

@@ -1,6 +1,6 @@
 //! Sources, sinks, words and clocks.
 use crate::fakes::{FlakyReader, FlakyWriter, SetClock, Sevens};
-use crate::rows::{Shown, compare};
+use crate::rows::compare;
 use sm_base::moment::LAST_READING;
 use sm_base::{Bytes, Fails, List, Moment, NoMemory};
 use sm_io::{
@@ -8,6 +8,8 @@ use sm_io::{
     QuietSink, ReadEnd, Sink, Source, StreamSink, StreamSource, SystemClock, SystemRandom, Words,
     Wrote, put_all, read_to,
 };
+use sm_memory_fixtures::fails::fails_of;
+use sm_memory_fixtures::shown::Shown;
 use std::alloc::Global;
 use std::fs;
 use std::sync::atomic::AtomicU64;
@@ -135,10 +137,7 @@ const ROWS: [Row; 24] = [
 
 /// The second call is told to fail.
 pub fn second(alloc: Global) -> Result<Fails, NoMemory> {
-    Ok(Fails {
-        calls: List::new(Vec::from_slice(alloc, &[2])?),
-        from: None,
-    })
+    fails_of(alloc, &[2], None)
 }
 
 pub fn read<S: Source>(

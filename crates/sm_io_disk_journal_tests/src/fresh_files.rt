@@ -3,11 +3,13 @@ ghost use Rattle.std.specs.Prelude.{◌≡◌, ◌∷◌, [], false, OnOk};
 ghost use Rattle.sm_journal.specs.Freshes.{IsBegun};
 ghost use Rattle.sm_journal.specs.Journals.{file_of, is_unsure};
 
-use crate::disks::content;
 use crate::rows::compare;
-use sm_base::{Bytes, Fails, List, NoMemory};
+use sm_base::{Bytes, Fails, NoMemory};
 use sm_disk::{DiskFailed, MemoryDisk};
 use sm_journal::{Damage, Format, Fresh, Journal, OpenRefused, Records, named_file};
+use sm_memory_fixtures::failing::{Trial, first_loss};
+use sm_memory_fixtures::fails::fails_at;
+use sm_memory_fixtures::shown::content;
 use std::alloc::Global;
 use std::test::Fail;
 
@@ -116,49 +118,26 @@ fn recovered(alloc: Global, mut disk: MemoryDisk) -> Came {
     }
 }
 
-fn fails(alloc: Global, call: u64, later: bool) -> Result<Fails, Fail> {
-    let calls = List::new(Vec::from_slice(alloc, &[call])?);
-    let from = if later { Some(call) } else { None };
-    Ok(Fails { calls, from })
-}
+/// A switch, of which a crash leaves one of the two, and the new one where the switch was done.
+struct NewFile;
 
-/// Whether a crash with this fill leaves one of the two, and the new one where the switch was done.
-fn is_one(alloc: Global, left: &Left, fill: u8) -> Result<bool, Fail> {
-    let came = recovered(alloc, left.disk.crash(fill)?);
-    Ok(came == Came::New || came == Came::Old && !left.done)
-}
+impl Trial for NewFile {
+    type Left = Left;
 
-/// The first fill where a crash leaves something else.
-fn lost_after(alloc: Global, left: &Left) -> Result<Option<u8>, Fail> {
-    for fill in [0, 1, 7] {
-        if !is_one(alloc, left, fill)? {
-            return Ok(Some(fill));
-        }
+    fn run(&self, alloc: Global, call: u64, later: bool) -> Result<Left, Fail> {
+        let disk = disk_before(alloc, fails_at(alloc, call, later)?)?;
+        Ok(switch(disk))
     }
-    Ok(None)
-}
 
-/// The first fill where a crash after a switch with this fault leaves something else.
-fn lost_by_fault(alloc: Global, call: u64, later: bool) -> Result<Option<u8>, Fail> {
-    let disk = disk_before(alloc, fails(alloc, call, later)?)?;
-    lost_after(alloc, &switch(disk))
-}
-
-/// The first call, whether later calls fail too, and the first fill, where a crash leaves something else.
-fn lost_in_a_switch(alloc: Global) -> Result<Option<(u64, bool, u8)>, Fail> {
-    for call in 1..=14u64 {
-        for later in [false, true] {
-            if let Some(fill) = lost_by_fault(alloc, call, later)? {
-                return Ok(Some((call, later, fill)));
-            }
-        }
+    fn is_kept(&self, alloc: Global, left: &Left, fill: u8) -> Result<bool, Fail> {
+        let came = recovered(alloc, left.disk.crash(fill)?);
+        Ok(came == Came::New || came == Came::Old && !left.done)
     }
-    Ok(None)
 }
 
 #[test]
 fn a_switch_leaves_one_of_two_files(rt: HostRuntime) -> Result<(), Fail> {
-    assert_eq!(rt; lost_in_a_switch(rt.alloc())?, None);
+    assert_eq!(rt; first_loss(rt.alloc(), &NewFile, 14)?, None);
     Ok(())
 }
 

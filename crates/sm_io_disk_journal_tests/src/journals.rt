@@ -1,9 +1,12 @@
 //! A journal's worked bytes, its limits, and each device call failing in turn.
-use crate::disks::content;
 use crate::rows::compare;
-use sm_base::{Bytes, Fails, List, NoMemory};
+use sm_base::{Fails, NoMemory};
 use sm_disk::{Disk, MemoryDisk};
 use sm_journal::{Appended, Damage, Format, Journal, OpenRefused, Records};
+use sm_memory_fixtures::disks::disk_of;
+use sm_memory_fixtures::failing::{Trial, first_loss};
+use sm_memory_fixtures::fails::fails_at;
+use sm_memory_fixtures::shown::content;
 use std::alloc::{AllocError, Global};
 use std::test::Fail;
 
@@ -107,17 +110,6 @@ const CASES: [Case; 10] = [
         found: Found::Damaged(Damage { at: 8, entry: 0 }),
     },
 ];
-
-fn disk_of(alloc: Global, bytes: &[u8], fails: Fails) -> Result<MemoryDisk, NoMemory> {
-    let journal_0 = Bytes::from_slice(alloc, bytes)?;
-    MemoryDisk::new(
-        alloc,
-        journal_0,
-        Bytes::empty(alloc),
-        Bytes::empty(alloc),
-        fails,
-    )
-}
 
 /// A disk with the first bytes of that journal, with this byte at a place.
 fn disk_with(alloc: Global, length: usize, place: usize, byte: u8) -> Result<MemoryDisk, NoMemory> {
@@ -372,91 +364,49 @@ fn count(alloc: Global, disk: MemoryDisk) -> Option<usize> {
     }
 }
 
-fn fails(alloc: Global, call: u64, later: bool) -> Result<Fails, Fail> {
-    let calls = List::new(Vec::from_slice(alloc, &[call])?);
-    let from = if later { Some(call) } else { None };
-    Ok(Fails { calls, from })
-}
+/// A run over an empty disk.
+struct NewJournal;
 
-/// Whether a crash with this fill leaves what the run may leave.
-fn is_kept(alloc: Global, left: &Left, fill: u8) -> Result<bool, Fail> {
-    let found = count(alloc, left.disk.crash(fill)?);
-    Ok(found == Some(left.kept) || left.unsure && found == left.kept.checked_add(1))
-}
+impl Trial for NewJournal {
+    type Left = Left;
 
-/// The first fill where a crash leaves something else than the run may leave.
-fn lost_after(alloc: Global, left: &Left) -> Result<Option<u8>, Fail> {
-    for fill in [0, 1, 7] {
-        if !is_kept(alloc, left, fill)? {
-            return Ok(Some(fill));
-        }
+    fn run(&self, alloc: Global, call: u64, later: bool) -> Result<Left, Fail> {
+        let disk = disk_of(alloc, b"", fails_at(alloc, call, later)?)?;
+        Ok(run(alloc, disk))
     }
-    Ok(None)
-}
 
-/// The first fill where a crash after a run with this fault leaves something else than the run may leave.
-fn lost_by_fault(alloc: Global, call: u64, later: bool) -> Result<Option<u8>, Fail> {
-    let disk = disk_of(alloc, b"", fails(alloc, call, later)?)?;
-    lost_after(alloc, &run(alloc, disk))
-}
-
-/// The first call, whether later calls fail too, and the first fill, where a crash leaves something else than the run
-/// may leave.
-fn lost_in_a_run(alloc: Global) -> Result<Option<(u64, bool, u8)>, Fail> {
-    for call in 1..=30u64 {
-        for later in [false, true] {
-            if let Some(fill) = lost_by_fault(alloc, call, later)? {
-                return Ok(Some((call, later, fill)));
-            }
-        }
+    fn is_kept(&self, alloc: Global, left: &Left, fill: u8) -> Result<bool, Fail> {
+        let found = count(alloc, left.disk.crash(fill)?);
+        Ok(found == Some(left.kept) || left.unsure && found == left.kept.checked_add(1))
     }
-    Ok(None)
 }
 
-/// Whether a crash with this fill leaves the one record of the worked bytes.
-fn is_whole(alloc: Global, disk: &MemoryDisk, fill: u8) -> Result<bool, Fail> {
-    let (found, _) = find(alloc, disk.crash(fill)?);
-    Ok(found == Found::Records(1, 36))
-}
+/// An opening over the worked bytes and a torn record behind them: each crash leaves the one record.
+struct TornJournal;
 
-/// The worked bytes, and a torn record behind them, on a disk that fails from this call on.
-fn torn_disk(alloc: Global, call: u64) -> Result<MemoryDisk, Fail> {
-    let mut bytes = [0u8; 41];
-    bytes[..36].copy_from_slice(&WHOLE);
-    bytes[36..].copy_from_slice(b"\x01junk");
-    let fails = fails(alloc, call, true)?;
-    Ok(disk_of(alloc, &bytes, fails)?)
-}
+impl Trial for TornJournal {
+    type Left = MemoryDisk;
 
-/// The first fill where a crash leaves something else than the one record.
-fn broken_after(alloc: Global, disk: &MemoryDisk) -> Result<Option<u8>, Fail> {
-    for fill in [0, 1, 7] {
-        if !is_whole(alloc, disk, fill)? {
-            return Ok(Some(fill));
-        }
+    fn run(&self, alloc: Global, call: u64, later: bool) -> Result<MemoryDisk, Fail> {
+        let mut bytes = [0u8; 41];
+        bytes[..36].copy_from_slice(&WHOLE);
+        bytes[36..].copy_from_slice(b"\x01junk");
+        let (_, disk) = find(
+            alloc,
+            disk_of(alloc, &bytes, fails_at(alloc, call, later)?)?,
+        );
+        Ok(disk)
     }
-    Ok(None)
-}
 
-/// The first fill where a crash, after an opening with this fault, leaves something else than the one record.
-fn broken_by_fault(alloc: Global, call: u64) -> Result<Option<u8>, Fail> {
-    let (_, disk) = find(alloc, torn_disk(alloc, call)?);
-    broken_after(alloc, &disk)
-}
-
-/// The first call and fill, where a crash in an opening leaves something else than the one record.
-fn lost_at_opening(alloc: Global) -> Result<Option<(u64, u8)>, Fail> {
-    for call in 1..=6u64 {
-        if let Some(fill) = broken_by_fault(alloc, call)? {
-            return Ok(Some((call, fill)));
-        }
+    fn is_kept(&self, alloc: Global, left: &MemoryDisk, fill: u8) -> Result<bool, Fail> {
+        let (found, _) = find(alloc, left.crash(fill)?);
+        Ok(found == Found::Records(1, 36))
     }
-    Ok(None)
 }
 
 #[test]
 fn each_call_fails_in_turn(rt: HostRuntime) -> Result<(), Fail> {
-    assert_eq!(rt; lost_in_a_run(rt.alloc())?, None);
-    assert_eq!(rt; lost_at_opening(rt.alloc())?, None);
+    assert_eq!(rt; first_loss(rt.alloc(), &NewJournal, 30)?, None);
+    assert_eq!(rt; first_loss(rt.alloc(), &TornJournal, 6)?, None);
     Ok(())
 }

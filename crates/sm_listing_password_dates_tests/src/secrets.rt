@@ -4,10 +4,8 @@ ghost use Rattle.std.specs.Prelude.{◌≤◌, IfOk};
 
 use crate::shown::shown;
 use sm_listing::{PageAsk, page};
-use sm_model::{
-    Arn, Filter, List, Moment, Name, NoMemory, ReadRefused, Rotation, Rows, SecretRow, SharedList,
-    Tag, Text,
-};
+use sm_model::{Filter, List, Moment, NoMemory, ReadRefused, Rows, SecretRow, Tag, Text};
+use sm_model_fixtures::rows::bare_named;
 use std::alloc::Global;
 use std::test::Fail;
 
@@ -164,42 +162,14 @@ fn tags(alloc: Global, given: &[(&'static str, &'static str)]) -> Result<List<Ta
     Ok(tags)
 }
 
-fn names(alloc: Global, name: &str) -> Result<(Name, Arn), ReadRefused> {
-    let name = Name::read(alloc, name.as_bytes())?;
-    let arn = Arn::drawn(alloc, &name, b"\x00\x01\x02\x03\x04\x05")?;
-    Ok((name, arn))
-}
-
 /// A secret without versions.
 pub fn row(alloc: Global, given: &Row) -> Result<SecretRow, ReadRefused> {
     let (serial, name, description, pairs, deletion) = given;
-    let tags = tags(alloc, pairs)?;
-    let (name, arn) = names(alloc, name)?;
-    Ok(SecretRow {
-        serial: *serial,
-        arn,
-        name,
-        created: Moment(0),
-        changed: Moment(0),
-        description: description.map(|text| Text::fixed(text)),
-        kms: None,
-        tags,
-        versions: SharedList::empty(alloc),
-        next_version: 0,
-        labels: List::empty(alloc),
-        deletion: deletion.map(|date| Moment(date)),
-        rotation: Rotation {
-            enabled: false,
-            lambda: None,
-            days: None,
-            schedule: None,
-            next: None,
-            last: None,
-        },
-        policy: None,
-        regions: List::empty(alloc),
-        job: None,
-    })
+    let mut row = bare_named(alloc, *serial, name, b"\x00\x01\x02\x03\x04\x05")?;
+    row.description = description.map(|text| Text::fixed(text));
+    row.tags = tags(alloc, pairs)?;
+    row.deletion = deletion.map(|date| Moment(date));
+    Ok(row)
 }
 
 fn rows(alloc: Global) -> Result<Rows, ReadRefused> {

@@ -2,10 +2,11 @@
 ghost use Rattle.std.specs.Prelude.{◌≤◌};
 ghost use Rattle.sm_base.specs.declared.limits.TheConstants.{JOURNAL_LIMIT};
 
-use crate::files::{disk_of, fails_at};
+use crate::files::disk_of;
 use sm_base::Fails;
 use sm_base::limits::JOURNAL_LIMIT;
 use sm_disk::MemoryDisk;
+use sm_memory_fixtures::fails::fails_at;
 use sm_opening::{OpenRefused, Opened, open};
 use std::alloc::Global;
 use std::test::Fail;

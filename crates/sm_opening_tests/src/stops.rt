@@ -1,6 +1,8 @@
 //! Openings of which each device call fails in turn: whatever a crash leaves, it makes the same state.
-use crate::files::{disk_of, fails_at};
+use crate::files::disk_of;
 use sm_disk::MemoryDisk;
+use sm_memory_fixtures::failing::{Trial, first_loss};
+use sm_memory_fixtures::fails::fails_at;
 use sm_opening::{OpenRefused, Opened, open};
 use std::alloc::Global;
 use std::test::Fail;
@@ -11,13 +13,16 @@ const LIMIT: u64 = 100_000;
 /// More calls than an opening makes of a disk.
 const CALLS: u64 = 40;
 
-/// Files, and the state that each makes: how many entries were made, the moment of the last one, and how many secrets
-/// there are. An opening puts a base in the place of each.
-const STATES: [(&str, &str); 4] = [
-    ("1.", "0 0 0"),
-    ("1uQDD", "9 1700000009 1"),
-    ("2*d1001", "1001 1700000009 0"),
-    ("2uqe*d1000", "1008 1700000009 1"),
+/// A file, and the state that it makes: how many entries were made, the moment of the last one, and how many secrets
+/// there are.
+struct State(&'static str, &'static str);
+
+/// An opening puts a base in the place of each.
+const STATES: [State; 4] = [
+    State("1.", "0 0 0"),
+    State("1uQDD", "9 1700000009 1"),
+    State("2*d1001", "1001 1700000009 0"),
+    State("2uqe*d1000", "1008 1700000009 1"),
 ];
 
 /// The disk that an opening leaves.
@@ -42,39 +47,24 @@ fn state_of(alloc: Global, disk: MemoryDisk) -> Result<String, Fail> {
     }
 }
 
-/// The first fill where a crash behind the opening of this file with this fault leaves another state.
-fn lost_by_fault(
-    alloc: Global,
-    file: &str,
-    state: &str,
-    call: u64,
-    later: bool,
-) -> Result<Option<u8>, Fail> {
-    let left = left_by(alloc, disk_of(alloc, file, fails_at(alloc, call, later)?)?);
-    for fill in [0, 1, 7] {
-        if state_of(alloc, left.crash(fill)?)?.as_str() != state {
-            return Ok(Some(fill));
-        }
-    }
-    Ok(None)
-}
+/// An opening of a file, behind which each crash leaves its state.
+impl Trial for State {
+    type Left = MemoryDisk;
 
-/// The first call, whether later calls fail too, and the first fill, where a crash leaves another state.
-fn lost(alloc: Global, file: &str, state: &str) -> Result<Option<(u64, bool, u8)>, Fail> {
-    for call in 1..=CALLS {
-        for later in [false, true] {
-            if let Some(fill) = lost_by_fault(alloc, file, state, call, later)? {
-                return Ok(Some((call, later, fill)));
-            }
-        }
+    fn run(&self, alloc: Global, call: u64, later: bool) -> Result<MemoryDisk, Fail> {
+        let disk = disk_of(alloc, self.0, fails_at(alloc, call, later)?)?;
+        Ok(left_by(alloc, disk))
     }
-    Ok(None)
+
+    fn is_kept(&self, alloc: Global, left: &MemoryDisk, fill: u8) -> Result<bool, Fail> {
+        Ok(state_of(alloc, left.crash(fill)?)?.as_str() == self.1)
+    }
 }
 
 #[test]
 fn each_call_of_an_opening_fails_in_turn(rt: HostRuntime) -> Result<(), Fail> {
-    for (file, state) in &STATES {
-        assert_eq!(rt; lost(rt.alloc(), file, state)?, None, "{file}");
+    for state in &STATES {
+        assert_eq!(rt; first_loss(rt.alloc(), state, CALLS)?, None, "{}", state.0);
     }
     Ok(())
 }

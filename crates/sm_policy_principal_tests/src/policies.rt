@@ -1,6 +1,7 @@
 //! A policy that lets one person read and keeps everybody from what is pending; texts that are no policies; patterns.
-use sm_base::{Arn, List, Moment, Name, ReadRefused, Text};
-use sm_model::{Person, Rotation, SecretRow, SharedList};
+use sm_base::Text;
+use sm_model::{Person, SecretRow};
+use sm_model_fixtures::rows::bare_named;
 use sm_policy::question::Question;
 use sm_policy::spread::{is_match_in, spread_of};
 use sm_policy::{Case, Decision, decide, is_match, is_public};
@@ -13,35 +14,6 @@ const WORKED: &str = "{\"Version\":\"2012-10-17\",\"Statement\":[{\"Effect\":\"A
     \"Action\":\"secretsmanager:GetSecretValue\",\"Resource\":\"*\"},\
     {\"Effect\":\"Deny\",\"Principal\":\"*\",\"Action\":\"secretsmanager:*\",\"Resource\":\"*\",\
     \"Condition\":{\"StringEquals\":{\"secretsmanager:VersionStage\":\"AWSPENDING\"}}}]}";
-
-fn row(alloc: Global) -> Result<SecretRow, ReadRefused> {
-    let name = Name::read(alloc, b"db/app")?;
-    Ok(SecretRow {
-        serial: 0,
-        arn: Arn::drawn(alloc, &name, &[0; 6])?,
-        name,
-        created: Moment(0),
-        changed: Moment(0),
-        description: None,
-        kms: None,
-        tags: List::empty(alloc),
-        versions: SharedList::empty(alloc),
-        next_version: 0,
-        labels: List::empty(alloc),
-        deletion: None,
-        rotation: Rotation {
-            enabled: false,
-            lambda: None,
-            days: None,
-            schedule: None,
-            next: None,
-            last: None,
-        },
-        policy: None,
-        regions: List::empty(alloc),
-        job: None,
-    })
-}
 
 /// What a policy says to a person.
 fn said<'a>(
@@ -71,7 +43,7 @@ fn decided(alloc: Global, policy: &str, action: &str, stage: &str) -> Option<Dec
         arn: Text::fixed("arn:aws:iam::000000000000:user/gil"),
         full: false,
     };
-    let Ok(row) = row(alloc) else {
+    let Ok(row) = bare_named(alloc, 0, "db/app", &[0; 6]) else {
         return None;
     };
     match Policy::read(alloc, policy.as_bytes()) {

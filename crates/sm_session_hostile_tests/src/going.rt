@@ -1,9 +1,8 @@
 //! How each row goes, with all the memory that it wants and with one growth refused.
 use crate::left_behind::{LeftBehind, Seen, left_behind_of, look};
 use crate::rows::{BODIES, ENDS, FIELDS, FIRST, LENGTHS, NOT_DENIED, REQUESTS, Row};
-use crate::sessions::{
-    Heard, Kept, Reply, account_over, asked, disk, input_of, reply_bytes, session,
-};
+use crate::sessions::{Heard, Kept, account_over, asked, disk, input_of, reply_bytes, session};
+use sm_memory_fixtures::exchanges::Reply;
 use sm_model::NoMemory;
 use sm_session::Ended;
 use std::alloc::Global;

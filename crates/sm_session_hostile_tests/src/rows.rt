@@ -1,6 +1,11 @@
 //! The table: what is sent to an account with one secret, what is written, how the session ends, and what else would
 //! leave the account as it does.
-use crate::sessions::{Behaviour, Part, Reply, Sent, WELL};
+use crate::sessions::Sent;
+use sm_memory_fixtures::connections::{Behaviour, WELL};
+use sm_memory_fixtures::exchanges::{
+    BAD, CHUNKED, HEAD, LENGTH, N_CREATED, NO_LIMIT, NOT_JSON, OK, Reply, UNKNOWN,
+};
+use sm_memory_fixtures::messages::Part;
 use sm_model::BadKind;
 use sm_session::Ended;
 
@@ -28,40 +33,6 @@ const REFUSED: Row = Row {
     ended: Ended::Closed,
     makes: &[],
 };
-
-const BAD: &str = "400 Bad Request";
-
-const OK: &str = "200 OK";
-
-const UNKNOWN: Reply = (
-    BAD,
-    r#"{"Message":"unknown operation","__type":"UnknownOperationException"}"#,
-);
-
-const HEAD: Reply = (
-    BAD,
-    r#"{"Message":"http: head","__type":"SerializationException"}"#,
-);
-
-const LENGTH: Reply = (
-    BAD,
-    r#"{"Message":"http: length","__type":"SerializationException"}"#,
-);
-
-const NOT_JSON: Reply = (
-    BAD,
-    r#"{"Message":"body is not a JSON object","__type":"SerializationException"}"#,
-);
-
-const NO_LIMIT: Reply = (
-    BAD,
-    r#"{"Message":"MaxResults is missing or of another type","__type":"SerializationException"}"#,
-);
-
-const N_CREATED: Reply = (
-    OK,
-    r#"{"ARN":"arn:aws:secretsmanager:us-east-1:000000000000:secret:n-ABCDEF","Name":"n"}"#,
-);
 
 const POLICY_PUT: Reply = (
     OK,
@@ -208,10 +179,7 @@ pub static LENGTHS: [Row; 5] = [
             "GET / HTTP/1.1\r\nTransfer-Encoding: chunked\r\nContent-Length: 2\r\n\r\n{}",
             1,
         )])],
-        replies: &[(
-            BAD,
-            r#"{"Message":"http: chunked","__type":"SerializationException"}"#,
-        )],
+        replies: &[CHUNKED],
         ended: Ended::Bad(BadKind::Chunked, 0),
         ..REFUSED
     },

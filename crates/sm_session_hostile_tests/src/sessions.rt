@@ -3,8 +3,13 @@ use crate::gates::{for_one, value_of};
 use sm_account::{Account, OpenRefused};
 use sm_base::limits::JOURNAL_LIMIT;
 use sm_disk::MemoryDisk;
-use sm_io::{CountWords, FixedClock, MemoryConn, MemorySink, MemorySource};
-use sm_model::{Bytes, Fails, List, Moment, NoMemory};
+use sm_io::{CountWords, FixedClock};
+use sm_memory_fixtures::connections::{Behaviour, WELL, connection};
+use sm_memory_fixtures::disks::disk_of;
+use sm_memory_fixtures::exchanges::Reply;
+use sm_memory_fixtures::fails::fails_from;
+use sm_memory_fixtures::messages::{Part, add_message, add_parts, add_reply};
+use sm_model::{Moment, NoMemory};
 use sm_principal::People;
 use sm_rotator::NoRotator;
 use sm_session::{Ended, Trace, serve};
@@ -13,35 +18,12 @@ use std::sync::Wait;
 
 pub type Kept = Account<MemoryDisk, NoRotator>;
 
-/// A text, and how often it stands.
-pub type Part = (&'static str, usize);
-
 /// What is sent: bytes, texts, or a message that asks for an operation with a body.
 pub enum Sent {
     Bytes(&'static [u8]),
     Texts(&'static [Part]),
     Message(&'static str, &'static [Part]),
 }
-
-/// The status line and the body of a reply.
-pub type Reply = (&'static str, &'static str);
-
-/// How a connection behaves: how many bytes move at a time, and from which call on each side fails.
-#[derive(Clone, Copy)]
-pub struct Behaviour {
-    pub take: usize,
-    pub put: usize,
-    pub source_from: Option<u64>,
-    pub sink_from: Option<u64>,
-}
-
-/// All moves at once, and nothing fails.
-pub const WELL: Behaviour = Behaviour {
-    take: 1_000_000,
-    put: 1_000_000,
-    source_from: None,
-    sink_from: None,
-};
 
 /// What is heard of a session: how it ended, what was written, and whether no reply was a fault's.
 #[derive(Drop)]
@@ -51,31 +33,8 @@ pub struct Heard {
     pub faultless: bool,
 }
 
-fn fails(alloc: Global, from: Option<u64>) -> Fails {
-    Fails {
-        calls: List::empty(alloc),
-        from,
-    }
-}
-
-/// Adds a text so many times.
-fn add_times(bytes: &mut Vec<u8>, text: &str, times: usize) -> Result<(), NoMemory> {
-    for _ in 0..times {
-        bytes.extend_from_slice(text.as_bytes())?;
-    }
-    Ok(())
-}
-
-/// Adds parts, each as often as it stands.
-fn add_parts(bytes: &mut Vec<u8>, parts: &[Part]) -> Result<(), NoMemory> {
-    for (text, times) in parts {
-        add_times(bytes, text, *times)?;
-    }
-    Ok(())
-}
-
-/// Adds a message that asks for an operation.
-fn add_message(
+/// Adds a message that asks for an operation with a body of these parts.
+fn add_asking(
     alloc: Global,
     input: &mut Vec<u8>,
     operation: &str,
@@ -83,13 +42,7 @@ fn add_message(
 ) -> Result<(), NoMemory> {
     let mut body = Vec::new(alloc);
     add_parts(&mut body, parts)?;
-    let size = body.len();
-    let head = format!(in alloc;
-        "POST / HTTP/1.1\r\nX-Amz-Target: secretsmanager.{operation}\r\nContent-Length: {size}\r\n\r\n"
-    )?;
-    input.extend_from_slice(head.as_bytes())?;
-    input.extend_from_slice(body.as_slice())?;
-    Ok(())
+    add_message(alloc, input, operation, body.as_slice())
 }
 
 /// The bytes of what is sent, one behind the other.
@@ -99,7 +52,7 @@ pub fn input_of(alloc: Global, all: &[Sent]) -> Result<Vec<u8>, NoMemory> {
         match sent {
             Sent::Bytes(bytes) => input.extend_from_slice(bytes)?,
             Sent::Texts(parts) => add_parts(&mut input, parts)?,
-            Sent::Message(operation, parts) => add_message(alloc, &mut input, operation, parts)?,
+            Sent::Message(operation, parts) => add_asking(alloc, &mut input, operation, parts)?,
         }
     }
     Ok(input)
@@ -107,12 +60,9 @@ pub fn input_of(alloc: Global, all: &[Sent]) -> Result<Vec<u8>, NoMemory> {
 
 /// The bytes of a reply.
 pub fn reply_bytes(alloc: Global, reply: &Reply) -> Result<Vec<u8>, NoMemory> {
-    let (line, body) = *reply;
-    let size = body.len();
-    let reply = format!(in alloc;
-        "HTTP/1.1 {line}\r\nContent-Type: application/x-amz-json-1.1\r\nContent-Length: {size}\r\n\r\n{body}"
-    )?;
-    Ok(Vec::from_slice(alloc, reply.as_bytes())?)
+    let mut bytes = Vec::new(alloc);
+    add_reply(alloc, &mut bytes, reply.0, reply.1)?;
+    Ok(bytes)
 }
 
 /// The account that a disk recovers, and nothing where it is damaged.
@@ -126,28 +76,7 @@ pub fn account_over(alloc: Global, disk: MemoryDisk) -> Result<Option<Kept>, NoM
 
 /// An empty disk.
 pub fn disk(alloc: Global) -> Result<MemoryDisk, NoMemory> {
-    Ok(MemoryDisk::new(
-        alloc,
-        Bytes::empty(alloc),
-        Bytes::empty(alloc),
-        Bytes::empty(alloc),
-        fails(alloc, None),
-    )?)
-}
-
-fn connection(alloc: Global, input: &[u8], behaviour: &Behaviour) -> Result<MemoryConn, NoMemory> {
-    let bytes = Bytes::from_slice(alloc, input)?;
-    let source = MemorySource::new(
-        bytes,
-        behaviour.take.max(1),
-        fails(alloc, behaviour.source_from),
-    );
-    let sink = MemorySink::new(
-        alloc,
-        behaviour.put.max(1),
-        fails(alloc, behaviour.sink_from),
-    );
-    Ok(MemoryConn::new(source, sink))
+    disk_of(alloc, b"", fails_from(alloc, None))
 }
 
 /// Whether no reply of a session said that something is wanting.
@@ -168,7 +97,7 @@ pub fn session<R: Wait>(
     };
     let mut conn = connection(alloc, input, behaviour)?;
     let mut clock = FixedClock::new(Moment(1_700_000_000));
-    let mut words = CountWords::new(alloc, 0, fails(alloc, None));
+    let mut words = CountWords::new(alloc, 0, fails_from(alloc, None));
     let served = serve(
         rt,
         alloc,

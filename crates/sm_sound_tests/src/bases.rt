@@ -3,6 +3,7 @@ use sm_model::{
     Arn, Bytes, Job, KeptPolicy, Label, List, Moment, Name, Pair, Rotation, Rows, SecretRow,
     SharedList, Stage, Tag, Text, Token, Value, VersionRow,
 };
+use sm_model_fixtures::rows::bare_named;
 use sm_record::Base;
 use std::alloc::Global;
 use std::test::Fail;
@@ -125,39 +126,20 @@ pub fn job(alloc: Global, stage: Stage, attempt: u32, tested: Option<u32>) -> Re
     })
 }
 
+/// The random bytes of each ARN.
+const SIX: [u8; 6] = [0, 1, 2, 3, 4, 5];
+
 /// An ARN of a secret of this name.
 pub fn arn(alloc: Global, name: &str) -> Result<Arn, Fail> {
     let name = Name::read(alloc, name.as_bytes())?;
-    Ok(Arn::drawn(alloc, &name, &[0, 1, 2, 3, 4, 5])?)
+    Ok(Arn::drawn(alloc, &name, &SIX)?)
 }
 
 /// A secret of this name with nothing.
 pub fn bare(alloc: Global, serial: u64, name: &str) -> Result<SecretRow, Fail> {
-    Ok(SecretRow {
-        serial,
-        arn: arn(alloc, name)?,
-        name: Name::read(alloc, name.as_bytes())?,
-        created: Moment(0),
-        changed: Moment(200_086_400_000),
-        description: None,
-        kms: None,
-        tags: List::empty(alloc),
-        versions: SharedList::empty(alloc),
-        next_version: 0,
-        labels: List::empty(alloc),
-        deletion: None,
-        rotation: Rotation {
-            enabled: false,
-            lambda: None,
-            days: None,
-            schedule: None,
-            next: None,
-            last: None,
-        },
-        policy: None,
-        regions: List::empty(alloc),
-        job: None,
-    })
+    let mut row = bare_named(alloc, serial, name, &SIX)?;
+    row.changed = Moment(200_086_400_000);
+    Ok(row)
 }
 
 /// So many regions, of which the first has as long a name as one may have.

@@ -10,10 +10,12 @@ ghost use Rattle.sm_store.specs.BaseAppends.{IsReady};
 ghost use Rattle.sm_store.specs.BaseStores.{format_of, limit_of};
 
 use crate::base_files::held_of;
-use crate::letters::{bodies_of, body_of, disk_of, fails_at, file_of, is_file};
+use crate::letters::{bodies_of, body_of, disk_of, file_of, is_file};
 use sm_base::Bytes;
 use sm_disk::{Disk, MemoryDisk};
 use sm_journal::Format;
+use sm_memory_fixtures::failing::{Trial, first_loss};
+use sm_memory_fixtures::fails::fails_at;
 use sm_record::{Base, BodySlice, Edition, decode, decode_rows, encode};
 use sm_store::{Appended, BaseStore, OpenRefused};
 use std::alloc::Global;
@@ -214,22 +216,6 @@ fn held(alloc: Global, disk: MemoryDisk) -> Result<String, Fail> {
     }
 }
 
-/// Whether a crash with this fill leaves what the run may leave.
-fn is_kept(alloc: Global, left: &Left, fill: u8) -> Result<bool, Fail> {
-    let held = held(alloc, left.disk.crash(fill)?)?;
-    Ok(held.as_str() == left.held || held.as_str() == left.other)
-}
-
-/// The first fill where a crash leaves something else.
-fn lost_after(alloc: Global, left: &Left) -> Result<Option<u8>, Fail> {
-    for fill in [0, 1, 7] {
-        if !is_kept(alloc, left, fill)? {
-            return Ok(Some(fill));
-        }
-    }
-    Ok(None)
-}
-
 /// What a run begins with: the two files and the root, which names the one of `a`.
 struct Start {
     files: [&'static str; 2],
@@ -267,33 +253,31 @@ const STARTS: [Start; 6] = [
     },
 ];
 
-/// The first fill where a crash after a run from this start with this fault leaves something else.
-fn lost_by_fault(alloc: Global, start: &Start, call: u64, later: bool) -> Result<Option<u8>, Fail> {
-    let disk = disk_of(
-        alloc,
-        [start.files[0], start.files[1]],
-        start.root,
-        fails_at(alloc, call, later)?,
-    )?;
-    lost_after(alloc, &run(alloc, disk)?)
+impl Start {
+    /// The disk of which this call fails, alone or with all later ones.
+    fn disk(&self, alloc: Global, call: u64, later: bool) -> Result<MemoryDisk, Fail> {
+        let files = [self.files[0], self.files[1]];
+        disk_of(alloc, files, self.root, fails_at(alloc, call, later)?)
+    }
 }
 
-/// The first call, whether later calls fail too, and the first fill, where a crash leaves something else.
-fn lost(alloc: Global, start: &Start) -> Result<Option<(u64, bool, u8)>, Fail> {
-    for call in 1..CALLS {
-        for later in [false, true] {
-            if let Some(fill) = lost_by_fault(alloc, start, call, later)? {
-                return Ok(Some((call, later, fill)));
-            }
-        }
+impl Trial for Start {
+    type Left = Left;
+
+    fn run(&self, alloc: Global, call: u64, later: bool) -> Result<Left, Fail> {
+        run(alloc, self.disk(alloc, call, later)?)
     }
-    Ok(None)
+
+    fn is_kept(&self, alloc: Global, left: &Left, fill: u8) -> Result<bool, Fail> {
+        let held = held(alloc, left.disk.crash(fill)?)?;
+        Ok(held.as_str() == left.held || held.as_str() == left.other)
+    }
 }
 
 #[test]
 fn each_call_of_a_store_fails_in_turn(rt: HostRuntime) -> Result<(), Fail> {
     for (number, start) in STARTS.iter().enumerate() {
-        assert_eq!(rt; lost(rt.alloc(), start)?, None, "{number}");
+        assert_eq!(rt; first_loss(rt.alloc(), start, CALLS)?, None, "{number}");
     }
     Ok(())
 }
@@ -305,13 +289,7 @@ fn is_run_to(
     files: [&'static str; 2],
     root: &[u8],
 ) -> Result<bool, Fail> {
-    let disk = disk_of(
-        alloc,
-        [start.files[0], start.files[1]],
-        start.root,
-        fails_at(alloc, CALLS, true)?,
-    )?;
-    let mut left = run(alloc, disk)?;
+    let mut left = run(alloc, start.disk(alloc, CALLS, true)?)?;
     let first = file_of(alloc, files[0])?;
     let second = file_of(alloc, files[1])?;
     Ok(

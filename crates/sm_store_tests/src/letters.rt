@@ -1,8 +1,9 @@
 //! Files of which each record is a letter, and disks of such files.
 ghost use Rattle.std.specs.Prelude.{◌<◌};
 
-use sm_base::{Bytes, Fails, List};
+use sm_base::{Bytes, Fails};
 use sm_disk::{Disk, MemoryDisk};
+use sm_memory_fixtures::journals;
 use std::alloc::Global;
 use std::test::Fail;
 
@@ -39,20 +40,9 @@ const BODIES: &str = "\
     x f4\n\
 ";
 
-/// The digits of a letter. An empty body has none.
-fn digits_of(letter: char) -> &'static str {
-    for line in BODIES.lines() {
-        if let Some(digits) = line.trim_start().strip_prefix(letter) {
-            return digits.trim();
-        }
-    }
-    ""
-}
-
 /// The body of a letter.
 pub fn body_of(alloc: Global, letter: char) -> Result<Bytes, Fail> {
-    let body = hex::decode(alloc, digits_of(letter)).ok().ok_or("digits")?;
-    Ok(Bytes::new(body))
+    journals::body_of(alloc, BODIES, letter)
 }
 
 /// The bodies of letters.
@@ -64,36 +54,9 @@ pub fn bodies_of(alloc: Global, letters: &str) -> Result<Vec<Bytes>, Fail> {
     Ok(bodies)
 }
 
-/// Adds the record of a letter, with its gate open.
-fn put_record(alloc: Global, file: &mut Vec<u8>, letter: char) -> Result<(), Fail> {
-    let body = body_of(alloc, letter)?;
-    let length = u32::try_from(body.len()).ok().ok_or("length")?;
-    file.push(1)?;
-    file.extend_from_slice(&length.to_be_bytes())?;
-    file.extend_from_slice(body.as_slice())?;
-    Ok(())
-}
-
-/// Adds the header of the first format, of the second or of none, one byte 0, or a record.
-fn put_part(alloc: Global, file: &mut Vec<u8>, part: char) -> Result<(), Fail> {
-    match part {
-        '1' => file.extend_from_slice(b"SMJRNL01")?,
-        '2' => file.extend_from_slice(b"SMJRNL02")?,
-        '3' => file.extend_from_slice(b"SMJRNL03")?,
-        '.' => file.push(0)?,
-        letter => put_record(alloc, file, letter)?,
-    }
-    Ok(())
-}
-
 /// The file of these parts, with a closed gate at its end.
 pub fn file_of(alloc: Global, parts: &str) -> Result<Bytes, Fail> {
-    let mut file = Vec::new(alloc);
-    for part in parts.chars() {
-        put_part(alloc, &mut file, part)?;
-    }
-    file.push(0)?;
-    Ok(Bytes::new(file))
+    journals::file_of(alloc, BODIES, parts)
 }
 
 /// A disk of two such files, and a root of these bytes.
@@ -116,11 +79,4 @@ pub fn is_file(alloc: Global, disk: &mut MemoryDisk, file: u8, wanted: &[u8]) ->
     let mut bytes = Vec::from_elem(alloc, 0u8, wanted.len())?;
     let same = disk.length(file) == Ok(wanted.len() as u64);
     Ok(same && disk.read(file, 0, bytes.as_mut_slice()).is_ok() && bytes.as_slice() == wanted)
-}
-
-/// One call that fails, or it and all later ones.
-pub fn fails_at(alloc: Global, call: u64, later: bool) -> Result<Fails, Fail> {
-    let calls = List::new(Vec::from_slice(alloc, &[call])?);
-    let from = if later { Some(call) } else { None };
-    Ok(Fails { calls, from })
 }

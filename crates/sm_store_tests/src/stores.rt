@@ -4,8 +4,11 @@ ghost use Rattle.sm_journal.specs.Records.{body_limit};
 ghost use Rattle.sm_model.specs.declared.entry.Entry.{Entry};
 ghost use Rattle.sm_store.specs.Entries.{Spells};
 
-use sm_base::{Bytes, Fails, List, NoMemory};
+use sm_base::{Bytes, Fails};
 use sm_disk::{Disk, MemoryDisk};
+use sm_memory_fixtures::disks::disk_of;
+use sm_memory_fixtures::failing::{Trial, first_loss};
+use sm_memory_fixtures::fails::fails_at;
 use sm_model::Entry;
 use sm_record::{Edition, decode, encode_first, has_spelling};
 use sm_store::{Appended, Damage, OpenRefused, Store};
@@ -90,17 +93,6 @@ const CASES: [Case; 8] = [
         found: Found::Damaged(Damage { at: 62, entry: 2 }),
     },
 ];
-
-fn disk_of(alloc: Global, bytes: &[u8], fails: Fails) -> Result<MemoryDisk, NoMemory> {
-    let journal_0 = Bytes::from_slice(alloc, bytes)?;
-    MemoryDisk::new(
-        alloc,
-        journal_0,
-        Bytes::empty(alloc),
-        Bytes::empty(alloc),
-        fails,
-    )
-}
 
 /// Whether an entry is spelled so.
 fn is_spelled(alloc: Global, entry: &Entry, body: &[u8]) -> bool {
@@ -240,38 +232,26 @@ fn run(alloc: Global, disk: MemoryDisk) -> Left {
     }
 }
 
-fn fails(alloc: Global, call: u64, later: bool) -> Result<Fails, Fail> {
-    let calls = List::new(Vec::from_slice(alloc, &[call])?);
-    let from = if later { Some(call) } else { None };
-    Ok(Fails { calls, from })
-}
+/// A run over an empty disk.
+struct NewStore;
 
-/// Whether a crash with this fill leaves what the run may leave.
-fn is_kept(alloc: Global, left: &Left, fill: u8) -> Result<bool, Fail> {
-    let found = find(alloc, left.disk.crash(fill)?);
-    let more = left.kept.saturating_add(1);
-    Ok(found == Found::Entries(left.kept) || left.unsure && found == Found::Entries(more))
-}
+impl Trial for NewStore {
+    type Left = Left;
 
-/// The first call, whether later calls fail too, and the first fill, where a crash leaves something else than the run
-/// may leave.
-fn lost(alloc: Global) -> Result<Option<(u64, bool, u8)>, Fail> {
-    for call in 1..=30u64 {
-        for later in [false, true] {
-            let disk = disk_of(alloc, b"", fails(alloc, call, later)?)?;
-            let left = run(alloc, disk);
-            for fill in [0, 1, 7] {
-                if !is_kept(alloc, &left, fill)? {
-                    return Ok(Some((call, later, fill)));
-                }
-            }
-        }
+    fn run(&self, alloc: Global, call: u64, later: bool) -> Result<Left, Fail> {
+        let disk = disk_of(alloc, b"", fails_at(alloc, call, later)?)?;
+        Ok(run(alloc, disk))
     }
-    Ok(None)
+
+    fn is_kept(&self, alloc: Global, left: &Left, fill: u8) -> Result<bool, Fail> {
+        let found = find(alloc, left.disk.crash(fill)?);
+        let more = left.kept.saturating_add(1);
+        Ok(found == Found::Entries(left.kept) || left.unsure && found == Found::Entries(more))
+    }
 }
 
 #[test]
 fn each_call_fails_in_turn(rt: HostRuntime) -> Result<(), Fail> {
-    assert_eq!(rt; lost(rt.alloc())?, None);
+    assert_eq!(rt; first_loss(rt.alloc(), &NewStore, 30)?, None);
     Ok(())
 }

@@ -1,11 +1,7 @@
 //! Look-ups and changes on one table.
-ghost use Rattle.std.specs.Prelude.{◌≡◌, IfOk};
-ghost use Rattle.sm_versions.specs.Sound.{IsArnOf};
-
-use sm_model::{
-    Arn, Change, Copied, List, Moment, Name, ReadRefused, Rotation, RowList, SecretId, SecretRow,
-    SharedList,
-};
+use crate::cases::{Called, Case, SAME, first_difference};
+use sm_model::{Arn, Change, Copied, Moment, Name, ReadRefused, RowList, SecretId, SecretRow};
+use sm_model_fixtures::rows::bare;
 use sm_table::Table;
 use sm_table::deletion::is_gone;
 use std::alloc::Global;
@@ -13,7 +9,7 @@ use std::test::Fail;
 
 /// A call.
 #[derive(Clone, Copy)]
-enum Call {
+pub enum Call {
     /// A secret of this name, whose ARN ends in six times the letter, is added at the moment.
     Add(&'static str, u8, u64),
     /// The deletion of the secret with this serial is set to a date.
@@ -34,38 +30,6 @@ enum Call {
 
 const BEGINNING: &str = "arn:aws:secretsmanager:us-east-1:000000000000:secret:";
 
-/// A secret without versions.
-#[tactic(auto, using(sm_versions::proofs::ArnLemmas::drawn_is_arn_of))]
-pub fn fresh(alloc: Global, serial: u64, name: Name, letter: u8) -> Result<SecretRow, Fail>
-    ensures { IfOk result (λ row. (row.serial ≡ serial) × (row.name ≡ name) × IsArnOf row.arn row.name) }
-{
-    Ok(SecretRow {
-        serial,
-        arn: Arn::drawn(alloc, &name, &[letter; 6])?,
-        name,
-        created: Moment(0),
-        changed: Moment(0),
-        description: None,
-        kms: None,
-        tags: List::empty(alloc),
-        versions: SharedList::empty(alloc),
-        next_version: 0,
-        labels: List::empty(alloc),
-        deletion: None,
-        rotation: Rotation {
-            enabled: false,
-            lambda: None,
-            days: None,
-            schedule: None,
-            next: None,
-            last: None,
-        },
-        policy: None,
-        regions: List::empty(alloc),
-        job: None,
-    })
-}
-
 /// Adds a secret of this name, whose ARN ends in six times the letter, unless the name is held.
 pub fn add(
     alloc: Global,
@@ -80,7 +44,7 @@ pub fn add(
     if table.find(&id, moment).is_some() || serial == u64::MAX {
         return Ok("held");
     }
-    let row = fresh(alloc, serial, name, letter)?;
+    let row = bare(alloc, serial, name, &[letter; 6])?;
     let prepared = table.prepare(Change::Add(row))?;
     table.commit(prepared, moment);
     Ok("added")
@@ -201,43 +165,20 @@ fn rows_text(alloc: Global, table: &Table) -> Result<String, Fail> {
     Ok(shown)
 }
 
-/// A call, what it answers, and the rows that it leaves.
-type Case = (Call, &'static str, &'static str);
+impl Called for Table {
+    type Call = Call;
 
-/// What came, where it is something else than what is wanted, or nothing.
-fn difference(alloc: Global, place: usize, came: &str, wanted: &str) -> Result<String, Fail> {
-    if came == wanted {
-        return Ok(String::new(alloc));
+    fn answer(&mut self, alloc: Global, call: Call) -> Result<String, Fail> {
+        run(alloc, self, call)
     }
-    Ok(format!(in alloc; "call {place}: '{came}', and not '{wanted}'")?)
-}
 
-/// Makes the call, counted from 0, and compares its answer and the rows that it leaves.
-fn compare(alloc: Global, table: &mut Table, place: usize, case: &Case) -> Result<String, Fail> {
-    let (call, answer, rows) = *case;
-    let shown = run(alloc, table, call)?;
-    let different = difference(alloc, place, shown.as_str(), answer)?;
-    if !different.is_empty() {
-        return Ok(different);
+    fn left(&self, alloc: Global) -> Result<String, Fail> {
+        rows_text(alloc, self)
     }
-    let left = rows_text(alloc, table)?;
-    difference(alloc, place, left.as_str().trim_end(), rows)
-}
-
-/// What the first call that is wrong says, or nothing.
-fn first_difference(alloc: Global, cases: &[Case]) -> Result<String, Fail> {
-    let mut table = Table::new(alloc);
-    for (place, case) in cases.iter().enumerate() {
-        let different = compare(alloc, &mut table, place, case)?;
-        if !different.is_empty() {
-            return Ok(different);
-        }
-    }
-    Ok(String::new(alloc))
 }
 
 /// Calls on one table, one after the other.
-static CASES: [Case; 22] = [
+static CASES: [Case<Call>; 22] = [
     // A name that another one begins with its ARN, made before it.
     (
         Call::Add("app-AAAAAA", 1, 0),
@@ -249,71 +190,23 @@ static CASES: [Case; 22] = [
         "added",
         "app-AAAAAA 0, app 1, next 2",
     ),
-    (Call::Find("app", 0), "app 1", "app-AAAAAA 0, app 1, next 2"),
+    (Call::Find("app", 0), "app 1", SAME),
     // The whole ARN of the one is the other's without its last seven characters.
-    (
-        Call::Find("app-AAAAAA", 0),
-        "app 1",
-        "app-AAAAAA 0, app 1, next 2",
-    ),
-    (
-        Call::Find("app-AAAAAA-BBBBBB", 0),
-        "app-AAAAAA 0",
-        "app-AAAAAA 0, app 1, next 2",
-    ),
-    (
-        Call::Find("app-AAAAA", 0),
-        "none",
-        "app-AAAAAA 0, app 1, next 2",
-    ),
+    (Call::Find("app-AAAAAA", 0), "app 1", SAME),
+    (Call::Find("app-AAAAAA-BBBBBB", 0), "app-AAAAAA 0", SAME),
+    (Call::Find("app-AAAAA", 0), "none", SAME),
     // By the whole ARN alone the other is not met.
-    (
-        Call::FindArn("app-AAAAAA", 0),
-        "app 1",
-        "app-AAAAAA 0, app 1, next 2",
-    ),
-    (
-        Call::FindArn("app-AAAAAA-BBBBBB", 0),
-        "app-AAAAAA 0",
-        "app-AAAAAA 0, app 1, next 2",
-    ),
+    (Call::FindArn("app-AAAAAA", 0), "app 1", SAME),
+    (Call::FindArn("app-AAAAAA-BBBBBB", 0), "app-AAAAAA 0", SAME),
     // Up to its date a secret is there and holds its name, and from then on it is absent and goes.
-    (
-        Call::Schedule(1, 100),
-        "scheduled",
-        "app-AAAAAA 0, app 1, next 2",
-    ),
-    (
-        Call::Find("app", 99),
-        "app 1",
-        "app-AAAAAA 0, app 1, next 2",
-    ),
-    (
-        Call::Find("app", 100),
-        "none",
-        "app-AAAAAA 0, app 1, next 2",
-    ),
-    (
-        Call::Find("app-AAAAAA", 100),
-        "app-AAAAAA 0",
-        "app-AAAAAA 0, app 1, next 2",
-    ),
-    (
-        Call::FindArn("app-AAAAAA", 99),
-        "app 1",
-        "app-AAAAAA 0, app 1, next 2",
-    ),
-    (
-        Call::FindArn("app-AAAAAA", 100),
-        "none",
-        "app-AAAAAA 0, app 1, next 2",
-    ),
-    (Call::Nothing(99), "nothing", "app-AAAAAA 0, app 1, next 2"),
-    (
-        Call::Add("app", 2, 99),
-        "held",
-        "app-AAAAAA 0, app 1, next 2",
-    ),
+    (Call::Schedule(1, 100), "scheduled", SAME),
+    (Call::Find("app", 99), "app 1", SAME),
+    (Call::Find("app", 100), "none", SAME),
+    (Call::Find("app-AAAAAA", 100), "app-AAAAAA 0", SAME),
+    (Call::FindArn("app-AAAAAA", 99), "app 1", SAME),
+    (Call::FindArn("app-AAAAAA", 100), "none", SAME),
+    (Call::Nothing(99), "nothing", SAME),
+    (Call::Add("app", 2, 99), "held", SAME),
     (
         Call::Add("app", 2, 100),
         "added",
@@ -321,23 +214,19 @@ static CASES: [Case; 22] = [
     ),
     // No serial is given twice.
     (Call::Drop(2), "dropped", "app-AAAAAA 0, next 3"),
-    (Call::Drop(2), "no secret", "app-AAAAAA 0, next 3"),
+    (Call::Drop(2), "no secret", SAME),
     (Call::Add("b", 3, 0), "added", "app-AAAAAA 0, b 3, next 4"),
-    (
-        Call::Places,
-        "2 rows: app-AAAAAA 0, b 3, none",
-        "app-AAAAAA 0, b 3, next 4",
-    ),
+    (Call::Places, "2 rows: app-AAAAAA 0, b 3, none", SAME),
     // A name has no colon.
-    (
-        Call::Read("arn:aws"),
-        "no name at 3",
-        "app-AAAAAA 0, b 3, next 4",
-    ),
+    (Call::Read("arn:aws"), "no name at 3", SAME),
 ];
 
 #[test]
 fn rows_change(rt: HostRuntime) -> Result<(), Fail> {
-    assert_eq!(rt; first_difference(rt.alloc(), &CASES)?.as_str(), "");
+    let mut table = Table::new(rt.alloc());
+    assert_eq!(rt;
+        first_difference(rt.alloc(), &mut table, &CASES)?.as_str(),
+        ""
+    );
     Ok(())
 }

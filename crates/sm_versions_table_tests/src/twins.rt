@@ -2,12 +2,13 @@
 ghost use Rattle.std.specs.Prelude.{◌≡◌, ◌≤◌};
 
 use crate::list_table::ListTable;
-use crate::rows::{add as add_to_table, fresh};
+use crate::rows::add as add_to_table;
 use crate::versions::token;
 use sm_model::{
     Arn, Change, Copied, Job, Label, List, Moment, Name, Pair, RowList, SecretId, SecretRow,
     SharedList, Stage, VersionRow,
 };
+use sm_model_fixtures::rows::bare;
 use sm_table::Table;
 use sm_table::deletion::is_gone;
 use sm_versions::labels::current;
@@ -63,7 +64,7 @@ fn name_of(alloc: Global, number: u64) -> Result<Name, Fail> {
 fn add(alloc: Global, twins: &mut Twins, number: u64, moment: Moment) -> Result<(), Fail> {
     let name = name_of(alloc, number)?;
     let letter = below(number, 26) as u8;
-    let twin = fresh(alloc, twins.table.next(), name.copy(alloc)?, letter)?;
+    let twin = bare(alloc, twins.table.next(), name.copy(alloc)?, &[letter; 6])?;
     let text = name.as_text().as_str();
     if add_to_table(alloc, &mut twins.table, text, letter, moment)? == "added" {
         twins.list.change(Change::Add(twin), moment)?;
