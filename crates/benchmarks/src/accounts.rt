@@ -2,7 +2,8 @@
 use sm_account::{Account, Handled, NextWork};
 use sm_base::limits::JOURNAL_LIMIT;
 use sm_disk::{Disk, FileDisk};
-use sm_model::{CreateSecret, List, Moment, Person, Request, RotateSecret, Rules, Text, need};
+use sm_model::{Moment, Request, Text, need};
+use sm_model_fixtures::requests::{SECOND, creation, root, rotation};
 use sm_rotator::{LocalRotator, NoRotator, Rotator};
 use std::alloc::Global;
 
@@ -26,42 +27,14 @@ pub fn count(rt: &HostRuntime, folder: &str) -> Option<usize> {
 }
 
 /// CreateSecret of `db` with a value.
-fn creation(alloc: Global) -> Request {
-    Request::CreateSecret(CreateSecret {
-        regions: List::empty(alloc),
-        client_request_token: Some(Text::fixed("11111111-1111-4111-8111-111111111111")),
-        description: None,
-        kms_key_id: None,
-        name: Text::fixed("db"),
-        secret_binary: None,
-        secret_string: Some(Text::fixed("s3cret")),
-        tags: None,
-    })
-}
-
-/// RotateSecret of `db`.
-fn rotation() -> Request {
-    Request::RotateSecret(RotateSecret {
-        client_request_token: Some(Text::fixed("22222222-2222-4222-8222-222222222222")),
-        rotate_immediately: true,
-        rotation_lambda_arn: None,
-        rotation_rules: Some(Rules {
-            days: Some(30),
-            schedule: None,
-        }),
-        secret_id: Text::fixed("db"),
-    })
+fn creation_of_db(alloc: Global) -> Request {
+    creation(alloc, Text::fixed("db"), "s3cret")
 }
 
 /// What the account answers to a request of the account's root.
 fn ask<D: Disk, R: Rotator>(account: &mut Account<D, R>, request: &Request) -> Option<Handled> {
-    let root = Person {
-        key: Text::fixed(""),
-        arn: Text::fixed("arn:aws:iam::000000000000:root"),
-        full: true,
-    };
     match DRAWN.get(..need(request)) {
-        Some(drawn) => Some(account.handle(1, &root, NOW, drawn, request)),
+        Some(drawn) => Some(account.handle(1, &root(), NOW, drawn, request)),
         None => None,
     }
 }
@@ -70,7 +43,7 @@ fn ask<D: Disk, R: Rotator>(account: &mut Account<D, R>, request: &Request) -> O
 pub fn faults(rt: &HostRuntime, folder: &str, number: &str) -> Option<usize> {
     let count = number.parse::<u32>().ok()?;
     let mut account: Account<FileDisk, NoRotator> = open(rt, folder)?;
-    let request = creation(rt.alloc());
+    let request = creation_of_db(rt.alloc());
     let mut faults = 0;
     for _ in 0..count {
         match ask(&mut account, &request)? {
@@ -86,8 +59,8 @@ pub fn faults(rt: &HostRuntime, folder: &str, number: &str) -> Option<usize> {
 pub fn looks(rt: &HostRuntime, folder: &str, number: &str) -> Option<usize> {
     let count = number.parse::<u32>().ok()?;
     let mut account: Account<FileDisk, LocalRotator> = open(rt, folder)?;
-    ask(&mut account, &creation(rt.alloc()))?;
-    ask(&mut account, &rotation())?;
+    ask(&mut account, &creation_of_db(rt.alloc()))?;
+    ask(&mut account, &rotation(Text::fixed("db"), SECOND, true))?;
     let mut claims = 0;
     for look in 0..count {
         let now = Moment(NOW.0 + LOOK_SECONDS * u64::from(look));

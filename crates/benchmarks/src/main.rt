@@ -16,16 +16,11 @@ mod pieces;
 mod runs;
 mod stores;
 
-ghost use Rattle.std.specs.Prelude.{◌≡◌, IfOk};
-ghost use Rattle.sm_versions.specs.Sound.{IsArnOf};
-
 use crate::pieces::body_length;
 use crate::stores::{copy, count};
 use sm_base::limits::{NO_SERIAL, SECRETS_LIMIT};
-use sm_model::{
-    Arn, Change, List, Moment, Name, NoMemory, ReadRefused, Rotation, RowList, SecretRow,
-    SharedList,
-};
+use sm_model::{Change, Moment, Name, NoMemory, ReadRefused, RowList};
+use sm_model_fixtures::rows::bare;
 use sm_table::Table;
 use std::alloc::Global;
 use std::env::Env;
@@ -168,41 +163,10 @@ fn add(alloc: Global, table: &mut Table, name: Name) -> Result<(), ReadRefused> 
     if table.find_name(&name, NOW).is_some() {
         return Ok(());
     }
-    let row = fresh(alloc, serial, name)?;
+    let mut row = bare(alloc, serial, name, &[0; 6])?;
+    row.created = NOW;
+    row.changed = NOW;
     let prepared = table.prepare(Change::Add(row))?;
     table.commit(prepared, NOW);
     Ok(())
-}
-
-/// A secret without versions.
-#[tactic(auto, using(sm_versions::proofs::ArnLemmas::drawn_is_arn_of))]
-fn fresh(alloc: Global, serial: u64, name: Name) -> Result<SecretRow, ReadRefused>
-    ensures { IfOk result (λ row. (row.serial ≡ serial) × (row.name ≡ name) × IsArnOf row.arn row.name) }
-{
-    let arn = Arn::drawn(alloc, &name, &[0; 6])?;
-    Ok(SecretRow {
-        serial,
-        arn,
-        name,
-        created: NOW,
-        changed: NOW,
-        description: None,
-        kms: None,
-        tags: List::empty(alloc),
-        versions: SharedList::empty(alloc),
-        next_version: 0,
-        labels: List::empty(alloc),
-        deletion: None,
-        rotation: Rotation {
-            enabled: false,
-            lambda: None,
-            days: None,
-            schedule: None,
-            next: None,
-            last: None,
-        },
-        policy: None,
-        regions: List::empty(alloc),
-        job: None,
-    })
 }

@@ -1,8 +1,9 @@
 //! Lists of calls as text.
-use sm_base::{Bytes, Fails, List, NoMemory, Text};
+use sm_base::{Bytes, NoMemory};
 use sm_drive::Call;
 use sm_json::{Operation, ReadRequest, request_of};
-use sm_model::{Moment, Person, Request, need};
+use sm_model::{Moment, Request, need};
+use sm_model_fixtures::requests::root;
 use std::alloc::Global;
 
 /// The calls of a list, and the device calls that fail.
@@ -41,14 +42,6 @@ fn token_from(first: u64) -> [u8; 16] {
         bytes[place] = (first.wrapping_add(place as u64) % 256) as u8;
     }
     bytes
-}
-
-fn root() -> Person {
-    Person {
-        key: Text::fixed(""),
-        arn: Text::fixed("arn:aws:iam::000000000000:root"),
-        full: true,
-    }
 }
 
 /// The request of an operation's name and its JSON, if it is one.
@@ -114,13 +107,5 @@ impl Asked {
             }
         }
         Ok(())
-    }
-}
-
-/// The device calls that fail.
-pub fn fails_of(fails: Vec<u64>, from: Option<u64>) -> Fails {
-    Fails {
-        calls: List::new(fails),
-        from,
     }
 }

@@ -1,9 +1,11 @@
 //! A list of calls over a new disk in memory.
-use crate::reading::{Asked, fails_of};
+use crate::reading::Asked;
 use sm_account::OpenRefused;
-use sm_base::{Bytes, List, NoMemory};
+use sm_base::{List, NoMemory};
 use sm_disk::MemoryDisk;
 use sm_drive::{Driven, all_may_be_made, drive};
+use sm_memory_fixtures::disks::disk_of;
+use sm_memory_fixtures::fails::fails_of;
 use sm_rotator::LocalRotator;
 use std::alloc::Global;
 
@@ -13,13 +15,8 @@ pub fn say(alloc: Global, asked: Asked) -> Result<String, NoMemory> {
     if !all_may_be_made(calls.as_slice()) {
         return Ok(String::from_str(alloc, "not asked\n")?);
     }
-    let disk = MemoryDisk::new(
-        alloc,
-        Bytes::empty(alloc),
-        Bytes::empty(alloc),
-        Bytes::empty(alloc),
-        fails_of(fails, from),
-    )?;
+    let fails = fails_of(alloc, fails.as_slice(), from)?;
+    let disk = disk_of(alloc, b"", fails)?;
     let mut rotator = LocalRotator::new(alloc);
     match drive(alloc, disk, List::new(calls), &mut rotator) {
         Ok(driven) => said(alloc, &driven),

@@ -1,10 +1,8 @@
 //! Requests, and what an account answers to them.
 use sm_account::{Account, Handled};
 use sm_disk::MemoryDisk;
-use sm_model::{
-    CreateSecret, Label, List, Moment, Person, PutSecretValue, Request, SecretId, Tag, TagResource,
-    Text, Value, What, Why, need,
-};
+use sm_model::{Label, Moment, Request, SecretId, Text, Value, What, Why, need};
+use sm_model_fixtures::requests::{SECOND, creation, new_value, root, tagging};
 use sm_rotator::NoRotator;
 use std::alloc::Global;
 use std::test::Fail;
@@ -25,42 +23,9 @@ pub enum Answer {
     Memory,
 }
 
-/// CreateSecret of `db/app` with a value and the first token.
-fn creation(alloc: Global, value: &'static str) -> Request {
-    Request::CreateSecret(CreateSecret {
-        regions: List::empty(alloc),
-        client_request_token: Some(Text::fixed("11111111-1111-4111-8111-111111111111")),
-        description: None,
-        kms_key_id: None,
-        name: Text::fixed("db/app"),
-        secret_binary: None,
-        secret_string: Some(Text::fixed(value)),
-        tags: None,
-    })
-}
-
-/// PutSecretValue of `b` with the second token.
-fn new_value() -> Request {
-    Request::PutSecretValue(PutSecretValue {
-        client_request_token: Some(Text::fixed("22222222-2222-4222-8222-222222222222")),
-        secret_binary: None,
-        secret_id: Text::fixed("db/app"),
-        secret_string: Some(Text::fixed("b")),
-        version_stages: None,
-    })
-}
-
-/// TagResource of `db/app` with one tag.
-fn tagging(alloc: Global) -> Result<Request, Fail> {
-    let mut tags = Vec::new(alloc);
-    tags.push(Tag {
-        key: Text::fixed("k"),
-        value: Text::fixed("v"),
-    })?;
-    Ok(Request::TagResource(TagResource {
-        secret_id: Text::fixed("db/app"),
-        tags: List::new(tags),
-    }))
+/// The name of the one secret.
+fn secret() -> Text {
+    Text::fixed("db/app")
 }
 
 fn answer_of(handled: &Handled) -> Answer {
@@ -75,31 +40,26 @@ fn answer_of(handled: &Handled) -> Answer {
 
 /// What the account answers to a request of the account's root.
 fn ask(account: &mut Kept, request: &Request) -> Answer {
-    let root = Person {
-        key: Text::fixed(""),
-        arn: Text::fixed("arn:aws:iam::000000000000:root"),
-        full: true,
-    };
     match DRAWN.get(..need(request)) {
-        Some(drawn) => answer_of(&account.handle(1, &root, NOW, drawn, request)),
+        Some(drawn) => answer_of(&account.handle(1, &root(), NOW, drawn, request)),
         None => Answer::Refused,
     }
 }
 
 /// What the account answers to a creation with this value.
 pub fn create(alloc: Global, account: &mut Kept, value: &'static str) -> Answer {
-    ask(account, &creation(alloc, value))
+    ask(account, &creation(alloc, secret(), value))
 }
 
 /// What the account answers to a tag.
 pub fn tag(alloc: Global, account: &mut Kept) -> Result<Answer, Fail> {
-    let request = tagging(alloc)?;
+    let request = tagging(alloc, secret())?;
     Ok(ask(account, &request))
 }
 
 /// What the account answers to a new value.
 pub fn put(account: &mut Kept) -> Answer {
-    ask(account, &new_value())
+    ask(account, &new_value(secret(), "b", SECOND))
 }
 
 /// The current value of `db/app`, as text.

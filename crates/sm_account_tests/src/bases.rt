@@ -1,8 +1,9 @@
 //! Openings that put a base in the place of what they found, and what the entries are counted from then.
 use crate::asked::{Answer, Kept, create, current, put, tag};
-use crate::journals::{ALMOST_ALL, CREATED, PUT, TOO_LATE, disk_of, file_of, second_file_of};
+use crate::journals::{
+    ALMOST_ALL, CREATED, PUT, TOO_LATE, disk_with, file_of, new_disk, second_file_of,
+};
 use sm_account::{Account, Damage, OpenRefused};
-use sm_base::{Bytes, Fails};
 use sm_disk::MemoryDisk;
 use sm_model::What;
 use std::alloc::Global;
@@ -36,7 +37,7 @@ fn opened(alloc: Global, disk: MemoryDisk) -> Result<(Seen, MemoryDisk), Fail> {
 
 /// A disk with a creation and so many tags.
 fn grown(alloc: Global, tags: u64) -> Result<MemoryDisk, Fail> {
-    let disk = disk_of(alloc, Bytes::empty(alloc), Fails::never(alloc))?;
+    let disk = new_disk(alloc)?;
     let opened: Result<Kept, _> = Account::open(alloc, disk, 1, LIMIT);
     let Ok(mut account) = opened else {
         return Err("not opened".into());
@@ -102,7 +103,7 @@ fn more_than_a_thousand_entries_become_a_base(rt: HostRuntime) -> Result<(), Fai
 fn the_first_format_becomes_a_base(rt: HostRuntime) -> Result<(), Fail> {
     let alloc = rt.alloc();
     let journal = file_of(alloc, &[CREATED, PUT], b"more")?;
-    let (seen, disk) = opened(alloc, disk_of(alloc, journal, Fails::never(alloc))?)?;
+    let (seen, disk) = opened(alloc, disk_with(alloc, journal.as_slice())?)?;
     assert_eq!(rt; seen, shown(alloc, 2, 2, false, "b")?);
     let (again, _) = opened(alloc, disk)?;
     assert_eq!(rt; again, shown(alloc, 2, 2, false, "b")?, "opened again");
@@ -111,7 +112,7 @@ fn the_first_format_becomes_a_base(rt: HostRuntime) -> Result<(), Fail> {
 
 /// The ARN that stands with the entry of a creation.
 fn asked_by(alloc: Global) -> Result<String, Fail> {
-    let disk = disk_of(alloc, Bytes::empty(alloc), Fails::never(alloc))?;
+    let disk = new_disk(alloc)?;
     let opened: Result<Kept, _> = Account::open(alloc, disk, 1, LIMIT);
     let Ok(mut account) = opened else {
         return Err("not opened".into());
@@ -135,7 +136,7 @@ fn an_entry_has_the_arn_of_who_asked(rt: HostRuntime) -> Result<(), Fail> {
 /// What a creation and a new value are answered over a base, and how many entries were made then.
 fn answers_over(alloc: Global, base: &[u8]) -> Result<(Answer, Answer, u64), Fail> {
     let journal = second_file_of(alloc, &[base])?;
-    let disk = disk_of(alloc, journal, Fails::never(alloc))?;
+    let disk = disk_with(alloc, journal.as_slice())?;
     let opened: Result<Kept, _> = Account::open(alloc, disk, 1, LIMIT);
     let Ok(mut account) = opened else {
         return Err("not opened".into());
@@ -158,7 +159,7 @@ fn no_entry_is_made_that_cannot_be_counted(rt: HostRuntime) -> Result<(), Fail> 
 /// Where a journal with this base is damaged.
 fn damage_of(alloc: Global, base: &[u8]) -> Result<Option<Damage>, Fail> {
     let journal = second_file_of(alloc, &[base])?;
-    let disk = disk_of(alloc, journal, Fails::never(alloc))?;
+    let disk = disk_with(alloc, journal.as_slice())?;
     let opened: Result<Kept, _> = Account::open(alloc, disk, 1, LIMIT);
     match opened {
         Err(OpenRefused::Damaged(_, damage)) => Ok(Some(damage)),

@@ -2,14 +2,11 @@
 ghost use Rattle.std.specs.Prelude.{◌≤◌};
 ghost use Rattle.sm_base.specs.declared.moment.TheConstants.{LAST_READING};
 
-use crate::journals::disk_of;
+use crate::journals::new_disk;
 use sm_account::{Account, Handled, NextWork, StartedDue};
-use sm_base::{Bytes, Fails};
 use sm_disk::MemoryDisk;
-use sm_model::{
-    CreateSecret, List, Moment, OfSecret, Person, PutSecretValue, Request, RotateSecret, Rules,
-    Text, need,
-};
+use sm_model::{Moment, Request, Text, need};
+use sm_model_fixtures::requests::{SECOND, cancelling, creation, new_value, root, rotation};
 use sm_rotator::LocalRotator;
 use std::alloc::Global;
 use std::test::Fail;
@@ -42,59 +39,10 @@ fn name_of(alloc: Global, number: u32) -> Result<Text, Fail> {
     Ok(Text::new(format!(in alloc; "s{number:02}")?))
 }
 
-fn creation(alloc: Global, number: u32) -> Result<Request, Fail> {
-    Ok(Request::CreateSecret(CreateSecret {
-        regions: List::empty(alloc),
-        client_request_token: Some(Text::fixed("11111111-1111-4111-8111-111111111111")),
-        description: None,
-        kms_key_id: None,
-        name: name_of(alloc, number)?,
-        secret_binary: None,
-        secret_string: Some(Text::fixed("v")),
-        tags: None,
-    }))
-}
-
-/// RotateSecret every 30 days, from now on or from the next date on.
-fn rotation(alloc: Global, number: u32, now: bool) -> Result<Request, Fail> {
-    Ok(Request::RotateSecret(RotateSecret {
-        client_request_token: Some(Text::fixed("22222222-2222-4222-8222-222222222222")),
-        rotate_immediately: now,
-        rotation_lambda_arn: None,
-        rotation_rules: Some(Rules {
-            days: Some(30),
-            schedule: None,
-        }),
-        secret_id: name_of(alloc, number)?,
-    }))
-}
-
-fn cancelling(alloc: Global, number: u32) -> Result<Request, Fail> {
-    Ok(Request::CancelRotateSecret(OfSecret {
-        secret_id: name_of(alloc, number)?,
-    }))
-}
-
-/// PutSecretValue under the token that is drawn.
-fn new_value(alloc: Global, number: u32) -> Result<Request, Fail> {
-    Ok(Request::PutSecretValue(PutSecretValue {
-        client_request_token: Some(Text::fixed(TOKEN)),
-        secret_binary: None,
-        secret_id: name_of(alloc, number)?,
-        secret_string: Some(Text::fixed("w")),
-        version_stages: None,
-    }))
-}
-
 /// Whether the account answers a request of the account's root with a reply.
 fn answers(account: &mut Kept, request: &Request) -> bool {
-    let root = Person {
-        key: Text::fixed(""),
-        arn: Text::fixed("arn:aws:iam::000000000000:root"),
-        full: true,
-    };
     match DRAWN.get(..need(request)) {
-        Some(drawn) => match account.handle(1, &root, Moment(BEGIN), drawn, request) {
+        Some(drawn) => match account.handle(1, &root(), Moment(BEGIN), drawn, request) {
             Handled::Answered(_) => true,
             Handled::Refused(_) | Handled::DiskFault | Handled::Memory => false,
         },
@@ -104,13 +52,12 @@ fn answers(account: &mut Kept, request: &Request) -> bool {
 
 /// An account with the secrets, of which each third, from this one on, rotates, or nothing where a call is refused.
 fn crowd(alloc: Global, first: u32, now: bool) -> Result<Option<Kept>, Fail> {
-    let calls = List::empty(alloc);
-    let disk = disk_of(alloc, Bytes::empty(alloc), Fails { calls, from: None })?;
+    let disk = new_disk(alloc)?;
     let Ok(mut account) = Account::open(alloc, disk, 1, 1_000_000) else {
         return Ok(None);
     };
     for number in 0..SECRETS {
-        if !answers(&mut account, &creation(alloc, number)?) {
+        if !answers(&mut account, &creation(alloc, name_of(alloc, number)?, "v")) {
             return Ok(None);
         }
     }
@@ -123,7 +70,9 @@ fn crowd(alloc: Global, first: u32, now: bool) -> Result<Option<Kept>, Fail> {
 /// Whether RotateSecret of each third secret is answered.
 fn rotate_thirds(alloc: Global, account: &mut Kept, first: u32, now: bool) -> Result<bool, Fail> {
     for number in 0..SECRETS {
-        if number % 3 == first && !answers(account, &rotation(alloc, number, now)?) {
+        if number % 3 == first
+            && !answers(account, &rotation(name_of(alloc, number)?, SECOND, now))
+        {
             return Ok(false);
         }
     }
@@ -162,7 +111,7 @@ fn steps(alloc: Global) -> Result<String, Fail> {
     };
     let first = taken(alloc, &mut account, Moment(BEGIN))?;
     let second = taken(alloc, &mut account, Moment(BEGIN + 29))?;
-    let cancelled = answers(&mut account, &cancelling(alloc, 8)?);
+    let cancelled = answers(&mut account, &cancelling(name_of(alloc, 8)?));
     let third = taken(alloc, &mut account, Moment(BEGIN + 30))?;
     Ok(format!(in alloc; "{first}/ {second}/ {cancelled} {third}")?)
 }
@@ -182,7 +131,7 @@ fn starts(alloc: Global, drawn: &[u8; 16]) -> Result<String, Fail> {
     let Some(mut account) = crowd(alloc, 1, false)? else {
         return Ok(String::from_str(alloc, "no account")?);
     };
-    if !answers(&mut account, &new_value(alloc, 1)?) {
+    if !answers(&mut account, &new_value(name_of(alloc, 1)?, "w", TOKEN)) {
         return Ok(String::from_str(alloc, "no value")?);
     }
     started(alloc, &mut account, drawn)

@@ -1,6 +1,8 @@
 //! Journals byte by byte: AWS Secrets Manager has none, so they are made from the format alone.
-use sm_base::{Bytes, Fails, NoMemory};
+use sm_base::{Fails, NoMemory};
 use sm_disk::MemoryDisk;
+use sm_memory_fixtures::disks::disk_of;
+use sm_memory_fixtures::journals::file_with;
 use std::alloc::Global;
 
 /// The entry that makes `db/app` with the value `s3cret` and the first token, at 1700000000, with six random bytes.
@@ -35,51 +37,22 @@ pub const ALMOST_ALL: &[u8] = b"\xf1\0\0\0\0\0\0\0\0\0\0\0\0\0\0\0\0\
 pub const TOO_LATE: &[u8] = b"\xf1\0\0\0\0\0\0\0\0\0\0\0\x2e\x90\xed\xd0\x01\
     \0\0\0\0\0\0\0\x01\0\0\0\0\0\0\0\0";
 
-fn push_record(bytes: &mut Vec<u8>, body: &[u8]) -> Result<(), NoMemory> {
-    let length = u32::try_from(body.len()).unwrap_or(u32::MAX);
-    bytes.push(1)?;
-    for byte in length.to_be_bytes() {
-        bytes.push(byte)?;
-    }
-    for byte in body {
-        bytes.push(*byte)?;
-    }
-    Ok(())
-}
-
 /// The file of the first format with these bodies, and some bytes behind its closed gate.
-pub fn file_of(alloc: Global, bodies: &[&[u8]], behind: &[u8]) -> Result<Bytes, NoMemory> {
+pub fn file_of(alloc: Global, bodies: &[&[u8]], behind: &[u8]) -> Result<Vec<u8>, NoMemory> {
     file_with(alloc, b"SMJRNL01", bodies, behind)
 }
 
 /// The file of the second format with these bodies.
-pub fn second_file_of(alloc: Global, bodies: &[&[u8]]) -> Result<Bytes, NoMemory> {
+pub fn second_file_of(alloc: Global, bodies: &[&[u8]]) -> Result<Vec<u8>, NoMemory> {
     file_with(alloc, b"SMJRNL02", bodies, b"")
 }
 
-fn file_with(
-    alloc: Global,
-    header: &[u8],
-    bodies: &[&[u8]],
-    behind: &[u8],
-) -> Result<Bytes, NoMemory> {
-    let mut bytes = Vec::from_slice(alloc, header)?;
-    for body in bodies {
-        push_record(&mut bytes, body)?;
-    }
-    bytes.push(0)?;
-    for byte in behind {
-        bytes.push(*byte)?;
-    }
-    Ok(Bytes::new(bytes))
+/// An empty disk that never fails.
+pub fn new_disk(alloc: Global) -> Result<MemoryDisk, NoMemory> {
+    disk_with(alloc, b"")
 }
 
-pub fn disk_of(alloc: Global, journal: Bytes, fails: Fails) -> Result<MemoryDisk, NoMemory> {
-    MemoryDisk::new(
-        alloc,
-        journal,
-        Bytes::empty(alloc),
-        Bytes::empty(alloc),
-        fails,
-    )
+/// A disk with this journal that never fails.
+pub fn disk_with(alloc: Global, journal: &[u8]) -> Result<MemoryDisk, NoMemory> {
+    disk_of(alloc, journal, Fails::never(alloc))
 }

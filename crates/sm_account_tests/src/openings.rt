@@ -4,10 +4,9 @@ ghost use Rattle.sm_base.specs.declared.limits.TheConstants.{JOURNAL_LIMIT};
 
 use crate::asked::{Answer, Kept, create, current, put};
 use crate::journals::{
-    CANCELLED, CREATED, FORCED, FORCED_LATER, PUT, PUT_EARLIER, SCHEDULED, disk_of, file_of,
+    CANCELLED, CREATED, FORCED, FORCED_LATER, PUT, PUT_EARLIER, SCHEDULED, disk_with, file_of,
 };
 use sm_account::{Account, Damage, OpenRefused};
-use sm_base::Fails;
 use sm_model::{Act, Entry, Request, What};
 use std::alloc::Global;
 use std::test::Fail;
@@ -117,7 +116,7 @@ fn find(alloc: Global, case: &Case) -> Result<Found, Fail> {
     let journal = file_of(alloc, case.bodies, b"")?;
     let opened: Result<Kept, _> = Account::open(
         alloc,
-        disk_of(alloc, journal, Fails::never(alloc))?,
+        disk_with(alloc, journal.as_slice())?,
         2,
         1000,
     );
@@ -142,7 +141,7 @@ fn openings_find_entries_or_damage(rt: HostRuntime) -> Result<(), Fail> {
 fn answers(alloc: Global, limit: u64) -> Result<([Answer; 4], u64), Fail>
     requires { (9 ≤ limit) × (limit ≤ JOURNAL_LIMIT) }
 {
-    let disk = disk_of(alloc, file_of(alloc, &[], b"")?, Fails::never(alloc))?;
+    let disk = disk_with(alloc, file_of(alloc, &[], b"")?.as_slice())?;
     let opened: Result<Kept, _> = Account::open(alloc, disk, 1, limit);
     let Ok(mut account) = opened else {
         return Err("not opened".into());
@@ -173,7 +172,7 @@ fn requests_are_answered_within_the_limits(rt: HostRuntime) -> Result<(), Fail> 
 
 /// The doors that are open at first, after one was closed, and after two more.
 fn doors(alloc: Global) -> Result<[u32; 3], Fail> {
-    let disk = disk_of(alloc, file_of(alloc, &[], b"")?, Fails::never(alloc))?;
+    let disk = disk_with(alloc, file_of(alloc, &[], b"")?.as_slice())?;
     let opened: Result<Kept, _> = Account::open(alloc, disk, 2, 1000);
     let Ok(mut account) = opened else {
         return Err("not opened".into());
@@ -217,7 +216,7 @@ fn kinds(account: &mut Kept) -> [char; 6] {
 
 /// Those of an account that is opened over a creation.
 fn behind_no_base(alloc: Global) -> Result<[char; 6], Fail> {
-    let disk = disk_of(alloc, file_of(alloc, &[], b"")?, Fails::never(alloc))?;
+    let disk = disk_with(alloc, file_of(alloc, &[], b"")?.as_slice())?;
     let opened: Result<Kept, _> = Account::open(alloc, disk, 1, 1000);
     let Ok(mut earlier) = opened else {
         return Err("not opened".into());
@@ -232,7 +231,7 @@ fn behind_no_base(alloc: Global) -> Result<[char; 6], Fail> {
 
 /// Those of an account of which a creation in the first format became the base.
 fn behind_a_base(alloc: Global) -> Result<[char; 6], Fail> {
-    let disk = disk_of(alloc, file_of(alloc, &[CREATED], b"")?, Fails::never(alloc))?;
+    let disk = disk_with(alloc, file_of(alloc, &[CREATED], b"")?.as_slice())?;
     let opened: Result<Kept, _> = Account::open(alloc, disk, 1, 1000);
     let Ok(mut account) = opened else {
         return Err("not opened".into());

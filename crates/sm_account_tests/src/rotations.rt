@@ -1,8 +1,9 @@
 //! Rotations by an account's own calls: claims, attempts, late verdicts, and rotations that are due.
-use crate::journals::disk_of;
-use crate::scripts::{Run, SECOND, Step, THIRD, differs};
+use crate::journals::new_disk;
+use crate::scripts::{Run, Step, THIRD, differs};
 use sm_account::Account;
-use sm_base::{Bytes, Fails, List};
+use sm_base::Fails;
+use sm_model_fixtures::requests::SECOND;
 use sm_rotator::{LocalRotator, Rotator, ScriptRotator};
 use std::alloc::Global;
 use std::test::Fail;
@@ -312,8 +313,7 @@ fn run<R: Rotator + Drop>(
     rotator: R,
     scripts: &[&[Line]],
 ) -> Result<Option<String>, Fail> {
-    let calls = List::empty(alloc);
-    let disk = disk_of(alloc, Bytes::empty(alloc), Fails { calls, from: None })?;
+    let disk = new_disk(alloc)?;
     let Ok(account) = Account::open(alloc, disk, 1, 100_000) else {
         return Ok(Some(String::from_str(alloc, "not opened")?));
     };
@@ -362,11 +362,8 @@ fn due_rotations(rt: HostRuntime) -> Result<(), Fail> {
 #[test]
 fn the_attempt_is_remembered(rt: HostRuntime) -> Result<(), Fail> {
     let alloc = rt.alloc();
-    let fails = Fails {
-        calls: List::empty(alloc),
-        from: None,
-    };
-    let seen = run(alloc, ScriptRotator::new(alloc, fails), &[&SCRIPTED])?;
+    let rotator = ScriptRotator::new(alloc, Fails::never(alloc));
+    let seen = run(alloc, rotator, &[&SCRIPTED])?;
     assert_eq!(rt; seen, None);
     Ok(())
 }

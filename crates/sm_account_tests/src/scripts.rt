@@ -5,9 +5,10 @@ ghost use Rattle.sm_base.specs.declared.moment.TheConstants.{LAST_READING};
 use sm_account::{Account, Handled, NextWork, Reported, StartedDue};
 use sm_disk::MemoryDisk;
 use sm_model::{
-    At, CreateSecret, Job, List, Moment, OfSecret, Person, PutSecretValue, Reply, Request,
-    RotateSecret, Rules, SecretId, SecretRow, Text, Token, UpdateSecretVersionStage, need,
+    At, Job, List, Moment, PutSecretValue, Reply, Request, SecretId, SecretRow, Text, Token,
+    UpdateSecretVersionStage, need,
 };
+use sm_model_fixtures::requests::{SECOND, cancelling, creation, root, rotation};
 use sm_rotator::{Asked, Rotator, Verdict, Work};
 use std::alloc::Global;
 use std::test::Fail;
@@ -15,11 +16,7 @@ use std::test::Fail;
 /// When a script begins, in seconds since the beginning of 1970.
 pub const BEGIN: u64 = 1_700_000_000;
 
-/// The tokens begin with another character each.
-pub const FIRST: &str = "11111111-1111-4111-8111-111111111111";
-
-pub const SECOND: &str = "22222222-2222-4222-8222-222222222222";
-
+/// It begins with another character than the first two tokens.
 pub const THIRD: &str = "33333333-3333-4333-8333-333333333333";
 
 /// What is done.
@@ -54,33 +51,13 @@ pub struct Run<R: Rotator> {
     pub works: Vec<Work>,
 }
 
-fn creation(alloc: Global) -> Request {
-    Request::CreateSecret(CreateSecret {
-        regions: List::empty(alloc),
-        client_request_token: Some(Text::fixed(FIRST)),
-        description: None,
-        kms_key_id: None,
-        name: Text::fixed("app/db"),
-        secret_binary: None,
-        secret_string: Some(Text::fixed(
-            r#"{"username":"app","password":"old-password","host":"db"}"#,
-        )),
-        tags: None,
-    })
+/// The name of the one secret.
+fn secret() -> Text {
+    Text::fixed("app/db")
 }
 
-fn rotation(token: &'static str) -> Request {
-    Request::RotateSecret(RotateSecret {
-        client_request_token: Some(Text::fixed(token)),
-        rotate_immediately: true,
-        rotation_lambda_arn: None,
-        rotation_rules: Some(Rules {
-            days: Some(30),
-            schedule: None,
-        }),
-        secret_id: Text::fixed("app/db"),
-    })
-}
+/// Its first value.
+const VALUE: &str = r#"{"username":"app","password":"old-password","host":"db"}"#;
 
 fn filling(alloc: Global) -> Result<Request, Fail> {
     let mut labels = Vec::new(alloc);
@@ -88,7 +65,7 @@ fn filling(alloc: Global) -> Result<Request, Fail> {
     Ok(Request::PutSecretValue(PutSecretValue {
         client_request_token: Some(Text::fixed(SECOND)),
         secret_binary: None,
-        secret_id: Text::fixed("app/db"),
+        secret_id: secret(),
         secret_string: Some(Text::fixed(r#"{"password":"short"}"#)),
         version_stages: Some(List::new(labels)),
     }))
@@ -98,14 +75,8 @@ fn dropping() -> Request {
     Request::UpdateSecretVersionStage(UpdateSecretVersionStage {
         move_to_version_id: None,
         remove_from_version_id: Some(Text::fixed(SECOND)),
-        secret_id: Text::fixed("app/db"),
+        secret_id: secret(),
         version_stage: Text::fixed("AWSPENDING"),
-    })
-}
-
-fn cancelling() -> Request {
-    Request::CancelRotateSecret(OfSecret {
-        secret_id: Text::fixed("app/db"),
     })
 }
 
@@ -178,14 +149,12 @@ fn ask<R: Rotator>(
 ) -> Result<String, Fail>
     requires { moment.0 ≤ LAST_READING }
 {
-    let root = Person {
-        key: Text::fixed(""),
-        arn: Text::fixed("arn:aws:iam::000000000000:root"),
-        full: true,
-    };
     let random: [u8; 6] = [0, 1, 2, 3, 4, 5];
     match random.get(..need(request)) {
-        Some(drawn) => handled_text(alloc, &run.account.handle(1, &root, moment, drawn, request)),
+        Some(drawn) => handled_text(
+            alloc,
+            &run.account.handle(1, &root(), moment, drawn, request),
+        ),
         None => text_of(alloc, "too few random bytes"),
     }
 }
@@ -231,11 +200,11 @@ fn make_step<R: Rotator>(
     requires { moment.0 ≤ LAST_READING }
 {
     match step {
-        Step::Create => ask(alloc, run, moment, &creation(alloc)),
-        Step::Rotate(token) => ask(alloc, run, moment, &rotation(token)),
+        Step::Create => ask(alloc, run, moment, &creation(alloc, secret(), VALUE)),
+        Step::Rotate(token) => ask(alloc, run, moment, &rotation(secret(), token, true)),
         Step::Fill => ask(alloc, run, moment, &filling(alloc)?),
         Step::DropPending => ask(alloc, run, moment, &dropping()),
-        Step::CancelRotation => ask(alloc, run, moment, &cancelling()),
+        Step::CancelRotation => ask(alloc, run, moment, &cancelling(secret())),
         Step::Take => take(alloc, run, moment),
         Step::Report => report(alloc, run, moment),
         Step::Turn => {
@@ -307,7 +276,7 @@ fn shown(alloc: Global, row: &SecretRow) -> Result<String, Fail> {
 }
 
 /// The secret as it stands.
-fn secret<R: Rotator>(alloc: Global, run: &Run<R>, moment: Moment) -> Result<String, Fail>
+fn secret_text<R: Rotator>(alloc: Global, run: &Run<R>, moment: Moment) -> Result<String, Fail>
     requires { moment.0 ≤ LAST_READING }
 {
     let id = SecretId::read(alloc, b"app/db")?;
@@ -327,7 +296,7 @@ pub fn differs<R: Rotator>(
     for (after, what, told, stands) in script {
         let moment = Moment((*after).min(10_000_000_000) + BEGIN);
         let said = make_step(alloc, run, moment, *what)?;
-        let seen = secret(alloc, run, moment)?;
+        let seen = secret_text(alloc, run, moment)?;
         if said.as_str() != *told || seen.as_str() != *stands {
             return Ok(Some(format!(in alloc; "at {after}: {said}: {seen}")?));
         }

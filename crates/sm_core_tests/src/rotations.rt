@@ -6,18 +6,17 @@ ghost use Rattle.sm_table.specs.Changes.{CanMake, StandsAt};
 ghost use Rattle.sm_table.specs.Sound.{ChangeSound};
 ghost use Rattle.sm_table.specs.Sweep.{sweep};
 
-use crate::tables::{answer_there, difference, pairs_text};
+use crate::tables::{Secrets, answer_there, difference, no_secrets, pairs_text};
 use sm_base::moment::LAST_READING;
 use sm_core::{Replayed, again};
 use sm_core_fixtures::asked::{column, count, given, request, secret_id, token, value, word};
-use sm_core_fixtures::shown::{number, plain};
+use sm_core_fixtures::shown::plain;
 use sm_model::{
     Act, Answer, Arn, At, Bytes, Change, Entry, Job, Moment, OfSecret, Request, RotateSecret,
     Rules, SecretRow, Stage, Text, Token, Value, need,
 };
 use sm_table::Table;
 use std::alloc::Global;
-use std::marker::Model;
 use std::test::Fail;
 
 const BEGINNING: &str = "arn:aws:secretsmanager:us-east-1:000000000000:secret:";
@@ -361,23 +360,6 @@ fn entry(alloc: Global, moment: Moment, text: &str) -> Result<Entry, Fail> {
 
 // ---- secrets
 
-/// Secrets that are as they are between any two entries.
-#[derive(Drop)]
-struct Secrets {
-    table: Table,
-}
-
-impl Model for Secrets {
-    ghost use Rattle.sm_model.specs.declared.rows.Rows.{Rows};
-    ghost use Rattle.sm_table.specs.Sound.{Sound};
-
-    ghost Value = { Rows };
-
-    ghost view = { λ s. s.table };
-
-    ghost invariant = { λ s. Sound s.table };
-}
-
 fn commit(secrets: &mut Secrets, change: Change, moment: Moment) -> Result<(), Fail>
     requires can { CanMake secrets.old change }
     requires stands { StandsAt secrets.old moment change }
@@ -476,9 +458,7 @@ fn left_text(alloc: Global, table: &Table) -> Result<String, Fail> {
 
 /// Makes the entry of each row in turn, and says each difference.
 fn differences(alloc: Global, table: &str) -> Result<String, Fail> {
-    let mut secrets = Secrets {
-        table: Table::new(alloc),
-    };
+    let mut secrets = no_secrets(alloc);
     let mut told = String::new(alloc);
     for row in table.split(";") {
         let shown = answer_row(alloc, &mut secrets, row)?;

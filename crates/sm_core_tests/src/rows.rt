@@ -3,9 +3,10 @@ ghost use Rattle.std.specs.Prelude.{◌≡◌, IfOk};
 ghost use Rattle.sm_versions.specs.Sound.{IsArnOf};
 
 use sm_model::{
-    Arn, Bytes, Change, Label, List, Moment, Name, Pair, Rotation, SecretRow, SharedList, Text,
-    Token, Value, VersionRow,
+    Bytes, Change, Label, List, Moment, Name, Pair, SecretRow, SharedList, Text, Token, Value,
+    VersionRow,
 };
+use sm_model_fixtures::rows::bare;
 use sm_table::Table;
 use std::alloc::Global;
 use std::test::Fail;
@@ -61,48 +62,14 @@ fn pairs(alloc: Global) -> Result<List<Pair>, Fail> {
     Ok(pairs)
 }
 
-fn no_rotation() -> Rotation {
-    Rotation {
-        enabled: false,
-        lambda: None,
-        days: None,
-        schedule: None,
-        next: None,
-        last: None,
-    }
-}
-
-/// A secret of this name without versions, whose ARN ends in the characters of the six bytes.
-#[tactic(auto, using(sm_versions::proofs::ArnLemmas::drawn_is_arn_of))]
-fn fresh(alloc: Global, name: Name, six: &[u8; 6]) -> Result<SecretRow, Fail>
-    ensures { IfOk result (λ row. (row.serial ≡ 0) × IsArnOf row.arn row.name) }
-{
-    Ok(SecretRow {
-        serial: 0,
-        arn: Arn::drawn(alloc, &name, six)?,
-        name,
-        created: Moment(7),
-        changed: Moment(7),
-        description: None,
-        kms: None,
-        tags: List::empty(alloc),
-        versions: SharedList::empty(alloc),
-        next_version: 0,
-        labels: List::empty(alloc),
-        deletion: None,
-        rotation: no_rotation(),
-        policy: None,
-        regions: List::empty(alloc),
-        job: None,
-    })
-}
-
 /// A secret whose second version waits for a value.
 pub fn secret(alloc: Global, count: u64, deletion: Option<Moment>) -> Result<SecretRow, Fail>
     ensures { IfOk result (λ row. (row.serial ≡ 0) × IsArnOf row.arn row.name) }
 {
     let name = Name::read(alloc, b"app")?;
-    let mut row = fresh(alloc, name, &[0, 1, 2, 3, 4, 5])?;
+    let mut row = bare(alloc, 0, name, &[0, 1, 2, 3, 4, 5])?;
+    row.created = Moment(7);
+    row.changed = Moment(7);
     row.versions = versions(alloc, count)?;
     row.next_version = count.saturating_add(1);
     row.labels = pairs(alloc)?;

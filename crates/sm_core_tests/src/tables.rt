@@ -14,7 +14,8 @@ use sm_core::judging::judge_exactly;
 use sm_core::{Admitted, Judged, admit, forms, judge};
 use sm_core_fixtures::asked::{column, request};
 use sm_core_fixtures::shown::{number, plain, show_once};
-use sm_model::{Change, Moment, Person, Request, SecretRow, Text, Why, need};
+use sm_model::{Change, Moment, Person, Request, SecretRow, Why, need};
+use sm_model_fixtures::requests::root;
 use sm_table::Table;
 use sm_versions::When;
 use std::alloc::Global;
@@ -376,7 +377,7 @@ a secret that is gone is not replicated | replicate app a | no secret | 9;
 a secret that is gone has no regions to take off | unreplicate app a | no secret | 9;
 a stop at a secret that is gone | stop app | no secret | 9";
 
-/// Secrets that are as they are between any two requests.
+/// Secrets that are as they are between any two requests or entries.
 #[derive(Drop)]
 pub struct Secrets {
     pub table: Table,
@@ -391,14 +392,6 @@ impl Model for Secrets {
     ghost view = { λ s. s.table };
 
     ghost invariant = { λ s. Sound s.table };
-}
-
-fn root() -> Person {
-    Person {
-        key: Text::fixed(""),
-        arn: Text::fixed("arn:aws:iam::000000000000:root"),
-        full: true,
-    }
 }
 
 pub fn no_secrets(alloc: Global) -> Secrets {

@@ -1,6 +1,9 @@
 //! Disks that a run begins with. Journals are made byte by byte, from the format alone.
-use sm_base::{Bytes, Fails, List, NoMemory};
+use sm_base::{Fails, NoMemory};
 use sm_disk::MemoryDisk;
+use sm_memory_fixtures::disks;
+use sm_memory_fixtures::fails::fails_of;
+use sm_memory_fixtures::journals::{file_with, put_record};
 use std::alloc::Global;
 
 /// What a disk holds at first.
@@ -30,61 +33,32 @@ const CREATED: &[u8] = b"\x02\0\0\0\0\x65\x53\xf1\0\0\0\0\0\0\0\0\x1earn:aws:iam
 const TAGGED: &[u8] = b"\x02\0\0\0\0\x65\x53\xf1\0\0\0\0\0\0\0\0\x1earn:aws:iam::000000000000:root\
     \0\0\0\0\x07\0\0\0\x06app/db\0\0\0\x01\0\0\0\x01k\0\0\0\x01v";
 
-fn push_all(bytes: &mut Vec<u8>, piece: &[u8]) -> Result<(), NoMemory> {
-    for byte in piece {
-        bytes.push(*byte)?;
-    }
-    Ok(())
-}
+/// What is behind the gate of a journal that was cut short in the middle of an entry.
+const TORN: &[u8] = b"\0\0\x01more";
 
-fn push_record(bytes: &mut Vec<u8>, body: &[u8]) -> Result<(), NoMemory> {
-    let length = u32::try_from(body.len()).unwrap_or(u32::MAX);
-    bytes.push(1)?;
-    push_all(bytes, &length.to_be_bytes())?;
-    push_all(bytes, body)
-}
-
-/// The journal with a creation and so many tags.
-fn second(alloc: Global, tags: u32) -> Result<Vec<u8>, NoMemory> {
+/// The journal with a creation and 1,000 tags.
+fn long(alloc: Global) -> Result<Vec<u8>, NoMemory> {
     let mut bytes = Vec::from_slice(alloc, b"SMJRNL02")?;
-    push_record(&mut bytes, CREATED)?;
-    for _ in 0..tags {
-        push_record(&mut bytes, TAGGED)?;
+    put_record(&mut bytes, CREATED)?;
+    for _ in 0..1000 {
+        put_record(&mut bytes, TAGGED)?;
     }
     bytes.push(0)?;
-    Ok(bytes)
-}
-
-/// A journal that was cut short in the middle of an entry.
-fn torn(mut bytes: Vec<u8>) -> Result<Vec<u8>, NoMemory> {
-    push_all(&mut bytes, b"\0\0\x01more")?;
     Ok(bytes)
 }
 
 fn journal(alloc: Global, start: Start) -> Result<Vec<u8>, NoMemory> {
     match start {
         Start::New => Ok(Vec::new(alloc)),
-        Start::First => {
-            let mut bytes = Vec::from_slice(alloc, b"SMJRNL01")?;
-            push_record(&mut bytes, CREATED_FIRST)?;
-            bytes.push(0)?;
-            torn(bytes)
-        }
-        Start::Second => torn(second(alloc, 0)?),
-        Start::Long => second(alloc, 1000),
+        Start::First => file_with(alloc, b"SMJRNL01", &[CREATED_FIRST], TORN),
+        Start::Second => file_with(alloc, b"SMJRNL02", &[CREATED], TORN),
+        Start::Long => long(alloc),
     }
 }
 
 /// A disk that holds this, and fails at these calls.
 pub fn disk_of(alloc: Global, start: Start, fails: Fails) -> Result<MemoryDisk, NoMemory> {
-    let journal = Bytes::new(journal(alloc, start)?);
-    MemoryDisk::new(
-        alloc,
-        journal,
-        Bytes::empty(alloc),
-        Bytes::empty(alloc),
-        fails,
-    )
+    disks::disk_of(alloc, journal(alloc, start)?.as_slice(), fails)
 }
 
 /// How many entries a disk holds at first.
@@ -112,8 +86,5 @@ pub fn failing(
         }
     }
     let from = if later { call } else { None };
-    Ok(Fails {
-        calls: List::new(calls),
-        from,
-    })
+    fails_of(alloc, calls.as_slice(), from)
 }

@@ -6,6 +6,7 @@ use crate::seen::{End, run_with};
 use sm_base::{Fails, List};
 use sm_drive::Outcome;
 use sm_drive::Outcome::{Asked, Entered, Nothing, Quiet, Stale};
+use sm_memory_fixtures::fails::fails_from;
 use sm_rotator::{Rotator, ScriptRotator};
 use std::alloc::Global;
 use std::test::Fail;
@@ -210,11 +211,7 @@ fn seen(alloc: Global, case: &Case) -> Result<String, Fail> {
             seen_with(alloc, case, &mut rotator)
         }
         Who::Failing => {
-            let fails = Fails {
-                calls: List::empty(alloc),
-                from: Some(1),
-            };
-            let mut rotator = ScriptRotator::new(alloc, fails);
+            let mut rotator = ScriptRotator::new(alloc, fails_from(alloc, Some(1)));
             seen_with(alloc, case, &mut rotator)
         }
         Who::Other => seen_with(alloc, case, &mut OtherRotator),

@@ -5,6 +5,7 @@ use crate::seen::{End, run};
 use sm_base::List;
 use sm_disk::MemoryDisk;
 use sm_drive::Outcome;
+use sm_memory_fixtures::failing::{Trial, first_loss};
 use std::alloc::Global;
 use std::test::Fail;
 
@@ -18,7 +19,10 @@ struct Scene {
 
 const MONTH: u64 = 2_592_000;
 
-const SCENES: [Scene; 8] = [
+/// More calls than a scene makes of a disk.
+const MOST_CALLS: u64 = 401;
+
+static SCENES: [Scene; 8] = [
     // an opening
     Scene {
         start: Start::Second,
@@ -217,43 +221,51 @@ fn is_kept(
     }
 }
 
-fn are_kept(alloc: Global, scene: &Scene, states: &[String], left: &Left) -> Result<bool, Fail> {
-    for fill in [0, 1, 7] {
-        if !is_kept(alloc, scene, states, left, fill)? {
-            return Ok(false);
-        }
-    }
-    Ok(true)
+/// A scene, the secret after each number of entries, and the device call that fails in any case.
+#[derive(Drop)]
+struct Staged {
+    scene: &'static Scene,
+    states: List<String>,
+    always: Option<u64>,
 }
 
-/// The first device call, and whether later ones fail too, where a crash leaves something else than the run may leave:
-/// from 1 on, until no call fails from that one on but the one that fails in any case.
-fn lost(alloc: Global, scene: &Scene) -> Result<Option<(u64, bool)>, Fail> {
-    let states = states(alloc, scene)?;
-    let always = failing_always(alloc, scene)?;
-    let least = u64::from(always.is_some());
-    for call in 1..=400u64 {
-        let alone = left_by(alloc, scene, always, call, false)?;
-        if !are_kept(alloc, scene, states.as_slice(), &alone)? {
-            return Ok(Some((call, false)));
-        }
-        let all = left_by(alloc, scene, always, call, true)?;
-        if !are_kept(alloc, scene, states.as_slice(), &all)? {
-            return Ok(Some((call, true)));
-        }
-        if all.faults == least {
-            return Ok(None);
-        }
-    }
-    Err("more than 400 device calls".into())
-}
-
-/// The same of the scene at a place of the table.
-fn lost_at(alloc: Global, place: usize) -> Result<Option<(u64, bool)>, Fail> {
+/// The scene at a place of the table.
+fn staged_at(alloc: Global, place: usize) -> Result<Staged, Fail> {
     match SCENES.get(place) {
-        Some(scene) => lost(alloc, scene),
+        Some(scene) => Ok(Staged {
+            scene,
+            states: states(alloc, scene)?,
+            always: failing_always(alloc, scene)?,
+        }),
         None => Err("no such scene".into()),
     }
+}
+
+impl Trial for Staged {
+    type Left = Left;
+
+    fn run(&self, alloc: Global, call: u64, later: bool) -> Result<Left, Fail> {
+        if call == MOST_CALLS {
+            return Err("too many device calls".into());
+        }
+        left_by(alloc, self.scene, self.always, call, later)
+    }
+
+    fn is_kept(&self, alloc: Global, left: &Left, fill: u8) -> Result<bool, Fail> {
+        is_kept(alloc, self.scene, self.states.as_slice(), left, fill)
+    }
+
+    /// No step meets a fault but the one whose call fails in any case.
+    fn is_over(&self, left: &Left) -> bool {
+        left.faults == u64::from(self.always.is_some())
+    }
+}
+
+/// The first device call, whether later ones fail too, and the first fill, where a crash leaves something else than
+/// the scene at this place may leave: from 1 on, until no call fails from that one on but the one that fails in any
+/// case.
+fn lost_at(alloc: Global, place: usize) -> Result<Option<(u64, bool, u8)>, Fail> {
+    first_loss(alloc, &staged_at(alloc, place)?, MOST_CALLS)
 }
 
 // Each scene is a test of its own, since a test has a minute.

@@ -6,6 +6,7 @@ use sm_frames::{
     FrameReader, FrameRefused, Input, NextFrame, decode, encode, encode_position, encode_reply,
 };
 use sm_io::MemorySource;
+use sm_memory_fixtures::fails::fails_at;
 use std::alloc::Global;
 use std::test::Fail;
 
@@ -151,13 +152,7 @@ fn frames_are_encoded_as_they_were(rt: HostRuntime) -> Result<(), Fail> {
 #[test]
 fn a_source_that_fails_is_told(rt: HostRuntime) -> Result<(), Fail> {
     let bytes = bytes_of(rt.alloc(), "b1.p0.n1.ld")?;
-    let came = read(rt.alloc(), bytes, 20, fails_at(rt.alloc(), 1)?)?;
+    let came = read(rt.alloc(), bytes, 20, fails_at(rt.alloc(), 1, false)?)?;
     assert_eq!(rt; came.as_str(), "fault");
     Ok(())
-}
-
-/// One call that fails.
-fn fails_at(alloc: Global, call: u64) -> Result<Fails, Fail> {
-    let calls = sm_base::List::new(Vec::from_slice(alloc, &[call])?);
-    Ok(Fails { calls, from: None })
 }

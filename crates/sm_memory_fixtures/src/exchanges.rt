@@ -28,6 +28,10 @@ pub const APP_CREATED: &str =
     "{\"ARN\":\"arn:aws:secretsmanager:us-east-1:000000000000:secret:db/app-ABCDEF\",\"Name\":\"db/app\",\
         \"VersionId\":\"11111111-1111-4111-8111-111111111111\"}";
 
+/// The reply that names that secret alone.
+pub const APP_NAMED: &str =
+    r#"{"ARN":"arn:aws:secretsmanager:us-east-1:000000000000:secret:db/app-ABCDEF","Name":"db/app"}"#;
+
 /// Another value of that secret, and the reply to it.
 pub const PUT_B: &str =
     r#"{"SecretId":"db/app","SecretString":"b","ClientRequestToken":"22222222-2222-4222-8222-222222222222"}"#;
@@ -49,19 +53,38 @@ pub const SECOND_VALUE: &str =
         \"Name\":\"db/app\",\"SecretString\":\"b\",\"VersionId\":\"22222222-2222-4222-8222-222222222222\",\
         \"VersionStages\":[\"AWSCURRENT\"]}";
 
+/// The reply to its deletion in seven days, and what is refused until then.
+pub const APP_DELETED: &str =
+    "{\"ARN\":\"arn:aws:secretsmanager:us-east-1:000000000000:secret:db/app-ABCDEF\",\"DeletionDate\":1700604800,\
+        \"Name\":\"db/app\"}";
+
+pub const SCHEDULED: &str =
+    r#"{"Message":"secret is scheduled for deletion at 1700604800","__type":"InvalidRequestException"}"#;
+
 /// Refusals.
 pub const NOT_FOUND: &str =
     r#"{"Message":"secret not found","__type":"ResourceNotFoundException"}"#;
 
+pub const NO_OPERATION: &str =
+    r#"{"Message":"unknown operation","__type":"UnknownOperationException"}"#;
+
+pub const NO_OBJECT: &str =
+    r#"{"Message":"body is not a JSON object","__type":"SerializationException"}"#;
+
 pub const DISK_FAULT: &str = r#"{"Message":"disk fault","__type":"InternalServiceError"}"#;
+
+pub const RANDOM_FAULT: &str =
+    r#"{"Message":"random source fault","__type":"InternalServiceError"}"#;
 
 /// The status line and the body of a reply.
 pub type Reply = (&'static str, &'static str);
 
 /// Replies to messages that ask for nothing, are none, or have no body of their operation.
-pub const UNKNOWN: Reply = (
+pub const UNKNOWN: Reply = (BAD, NO_OPERATION);
+
+pub const HEAD_TOO_LONG: Reply = (
     BAD,
-    r#"{"Message":"unknown operation","__type":"UnknownOperationException"}"#,
+    r#"{"Message":"http: head too long","__type":"SerializationException"}"#,
 );
 
 pub const HEAD: Reply = (
@@ -79,14 +102,32 @@ pub const CHUNKED: Reply = (
     r#"{"Message":"http: chunked","__type":"SerializationException"}"#,
 );
 
-pub const NOT_JSON: Reply = (
-    BAD,
-    r#"{"Message":"body is not a JSON object","__type":"SerializationException"}"#,
-);
+pub const NOT_JSON: Reply = (BAD, NO_OBJECT);
 
 pub const NO_LIMIT: Reply = (
     BAD,
     r#"{"Message":"MaxResults is missing or of another type","__type":"SerializationException"}"#,
+);
+
+/// Replies to members that are outside their forms.
+pub const LIMIT_FORM: Reply = (
+    BAD,
+    r#"{"Message":"MaxResults is not in its form","__type":"InvalidParameterException"}"#,
+);
+
+pub const ID_FORM: Reply = (
+    BAD,
+    r#"{"Message":"SecretId is not in its form","__type":"InvalidParameterException"}"#,
+);
+
+pub const TOKEN_FORM: Reply = (
+    BAD,
+    r#"{"Message":"ClientRequestToken is not in its form","__type":"InvalidParameterException"}"#,
+);
+
+pub const NEXT_FORM: Reply = (
+    BAD,
+    r#"{"Message":"NextToken is not in its form","__type":"InvalidNextTokenException"}"#,
 );
 
 /// The secret `n` is made without a value.

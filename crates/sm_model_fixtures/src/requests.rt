@@ -1,4 +1,7 @@
 //! Requests of the account's root on one secret.
+ghost use Rattle.std.specs.Prelude.{◌≤◌, length};
+ghost use Rattle.sm_base.specs.declared.limits.TheConstants.{CALLER_LIMIT};
+
 use sm_model::{
     CreateSecret, DeleteSecret, List, NoMemory, OfSecret, Person, PutSecretValue, Request,
     RotateSecret, Rules, Tag, TagResource, Text,
@@ -10,8 +13,11 @@ pub const FIRST: &str = "11111111-1111-4111-8111-111111111111";
 
 pub const SECOND: &str = "22222222-2222-4222-8222-222222222222";
 
-/// The account's root, who asks.
-pub fn root() -> Person {
+/// The account's root, who asks. The key and the ARN are short enough to stand with an entry.
+pub fn root() -> Person
+    ensures key { length result.key ≤ CALLER_LIMIT }
+    ensures arn { length result.arn ≤ CALLER_LIMIT }
+{
     Person {
         key: Text::fixed(""),
         arn: Text::fixed("arn:aws:iam::000000000000:root"),

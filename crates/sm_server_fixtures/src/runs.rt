@@ -1,7 +1,8 @@
-//! Runs over memory, and the bytes of messages and replies.
+//! Runs over memory.
 use sm_disk::MemoryDisk;
 use sm_io::{CountWords, FixedClock, MemorySink, MemorySource};
-use sm_model::{Bytes, Fails, List, Moment, NoMemory};
+use sm_memory_fixtures::fails::fails_from;
+use sm_model::{Bytes, Moment};
 use sm_rotator::LocalRotator;
 use sm_server::{Status, run_once};
 use std::alloc::Global;
@@ -25,25 +26,6 @@ pub const WELL: Outside = Outside {
     sink_from: None,
     random_from: None,
 };
-
-/// Calls that fail from one on.
-fn fails(alloc: Global, from: Option<u64>) -> Fails {
-    Fails {
-        calls: List::empty(alloc),
-        from,
-    }
-}
-
-/// A disk in memory whose journal holds these bytes.
-pub fn disk_of(alloc: Global, journal: &[u8], fails: Fails) -> Result<MemoryDisk, NoMemory> {
-    MemoryDisk::new(
-        alloc,
-        Bytes::from_slice(alloc, journal)?,
-        Bytes::empty(alloc),
-        Bytes::empty(alloc),
-        fails,
-    )
-}
 
 /// What a run over this input answers and writes, and the disk behind it.
 pub fn run(
@@ -78,10 +60,10 @@ pub fn run_people(
     let take = outside.take.max(1);
     let put = outside.put.max(1);
     let bytes = Bytes::from_slice(alloc, input)?;
-    let mut source = MemorySource::new(bytes, take, fails(alloc, outside.source_from));
-    let mut sink = MemorySink::new(alloc, put, fails(alloc, outside.sink_from));
+    let mut source = MemorySource::new(bytes, take, fails_from(alloc, outside.source_from));
+    let mut sink = MemorySink::new(alloc, put, fails_from(alloc, outside.sink_from));
     let mut clock = FixedClock::new(Moment(1_700_000_000));
-    let mut random = CountWords::new(alloc, 0, fails(alloc, outside.random_from));
+    let mut random = CountWords::new(alloc, 0, fails_from(alloc, outside.random_from));
     let mut rotator = LocalRotator::new(alloc);
     let words = words(alloc, line)?;
     let (status, disk) = run_once(
@@ -105,35 +87,4 @@ fn words(alloc: Global, line: &str) -> Result<Vec<String>, Fail> {
         words.push(String::from_str(alloc, word)?)?;
     }
     Ok(words)
-}
-
-/// Adds a message that asks for an operation.
-pub fn add_message(
-    alloc: Global,
-    input: &mut Vec<u8>,
-    operation: &str,
-    body: &[u8],
-) -> Result<(), Fail> {
-    let size = body.len();
-    let head = format!(in alloc;
-        "POST / HTTP/1.1\r\nX-Amz-Target: secretsmanager.{operation}\r\nContent-Length: {size}\r\n\r\n"
-    )?;
-    input.extend_from_slice(head.as_bytes())?;
-    input.extend_from_slice(body)?;
-    Ok(())
-}
-
-/// Adds a reply.
-pub fn add_reply(
-    alloc: Global,
-    output: &mut Vec<u8>,
-    status: &str,
-    body: &str,
-) -> Result<(), Fail> {
-    let size = body.len();
-    let reply = format!(in alloc;
-        "HTTP/1.1 {status}\r\nContent-Type: application/x-amz-json-1.1\r\nContent-Length: {size}\r\n\r\n{body}"
-    )?;
-    output.extend_from_slice(reply.as_bytes())?;
-    Ok(())
 }

@@ -1,8 +1,10 @@
 //! What a disk holds, as a run in mode check says it.
+use sm_memory_fixtures::disks::disk_of;
+use sm_memory_fixtures::exchanges::{APP, CREATE};
+use sm_memory_fixtures::messages::add_message;
 use sm_model::Fails;
 use sm_server::Status;
-use sm_server_fixtures::exchanges::{APP, CREATE};
-use sm_server_fixtures::runs::{Outside, WELL, add_message, disk_of, run, run_words};
+use sm_server_fixtures::runs::{Outside, WELL, run, run_words};
 use std::alloc::Global;
 use std::test::Fail;
 

@@ -2,22 +2,18 @@
 use sm_account::Account;
 use sm_base::limits::JOURNAL_LIMIT;
 use sm_disk::MemoryDisk;
-use sm_model::{Fails, List};
+use sm_memory_fixtures::disks::disk_of;
+use sm_memory_fixtures::exchanges::{
+    APP_MADE, B_FAULT, B_MADE, Exchange, FIRST_VALUE, GET, GET_APP, OK, SECOND_VALUE, spoken,
+};
+use sm_memory_fixtures::fails::fails_at;
+use sm_model::Fails;
 use sm_rotator::NoRotator;
 use sm_server::Status;
-use sm_server_fixtures::exchanges::{
-    APP, APP_CREATED, CREATE, DISK_FAULT, Exchange, FAULT, FIRST_VALUE, GET, GET_APP, OK, PUT,
-    PUT_B, PUT_B_DONE, spoken,
-};
-use sm_server_fixtures::runs::{WELL, disk_of, run};
+use sm_server_fixtures::runs::{WELL, run};
 use std::alloc::Global;
 use std::process::Abort;
 use std::test::Fail;
-
-const SECOND_VALUE: &str =
-    "{\"ARN\":\"arn:aws:secretsmanager:us-east-1:000000000000:secret:db/app-ABCDEF\",\"CreatedDate\":1700000000,\
-        \"Name\":\"db/app\",\"SecretString\":\"b\",\"VersionId\":\"22222222-2222-4222-8222-222222222222\",\
-        \"VersionStages\":[\"AWSCURRENT\"]}";
 
 /// A journal with one entry, which cancels the rotation of a secret that isn't there.
 const CANCELLED: &[u8; 36] = b"SMJRNL01\x01\x00\x00\x00\x16\x00\x00\x00\x00\x65\x53\xf1\x00\x00\
@@ -40,30 +36,23 @@ const CASES: [Case; 3] = [
     Case {
         name: "a message twice",
         fails: 0,
-        exchanges: &[
-            (CREATE, APP, OK, APP_CREATED),
-            (CREATE, APP, OK, APP_CREATED),
-        ],
+        exchanges: &[APP_MADE, APP_MADE],
         recovered: [Some(1), Some(1), Some(1)],
     },
     Case {
         name: "an entry whose last sync fails is there or not, and the old value is shown",
         fails: SYNC_OF_THE_PUT,
-        exchanges: &[
-            (CREATE, APP, OK, APP_CREATED),
-            (PUT, PUT_B, FAULT, DISK_FAULT),
-            (GET, GET_APP, OK, FIRST_VALUE),
-        ],
+        exchanges: &[APP_MADE, B_FAULT, (GET, GET_APP, OK, FIRST_VALUE)],
         recovered: [Some(1), Some(2), Some(1)],
     },
     Case {
         name: "the same put is accepted behind that, and there once",
         fails: SYNC_OF_THE_PUT,
         exchanges: &[
-            (CREATE, APP, OK, APP_CREATED),
-            (PUT, PUT_B, FAULT, DISK_FAULT),
+            APP_MADE,
+            B_FAULT,
             (GET, GET_APP, OK, FIRST_VALUE),
-            (PUT, PUT_B, OK, PUT_B_DONE),
+            B_MADE,
             (GET, GET_APP, OK, SECOND_VALUE),
         ],
         recovered: [Some(2), Some(2), Some(2)],
@@ -106,16 +95,10 @@ fn recovered(alloc: Global, disk: &MemoryDisk) -> Result<[Option<u64>; 3], Fail>
     ])
 }
 
-/// A call that fails, and no other.
-fn one_call(alloc: Global, call: u64) -> Result<Fails, Fail> {
-    let calls = List::new(Vec::from_slice(alloc, &[call])?);
-    Ok(Fails { calls, from: None })
-}
-
 #[test]
 fn faults_of_the_disk_are_survived(rt: HostRuntime) -> Result<(), Fail> {
     for case in &CASES {
-        let empty = disk_of(rt.alloc(), b"", one_call(rt.alloc(), case.fails)?)?;
+        let empty = disk_of(rt.alloc(), b"", fails_at(rt.alloc(), case.fails, false)?)?;
         let disk = converse(&rt, empty, case.exchanges)?;
         assert_eq!(rt;
             recovered(rt.alloc(), &disk)?,
@@ -132,7 +115,7 @@ fn faults_of_the_disk_are_survived(rt: HostRuntime) -> Result<(), Fail> {
 fn a_message_is_answered_again_in_a_later_run(rt: HostRuntime) -> Result<(), Fail> {
     let mut disk = disk_of(rt.alloc(), b"", Fails::never(rt.alloc()))?;
     for _ in 0..2 {
-        disk = converse(&rt, disk, &[(CREATE, APP, OK, APP_CREATED)])?;
+        disk = converse(&rt, disk, &[APP_MADE])?;
     }
     assert_eq!(rt; entries(rt.alloc(), disk), Some(1));
     Ok(())

@@ -1,13 +1,15 @@
 //! Each call of the disk failing in turn.
 use crate::disks::{SYNC_OF_THE_PUT, entries};
 use sm_disk::MemoryDisk;
-use sm_model::{Fails, List};
-use sm_server::Status;
-use sm_server_fixtures::exchanges::{
-    APP, APP_CREATED, BAD, CREATE, DISK_FAULT, Exchange, FAULT, NOT_FOUND, OK, PUT, PUT_B,
-    PUT_B_DONE, spoken,
+use sm_memory_fixtures::disks::disk_of;
+use sm_memory_fixtures::exchanges::{
+    APP_FAULT, APP_MADE, B_FAULT, B_MADE, BAD, Exchange, NOT_FOUND, PUT, PUT_B, spoken,
 };
-use sm_server_fixtures::runs::{WELL, disk_of, run};
+use sm_memory_fixtures::failing::FILLS;
+use sm_memory_fixtures::fails::fails_of;
+use sm_model::Fails;
+use sm_server::Status;
+use sm_server_fixtures::runs::{WELL, run};
 use std::alloc::Global;
 use std::test::Fail;
 
@@ -21,58 +23,18 @@ struct Known {
     unsure: bool,
 }
 
-/// What a run may answer, and what is known of the disk then.
-struct Course {
-    exchanges: [Exchange; 3],
-    known: Known,
-}
+/// What a run may answer, how many entries were acknowledged then, and whether the next one may be there too.
+type Course = ([Exchange; 3], u64, bool);
+
+/// A put of a secret that isn't there.
+const NOT_THERE: Exchange = (PUT, PUT_B, BAD, NOT_FOUND);
 
 /// The first entry, and then the second one twice.
 const COURSES: [Course; 4] = [
-    Course {
-        exchanges: [
-            (CREATE, APP, OK, APP_CREATED),
-            (PUT, PUT_B, OK, PUT_B_DONE),
-            (PUT, PUT_B, OK, PUT_B_DONE),
-        ],
-        known: Known {
-            entries: 2,
-            unsure: false,
-        },
-    },
-    Course {
-        exchanges: [
-            (CREATE, APP, OK, APP_CREATED),
-            (PUT, PUT_B, FAULT, DISK_FAULT),
-            (PUT, PUT_B, OK, PUT_B_DONE),
-        ],
-        known: Known {
-            entries: 2,
-            unsure: false,
-        },
-    },
-    Course {
-        exchanges: [
-            (CREATE, APP, OK, APP_CREATED),
-            (PUT, PUT_B, FAULT, DISK_FAULT),
-            (PUT, PUT_B, FAULT, DISK_FAULT),
-        ],
-        known: Known {
-            entries: 1,
-            unsure: true,
-        },
-    },
-    Course {
-        exchanges: [
-            (CREATE, APP, FAULT, DISK_FAULT),
-            (PUT, PUT_B, BAD, NOT_FOUND),
-            (PUT, PUT_B, BAD, NOT_FOUND),
-        ],
-        known: Known {
-            entries: 0,
-            unsure: true,
-        },
-    },
+    ([APP_MADE, B_MADE, B_MADE], 2, false),
+    ([APP_MADE, B_FAULT, B_MADE], 2, false),
+    ([APP_MADE, B_FAULT, B_FAULT], 1, true),
+    ([APP_FAULT, NOT_THERE, NOT_THERE], 0, true),
 ];
 
 /// What is known of a disk after a run: as before, where it was not opened, and else by its replies. Nothing, where
@@ -86,13 +48,10 @@ fn learned(
     if status == Status::OpenFault && written.is_empty() {
         return Ok(Some(before));
     }
-    for course in &COURSES {
-        let (_, output) = spoken(alloc, &course.exchanges)?;
-        if status == Status::Done
-            && output.as_slice() == written
-            && before.entries <= course.known.entries
-        {
-            return Ok(Some(course.known));
+    for (exchanges, entries, unsure) in COURSES {
+        let (_, output) = spoken(alloc, &exchanges)?;
+        if status == Status::Done && output.as_slice() == written && before.entries <= entries {
+            return Ok(Some(Known { entries, unsure }));
         }
     }
     Ok(None)
@@ -116,7 +75,7 @@ fn is_kept(
 /// Whether two runs over a disk that fails so answer as they may, and each crash after each of them leaves what is
 /// known.
 fn goes_well(alloc: Global, fails: Fails) -> Result<bool, Fail> {
-    let (input, _) = spoken(alloc, &COURSES[0].exchanges)?;
+    let (input, _) = spoken(alloc, &COURSES[0].0)?;
     let mut disk = disk_of(alloc, b"", fails)?;
     let mut known = Known {
         entries: 0,
@@ -129,7 +88,7 @@ fn goes_well(alloc: Global, fails: Fails) -> Result<bool, Fail> {
             Some(now) => known = now,
             None => return Ok(false),
         }
-        for fill in [0, 1, 7] {
+        for fill in FILLS {
             if !is_kept(alloc, input.as_slice(), &disk, fill, known)? {
                 return Ok(false);
             }
@@ -138,19 +97,13 @@ fn goes_well(alloc: Global, fails: Fails) -> Result<bool, Fail> {
     Ok(true)
 }
 
-/// These calls fail, and perhaps all later ones.
-fn fails(alloc: Global, calls: &[u64], from: Option<u64>) -> Result<Fails, Fail> {
-    let calls = List::new(Vec::from_slice(alloc, calls)?);
-    Ok(Fails { calls, from })
-}
-
 /// The first call whose failing is not survived: alone, with all later ones, or behind a put that failed, where the
 /// next put or the next opening mends the journal.
 fn lost(alloc: Global) -> Result<Option<u64>, Fail> {
     for call in 1..=CALLS {
-        let well = goes_well(alloc, fails(alloc, &[call], None)?)?
-            && goes_well(alloc, fails(alloc, &[], Some(call))?)?
-            && goes_well(alloc, fails(alloc, &[SYNC_OF_THE_PUT, call], None)?)?;
+        let well = goes_well(alloc, fails_of(alloc, &[call], None)?)?
+            && goes_well(alloc, fails_of(alloc, &[], Some(call))?)?
+            && goes_well(alloc, fails_of(alloc, &[SYNC_OF_THE_PUT, call], None)?)?;
         if !well {
             return Ok(Some(call));
         }

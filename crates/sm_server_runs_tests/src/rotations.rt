@@ -1,8 +1,10 @@
 //! Rotations behind messages, by the local rotator.
+use sm_memory_fixtures::disks::disk_of;
+use sm_memory_fixtures::exchanges::{CREATE, OK};
+use sm_memory_fixtures::messages::{add_message, add_reply};
 use sm_model::Fails;
 use sm_server::Status;
-use sm_server_fixtures::exchanges::{CREATE, OK};
-use sm_server_fixtures::runs::{WELL, add_message, add_reply, disk_of, run, run_words};
+use sm_server_fixtures::runs::{WELL, run, run_words};
 use std::alloc::Global;
 use std::test::Fail;
 

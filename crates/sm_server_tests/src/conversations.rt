@@ -1,10 +1,10 @@
 //! Messages over one account, and the replies that they must get.
 use crate::expecting::expect;
-use sm_server::Status;
-use sm_server_fixtures::exchanges::{
-    APP, APP_CREATED, BAD, CREATE, Exchange, FIRST_VALUE, GET, GET_APP, NOT_FOUND, OK, PUT, PUT_B,
-    PUT_B_DONE, spoken,
+use sm_memory_fixtures::exchanges::{
+    APP_DELETED, APP_MADE, APP_NAMED, B_MADE, BAD, CREATE, Exchange, FIRST_VALUE, GET, GET_APP,
+    NO_OBJECT, NO_OPERATION, NOT_FOUND, OK, PUT, SCHEDULED, SECOND_VALUE, spoken,
 };
+use sm_server::Status;
 use sm_server_fixtures::runs::{Outside, WELL};
 use std::process::Abort;
 use std::test::Fail;
@@ -12,9 +12,6 @@ use std::test::Fail;
 const DELETE: &str = "DeleteSecret";
 
 const MOVE: &str = "UpdateSecretVersionStage";
-
-const APP_NAMED: &str =
-    r#"{"ARN":"arn:aws:secretsmanager:us-east-1:000000000000:secret:db/app-ABCDEF","Name":"db/app"}"#;
 
 const PUT_C: &str =
     r#"{"SecretId":"db/app","SecretString":"c","ClientRequestToken":"33333333-3333-4333-8333-333333333333"}"#;
@@ -26,15 +23,11 @@ const PUT_C_DONE: &str =
 const NO_VERSION: &str = r#"{"Message":"version not found","__type":"ResourceNotFoundException"}"#;
 
 /// The same message twice is answered twice, and what it made is there once.
-const TWICE: [Exchange; 3] = [
-    (CREATE, APP, OK, APP_CREATED),
-    (CREATE, APP, OK, APP_CREATED),
-    (GET, GET_APP, OK, FIRST_VALUE),
-];
+const TWICE: [Exchange; 3] = [APP_MADE, APP_MADE, (GET, GET_APP, OK, FIRST_VALUE)];
 
 /// A name and a token keep the value that they were first sent with.
 const OTHER_VALUES: [Exchange; 4] = [
-    (CREATE, APP, OK, APP_CREATED),
+    APP_MADE,
     (
         CREATE,
         r#"{"Name":"db/app","SecretString":"other","ClientRequestToken":"11111111-1111-4111-8111-111111111111"}"#,
@@ -86,8 +79,8 @@ const EMPTY: [Exchange; 4] = [
 
 /// Three versions: the labels go on as values come.
 const THREE_VERSIONS: [Exchange; 6] = [
-    (CREATE, APP, OK, APP_CREATED),
-    (PUT, PUT_B, OK, PUT_B_DONE),
+    APP_MADE,
+    B_MADE,
     (PUT, PUT_C, OK, PUT_C_DONE),
     (
         GET,
@@ -99,7 +92,7 @@ const THREE_VERSIONS: [Exchange; 6] = [
     ),
     (
         GET,
-        r#"{"SecretId":"db/app"}"#,
+        GET_APP,
         OK,
         "{\"ARN\":\"arn:aws:secretsmanager:us-east-1:000000000000:secret:db/app-ABCDEF\",\"CreatedDate\":1700000000,\
             \"Name\":\"db/app\",\"SecretString\":\"c\",\"VersionId\":\"33333333-3333-4333-8333-333333333333\",\
@@ -117,8 +110,8 @@ const THREE_VERSIONS: [Exchange; 6] = [
 
 /// Which label moves are refused, and what an accepted one changes.
 const MOVES: [Exchange; 10] = [
-    (CREATE, APP, OK, APP_CREATED),
-    (PUT, PUT_B, OK, PUT_B_DONE),
+    APP_MADE,
+    B_MADE,
     (PUT, PUT_C, OK, PUT_C_DONE),
     (
         MOVE,
@@ -143,14 +136,7 @@ const MOVES: [Exchange; 10] = [
         OK,
         APP_NAMED,
     ),
-    (
-        GET,
-        r#"{"SecretId":"db/app"}"#,
-        OK,
-        "{\"ARN\":\"arn:aws:secretsmanager:us-east-1:000000000000:secret:db/app-ABCDEF\",\"CreatedDate\":1700000000,\
-            \"Name\":\"db/app\",\"SecretString\":\"s3cret\",\"VersionId\":\"11111111-1111-4111-8111-111111111111\",\
-            \"VersionStages\":[\"AWSCURRENT\"]}",
-    ),
+    (GET, GET_APP, OK, FIRST_VALUE),
     (
         GET,
         r#"{"SecretId":"db/app","VersionStage":"AWSPREVIOUS"}"#,
@@ -178,7 +164,7 @@ const MOVES: [Exchange; 10] = [
 
 /// What is asked of secrets, versions and labels that aren't there.
 const NOT_THERE: [Exchange; 11] = [
-    (CREATE, APP, OK, APP_CREATED),
+    APP_MADE,
     (GET, r#"{"SecretId":"db/ap"}"#, BAD, NOT_FOUND),
     (
         PUT,
@@ -204,7 +190,7 @@ const NOT_THERE: [Exchange; 11] = [
         BAD,
         NO_VERSION,
     ),
-    (PUT, PUT_B, OK, PUT_B_DONE),
+    B_MADE,
     (
         GET,
         r#"{"SecretId":"db/app","VersionId":"11111111-1111-4111-8111-111111111111","VersionStage":"AWSCURRENT"}"#,
@@ -223,19 +209,12 @@ const NOT_THERE: [Exchange; 11] = [
         BAD,
         r#"{"Message":"label is held by no version","__type":"InvalidParameterException"}"#,
     ),
-    (
-        GET,
-        r#"{"SecretId":"db/app"}"#,
-        OK,
-        "{\"ARN\":\"arn:aws:secretsmanager:us-east-1:000000000000:secret:db/app-ABCDEF\",\"CreatedDate\":1700000000,\
-            \"Name\":\"db/app\",\"SecretString\":\"b\",\"VersionId\":\"22222222-2222-4222-8222-222222222222\",\
-            \"VersionStages\":[\"AWSCURRENT\"]}",
-    ),
+    (GET, GET_APP, OK, SECOND_VALUE),
 ];
 
 /// A secret has at most 20 labels besides those of AWS.
 const LABELS: [Exchange; 3] = [
-    (CREATE, APP, OK, APP_CREATED),
+    APP_MADE,
     (
         PUT,
         "{\"SecretId\":\"db/app\",\"SecretString\":\"b\",\
@@ -280,30 +259,10 @@ const MEMBERS: [Exchange; 14] = [
         BAD,
         r#"{"Message":"SecretBinary is missing or of another type","__type":"SerializationException"}"#,
     ),
-    (
-        "RotateSecret",
-        r#"{"SecretId":"n"}"#,
-        BAD,
-        r#"{"Message":"secret not found","__type":"ResourceNotFoundException"}"#,
-    ),
-    (
-        "BurnSecret",
-        r#"{"SecretId":"n"}"#,
-        BAD,
-        r#"{"Message":"unknown operation","__type":"UnknownOperationException"}"#,
-    ),
-    (
-        CREATE,
-        "[]",
-        BAD,
-        r#"{"Message":"body is not a JSON object","__type":"SerializationException"}"#,
-    ),
-    (
-        CREATE,
-        r#"{"Name":"#,
-        BAD,
-        r#"{"Message":"body is not a JSON object","__type":"SerializationException"}"#,
-    ),
+    ("RotateSecret", r#"{"SecretId":"n"}"#, BAD, NOT_FOUND),
+    ("BurnSecret", r#"{"SecretId":"n"}"#, BAD, NO_OPERATION),
+    (CREATE, "[]", BAD, NO_OBJECT),
+    (CREATE, r#"{"Name":"#, BAD, NO_OBJECT),
     (
         CREATE,
         r#"{"Name":5}"#,
@@ -344,7 +303,7 @@ const MEMBERS: [Exchange; 14] = [
 
 /// A secret that is tagged, scheduled for deletion, restored, and deleted at once.
 const UPKEEP: [Exchange; 10] = [
-    (CREATE, APP, OK, APP_CREATED),
+    APP_MADE,
     (
         "TagResource",
         r#"{"SecretId":"db/app","Tags":[{"Key":"k","Value":"v"}]}"#,
@@ -361,15 +320,9 @@ const UPKEEP: [Exchange; 10] = [
         DELETE,
         r#"{"SecretId":"db/app","RecoveryWindowInDays":7}"#,
         OK,
-        "{\"ARN\":\"arn:aws:secretsmanager:us-east-1:000000000000:secret:db/app-ABCDEF\",\"DeletionDate\":1700604800,\
-            \"Name\":\"db/app\"}",
+        APP_DELETED,
     ),
-    (
-        GET,
-        GET_APP,
-        BAD,
-        r#"{"Message":"secret is scheduled for deletion at 1700604800","__type":"InvalidRequestException"}"#,
-    ),
+    (GET, GET_APP, BAD, SCHEDULED),
     ("RestoreSecret", GET_APP, OK, APP_NAMED),
     (GET, GET_APP, OK, FIRST_VALUE),
     (

@@ -1,7 +1,8 @@
 //! Whole drills.
+use sm_memory_fixtures::disks::disk_of;
 use sm_model::Fails;
 use sm_server::Status;
-use sm_server_fixtures::runs::{Outside, WELL, disk_of, run_people};
+use sm_server_fixtures::runs::{Outside, WELL, run_people};
 use std::alloc::Global;
 use std::test::Fail;
 

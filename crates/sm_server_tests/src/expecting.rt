@@ -1,7 +1,8 @@
 //! Runs over an empty disk that have to end so.
+use sm_memory_fixtures::disks::disk_of;
 use sm_model::Fails;
 use sm_server::Status;
-use sm_server_fixtures::runs::{Outside, disk_of, run};
+use sm_server_fixtures::runs::{Outside, run};
 use std::process::Abort;
 use std::test::Fail;
 

@@ -1,11 +1,12 @@
 //! Faults of the source, the sink and the random source.
 use crate::expecting::expect;
+use sm_memory_fixtures::exchanges::{
+    APP, BAD, CREATE, FAULT, GET, GET_APP, NOT_FOUND, RANDOM_FAULT, spoken,
+};
+use sm_memory_fixtures::messages::add_message;
 use sm_server::Status;
-use sm_server_fixtures::exchanges::{APP, BAD, CREATE, FAULT, GET, GET_APP, NOT_FOUND, spoken};
-use sm_server_fixtures::runs::{Outside, WELL, add_message};
+use sm_server_fixtures::runs::{Outside, WELL};
 use std::test::Fail;
-
-const RANDOM_FAULT: &str = r#"{"Message":"random source fault","__type":"InternalServiceError"}"#;
 
 /// Where the random source fails the message is refused so, and the next one is answered.
 #[test]

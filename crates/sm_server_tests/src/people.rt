@@ -1,8 +1,10 @@
 //! Who may ask, and who asks.
+use sm_memory_fixtures::disks::disk_of;
+use sm_memory_fixtures::exchanges::{APP, APP_CREATED, BAD, CREATE, NO_OBJECT, NO_OPERATION, OK};
+use sm_memory_fixtures::messages::add_reply;
 use sm_model::Fails;
 use sm_server::Status;
-use sm_server_fixtures::exchanges::{APP, BAD, CREATE, OK};
-use sm_server_fixtures::runs::{WELL, add_reply, disk_of, run_people};
+use sm_server_fixtures::runs::{WELL, run_people};
 use std::alloc::Global;
 use std::test::Fail;
 
@@ -17,10 +19,6 @@ const AUTHORIZATION: &str =
 /// One person who must sign, and one who needn't.
 const SIGNERS: &str =
     "ADA full arn:aws:iam::000000000000:user/ada key1\nGIL guest arn:aws:iam::000000000000:user/gil";
-
-const APP_CREATED: &str =
-    "{\"ARN\":\"arn:aws:secretsmanager:us-east-1:000000000000:secret:db/app-ABCDEF\",\"Name\":\"db/app\",\
-        \"VersionId\":\"11111111-1111-4111-8111-111111111111\"}";
 
 const UNSIGNED: &str = r#"{"Message":"signature: Authorization","__type":"AccessDeniedException"}"#;
 
@@ -50,34 +48,13 @@ const CASES: [Case; 11] = [
         BAD,
         r#"{"Message":"unknown key EVE","__type":"AccessDeniedException"}"#,
     ),
-    (
-        PEOPLE,
-        None,
-        "UnitagResource",
-        APP,
-        BAD,
-        r#"{"Message":"unknown operation","__type":"UnknownOperationException"}"#,
-    ),
+    (PEOPLE, None, "UnitagResource", APP, BAD, NO_OPERATION),
     (PEOPLE, None, CREATE, "[]", BAD, NO_CREDENTIAL),
-    (
-        PEOPLE,
-        Some("GIL"),
-        CREATE,
-        "[]",
-        BAD,
-        r#"{"Message":"body is not a JSON object","__type":"SerializationException"}"#,
-    ),
+    (PEOPLE, Some("GIL"), CREATE, "[]", BAD, NO_OBJECT),
     ("", None, CREATE, APP, OK, APP_CREATED),
     (SIGNERS, Some("ADA"), CREATE, "[]", BAD, UNSIGNED),
     (SIGNERS, None, CREATE, APP, BAD, NO_CREDENTIAL),
-    (
-        SIGNERS,
-        Some("GIL"),
-        CREATE,
-        "[]",
-        BAD,
-        r#"{"Message":"body is not a JSON object","__type":"SerializationException"}"#,
-    ),
+    (SIGNERS, Some("GIL"), CREATE, "[]", BAD, NO_OBJECT),
 ];
 
 /// The bytes of a message with such a field.

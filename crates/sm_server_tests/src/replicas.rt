@@ -1,8 +1,12 @@
 //! A disk that is shipped, and a replica that follows it.
 use sm_disk::MemoryDisk;
-use sm_model::{Fails, List};
+use sm_memory_fixtures::disks::disk_of;
+use sm_memory_fixtures::fails::fails_from;
+use sm_memory_fixtures::journals::put_body;
+use sm_memory_fixtures::messages::{add_message, add_reply};
+use sm_model::Fails;
 use sm_server::Status;
-use sm_server_fixtures::runs::{Outside, WELL, add_message, add_reply, disk_of, run, run_words};
+use sm_server_fixtures::runs::{Outside, WELL, run, run_words};
 use std::alloc::Global;
 use std::test::Fail;
 
@@ -73,14 +77,7 @@ fn add_frame(alloc: Global, input: &mut Vec<u8>, operation: &str, body: &[u8]) -
     let mut message = Vec::new(alloc);
     add_message(alloc, &mut message, operation, body)?;
     input.push(3)?;
-    add_octets(input, message.as_slice())
-}
-
-/// Adds bytes behind their length.
-fn add_octets(bytes: &mut Vec<u8>, octets: &[u8]) -> Result<(), Fail> {
-    let length = u32::try_from(octets.len()).ok().ok_or("length")?;
-    bytes.extend_from_slice(&length.to_be_bytes())?;
-    bytes.extend_from_slice(octets)?;
+    put_body(input, message.as_slice())?;
     Ok(())
 }
 
@@ -96,7 +93,8 @@ fn add_output(alloc: Global, output: &mut Vec<u8>, status: &str, body: &str) -> 
     let mut reply = Vec::new(alloc);
     add_reply(alloc, &mut reply, status, body)?;
     output.push(2)?;
-    add_octets(output, reply.as_slice())
+    put_body(output, reply.as_slice())?;
+    Ok(())
 }
 
 /// Frames, questions, a change, frames that came before, and a promotion.
@@ -173,10 +171,7 @@ fn frames_decide_how_a_replica_ends(rt: HostRuntime) -> Result<(), Fail> {
         let (status, _, _disk) = followed(alloc, input, outside, Fails::never(alloc))?;
         assert_eq!(rt; status, *wanted, "{input:?}");
     }
-    let failing = Fails {
-        calls: List::empty(alloc),
-        from: Some(1),
-    };
+    let failing = fails_from(alloc, Some(1));
     let (status, _, _disk) = followed(alloc, b"", &WELL, failing)?;
     assert_eq!(rt; status, Status::OpenFault);
     Ok(())

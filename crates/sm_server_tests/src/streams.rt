@@ -1,18 +1,20 @@
 //! Streams however they are cut, their ends, and the limits of their count and sizes.
 use crate::expecting::expect;
+use sm_memory_fixtures::exchanges::{BAD, CHUNKED, CREATE, HEAD, LENGTH, OK, Reply, UNKNOWN};
+use sm_memory_fixtures::messages::{add_message, add_reply};
 use sm_server::Status;
-use sm_server_fixtures::exchanges::{APP, BAD, CREATE, OK};
-use sm_server_fixtures::runs::{Outside, WELL, add_message, add_reply};
+use sm_server_fixtures::runs::{Outside, WELL};
 use std::alloc::Global;
 use std::process::Abort;
 use std::test::Fail;
 
-/// A message that asks for nothing, and its reply's status line and body.
+/// A message that asks for nothing.
 const ASKS_NOTHING: &[u8] = b"GET / HTTP/1.1\r\n\r\n";
 
-const UNKNOWN: &str = r#"{"Message":"unknown operation","__type":"UnknownOperationException"}"#;
-
-const TOO_LARGE: &str = "413 Content Too Large";
+const TOO_LARGE: Reply = (
+    "413 Content Too Large",
+    r#"{"Message":"http: body too long","__type":"SerializationException"}"#,
+);
 
 /// So many messages that ask for nothing, and what stands behind them.
 fn messages(alloc: Global, count: usize, behind: &str) -> Result<Vec<u8>, Fail> {
@@ -28,19 +30,14 @@ fn messages(alloc: Global, count: usize, behind: &str) -> Result<Vec<u8>, Fail> 
 fn replies(alloc: Global, count: usize) -> Result<Vec<u8>, Fail> {
     let mut output = Vec::new(alloc);
     for _ in 0..count {
-        add_reply(alloc, &mut output, BAD, UNKNOWN)?;
+        add_reply(alloc, &mut output, UNKNOWN.0, UNKNOWN.1)?;
     }
     Ok(output)
 }
 
 /// How many messages a stream begins with, what stands behind them, how the run ends, and the status line and the body
 /// of the reply to what stands behind them, where one is written.
-type Case = (
-    usize,
-    &'static str,
-    Status,
-    Option<(&'static str, &'static str)>,
-);
+type Case = (usize, &'static str, Status, Option<Reply>);
 
 const CASES: [Case; 17] = [
     (0, "", Status::Done, None),
@@ -67,58 +64,43 @@ const CASES: [Case; 17] = [
         0,
         "GET / HTTP/1.1\r\nContent-Length: 524289\r\n\r\n",
         Status::BadMessage(0),
-        Some((
-            TOO_LARGE,
-            r#"{"Message":"http: body too long","__type":"SerializationException"}"#,
-        )),
+        Some(TOO_LARGE),
     ),
     (
         0,
         "GET / HTTP/1.1\r\nTransfer-Encoding: chunked\r\n\r\n",
         Status::BadMessage(0),
-        Some((
-            BAD,
-            r#"{"Message":"http: chunked","__type":"SerializationException"}"#,
-        )),
+        Some(CHUNKED),
     ),
     (
         1,
         "GET / HTTP/1.1\r\nContent-Length: +1\r\n\r\n1",
         Status::BadMessage(18),
-        Some((
-            BAD,
-            r#"{"Message":"http: length","__type":"SerializationException"}"#,
-        )),
+        Some(LENGTH),
     ),
     (
         2,
         "GET / HTTP/1.1\r\nNo field\r\n\r\nGET / HTTP/1.1\r\n\r\n",
         Status::BadMessage(36),
-        Some((
-            BAD,
-            r#"{"Message":"http: head","__type":"SerializationException"}"#,
-        )),
+        Some(HEAD),
     ),
     (
         0,
         "\r\n\r\nGET / HTTP/1.1\r\n\r\n",
         Status::BadMessage(0),
-        Some((
-            BAD,
-            r#"{"Message":"http: head","__type":"SerializationException"}"#,
-        )),
+        Some(HEAD),
     ),
     (
         1,
         "GET / HTTP/1.1\r\nConnection: Close\r\n\r\nGET",
         Status::Done,
-        Some((BAD, UNKNOWN)),
+        Some(UNKNOWN),
     ),
     (
         999,
         "GET / HTTP/1.0\r\n\r\n\r\n\r\n",
         Status::Enough,
-        Some((BAD, UNKNOWN)),
+        Some(UNKNOWN),
     ),
 ];
 

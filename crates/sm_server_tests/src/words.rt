@@ -1,7 +1,8 @@
 //! Words that are followed, and words that are not.
+use sm_memory_fixtures::disks::disk_of;
 use sm_model::Fails;
 use sm_server::Status;
-use sm_server_fixtures::runs::{WELL, disk_of, run_words};
+use sm_server_fixtures::runs::{WELL, run_words};
 use std::alloc::Global;
 use std::test::Fail;
 

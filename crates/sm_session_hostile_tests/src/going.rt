@@ -2,7 +2,8 @@
 use crate::left_behind::{LeftBehind, Seen, left_behind_of, look};
 use crate::rows::{BODIES, ENDS, FIELDS, FIRST, LENGTHS, NOT_DENIED, REQUESTS, Row};
 use crate::sessions::{Heard, Kept, account_over, asked, disk, input_of, reply_bytes, session};
-use sm_memory_fixtures::exchanges::Reply;
+use sm_memory_fixtures::exchanges;
+use sm_memory_fixtures::exchanges::{FAULT, Reply};
 use sm_model::NoMemory;
 use sm_session::Ended;
 use std::alloc::Global;
@@ -15,10 +16,7 @@ const OUT_OF_MEMORY: Reply = (
 );
 
 /// Where the disk in memory wants memory.
-const DISK_FAULT: Reply = (
-    "500 Internal Server Error",
-    r#"{"Message":"disk fault","__type":"InternalServiceError"}"#,
-);
+const DISK_FAULT: Reply = (FAULT, exchanges::DISK_FAULT);
 
 /// How a row went: what was heard, how the account stands, and what is seen of an account of which nothing of the row
 /// was asked, and of one of which what the row makes was.

@@ -3,7 +3,8 @@
 use crate::sessions::Sent;
 use sm_memory_fixtures::connections::{Behaviour, WELL};
 use sm_memory_fixtures::exchanges::{
-    BAD, CHUNKED, HEAD, LENGTH, N_CREATED, NO_LIMIT, NOT_JSON, OK, Reply, UNKNOWN,
+    APP_NAMED, BAD, CHUNKED, FIRST_VALUE, HEAD, HEAD_TOO_LONG, ID_FORM, LENGTH, LIMIT_FORM,
+    N_CREATED, NEXT_FORM, NO_LIMIT, NOT_JSON, OK, Reply, TOKEN_FORM, UNKNOWN,
 };
 use sm_memory_fixtures::messages::Part;
 use sm_model::BadKind;
@@ -34,22 +35,14 @@ const REFUSED: Row = Row {
     makes: &[],
 };
 
-const POLICY_PUT: Reply = (
-    OK,
-    r#"{"ARN":"arn:aws:secretsmanager:us-east-1:000000000000:secret:db/app-ABCDEF","Name":"db/app"}"#,
-);
+const POLICY_PUT: Reply = (OK, APP_NAMED);
 
 const DENIED: Reply = (
     BAD,
     r#"{"Message":"denied by statement 1","__type":"AccessDeniedException"}"#,
 );
 
-const VALUE: Reply = (
-    OK,
-    "{\"ARN\":\"arn:aws:secretsmanager:us-east-1:000000000000:secret:db/app-ABCDEF\",\"CreatedDate\":1700000000,\
-        \"Name\":\"db/app\",\"SecretString\":\"s3cret\",\"VersionId\":\"11111111-1111-4111-8111-111111111111\",\
-        \"VersionStages\":[\"AWSCURRENT\"]}",
-);
+const VALUE: Reply = (OK, FIRST_VALUE);
 
 /// What the rows with a denial answer where their policy was not put.
 pub const NOT_DENIED: [Reply; 2] = [POLICY_PUT, VALUE];
@@ -105,10 +98,7 @@ pub static FIELDS: [Row; 4] = [
     Row {
         name: "16,384 bytes without an end",
         sent: &[Sent::Texts(&[("a", 16_384)])],
-        replies: &[(
-            BAD,
-            r#"{"Message":"http: head too long","__type":"SerializationException"}"#,
-        )],
+        replies: &[HEAD_TOO_LONG],
         ended: Ended::Bad(BadKind::HeadTooLong, 0),
         ..REFUSED
     },
@@ -305,10 +295,7 @@ pub static BODIES: [Row; 6] = [
             "ListSecrets",
             &[(r#"{"MaxResults":9223372036854775807}"#, 1)],
         )],
-        replies: &[(
-            BAD,
-            r#"{"Message":"MaxResults is not in its form","__type":"InvalidParameterException"}"#,
-        )],
+        replies: &[LIMIT_FORM],
         ..REFUSED
     },
 ];
@@ -318,10 +305,7 @@ pub static REQUESTS: [Row; 7] = [
     Row {
         name: "an ARN that ends behind its beginning",
         sent: &[Sent::Message("GetSecretValue", &[(r#"{"SecretId":"arn:"}"#, 1)])],
-        replies: &[(
-            BAD,
-            r#"{"Message":"SecretId is not in its form","__type":"InvalidParameterException"}"#,
-        )],
+        replies: &[ID_FORM],
         ..REFUSED
     },
     Row {
@@ -337,10 +321,7 @@ pub static REQUESTS: [Row; 7] = [
                 (r#""}"#, 1),
             ],
         )],
-        replies: &[(
-            BAD,
-            r#"{"Message":"ClientRequestToken is not in its form","__type":"InvalidParameterException"}"#,
-        )],
+        replies: &[TOKEN_FORM],
         ..REFUSED
     },
     Row {
@@ -349,10 +330,7 @@ pub static REQUESTS: [Row; 7] = [
             "ListSecrets",
             &[(r#"{"NextToken":"s18446744073709551616"}"#, 1)],
         )],
-        replies: &[(
-            BAD,
-            r#"{"Message":"NextToken is not in its form","__type":"InvalidNextTokenException"}"#,
-        )],
+        replies: &[NEXT_FORM],
         ..REFUSED
     },
     Row {

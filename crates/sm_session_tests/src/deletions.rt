@@ -1,9 +1,9 @@
 //! A secret whose deletion date comes between two turns.
 use crate::support::{Kept, WELL, account};
 use sm_base::moment::LAST_READING;
-use sm_model::{
-    CreateSecret, DeleteSecret, GetSecretValue, List, Moment, Person, Request, Text, need,
-};
+use sm_memory_fixtures::exchanges::{APP_CREATED, APP_DELETED, NOT_FOUND, SCHEDULED};
+use sm_model::{GetSecretValue, Moment, Request, Text, need};
+use sm_model_fixtures::requests::{creation, deletion, root};
 use sm_session::{Said, turn};
 use std::alloc::Global;
 use std::test::Fail;
@@ -16,28 +16,15 @@ enum Asked {
     Get,
 }
 
-const CREATED: &str =
-    "{\"ARN\":\"arn:aws:secretsmanager:us-east-1:000000000000:secret:db/app-ABCDEF\",\"Name\":\"db/app\",\
-        \"VersionId\":\"11111111-1111-4111-8111-111111111111\"}";
-
-const DELETED: &str =
-    "{\"ARN\":\"arn:aws:secretsmanager:us-east-1:000000000000:secret:db/app-ABCDEF\",\"DeletionDate\":1700604800,\
-        \"Name\":\"db/app\"}";
-
-const SCHEDULED: &str =
-    "{\"Message\":\"secret is scheduled for deletion at 1700604800\",\"__type\":\"InvalidRequestException\"}";
-
-const NOT_FOUND: &str = r#"{"Message":"secret not found","__type":"ResourceNotFoundException"}"#;
-
 /// Turns with their moments, and what is answered. Seven days behind the deletion the secret is gone and its name free,
 /// and no second sooner.
 const TURNS: [(u64, Asked, u16, &str); 7] = [
-    (1_700_000_000, Asked::Create, 200, CREATED),
-    (1_700_000_000, Asked::Delete, 200, DELETED),
+    (1_700_000_000, Asked::Create, 200, APP_CREATED),
+    (1_700_000_000, Asked::Delete, 200, APP_DELETED),
     (1_700_604_799, Asked::Get, 400, SCHEDULED),
     (1_700_604_799, Asked::Create, 400, SCHEDULED),
     (1_700_604_800, Asked::Get, 400, NOT_FOUND),
-    (1_700_604_800, Asked::Create, 200, CREATED),
+    (1_700_604_800, Asked::Create, 200, APP_CREATED),
     (1_700_604_800, Asked::Delete, 200, DELETED_AGAIN),
 ];
 
@@ -50,21 +37,8 @@ const DRAWN: [u8; 6] = [0, 1, 2, 3, 4, 5];
 
 fn request(alloc: Global, asked: Asked) -> Request {
     match asked {
-        Asked::Create => Request::CreateSecret(CreateSecret {
-            regions: List::empty(alloc),
-            client_request_token: Some(Text::fixed("11111111-1111-4111-8111-111111111111")),
-            description: None,
-            kms_key_id: None,
-            name: Text::fixed("db/app"),
-            secret_binary: None,
-            secret_string: Some(Text::fixed("s3cret")),
-            tags: None,
-        }),
-        Asked::Delete => Request::DeleteSecret(DeleteSecret {
-            force_delete_without_recovery: false,
-            recovery_window_in_days: Some(7),
-            secret_id: Text::fixed("db/app"),
-        }),
+        Asked::Create => creation(alloc, Text::fixed("db/app"), "s3cret"),
+        Asked::Delete => deletion(Text::fixed("db/app"), Some(7)),
         Asked::Get => Request::GetSecretValue(GetSecretValue {
             secret_id: Text::fixed("db/app"),
             version_id: None,
@@ -87,15 +61,10 @@ fn is_answered(
     account: &mut Kept,
     (now, asked, status, body): (u64, Asked, u16, &str),
 ) -> bool {
-    let root = Person {
-        key: Text::fixed(""),
-        arn: Text::fixed("arn:aws:iam::000000000000:root"),
-        full: true,
-    };
     let request = request(alloc, asked);
     match DRAWN.get(..need(&request)) {
         Some(drawn) if now <= LAST_READING => {
-            let said = turn(alloc, account, 1, &root, Moment(now), drawn, &request);
+            let said = turn(alloc, account, 1, &root(), Moment(now), drawn, &request);
             says(&said, status, body)
         }
         _ => false,

@@ -1,16 +1,19 @@
 //! Faults of each part of the outside, and what a session says of them.
-use crate::support::{Outside, WELL, add_message, add_reply, session};
+use crate::support::{Outside, WELL, session};
+use sm_memory_fixtures::connections;
+use sm_memory_fixtures::connections::Behaviour;
+use sm_memory_fixtures::exchanges::{APP, APP_CREATED, DISK_FAULT, FAULT, OK, RANDOM_FAULT, Reply};
+use sm_memory_fixtures::messages::{add_message, add_reply};
 use sm_session::Ended;
 use std::alloc::Global;
 use std::sync::Wait;
 use std::test::Fail;
 
-const APP: &str =
-    r#"{"Name":"db/app","SecretString":"s3cret","ClientRequestToken":"11111111-1111-4111-8111-111111111111"}"#;
+const CREATED: Reply = (OK, APP_CREATED);
 
-const CREATED: &str =
-    "{\"ARN\":\"arn:aws:secretsmanager:us-east-1:000000000000:secret:db/app-ABCDEF\",\"Name\":\"db/app\",\
-        \"VersionId\":\"11111111-1111-4111-8111-111111111111\"}";
+const DISK_FAILS: Reply = (FAULT, DISK_FAULT);
+
+const RANDOM_FAILS: Reply = (FAULT, RANDOM_FAULT);
 
 /// How the outside behaves for two messages that make a secret, how the session ends, how many bytes of the replies are
 /// written, where not all are, and the replies of both.
@@ -19,7 +22,7 @@ struct Case {
     outside: Outside,
     ended: Ended,
     written: Option<usize>,
-    replies: &'static [(&'static str, &'static str)],
+    replies: &'static [Reply],
 }
 
 const CASES: [Case; 6] = [
@@ -28,40 +31,49 @@ const CASES: [Case; 6] = [
         outside: WELL,
         ended: Ended::Closed,
         written: None,
-        replies: &[("200 OK", CREATED), ("200 OK", CREATED)],
+        replies: &[CREATED, CREATED],
     },
     Case {
         name: "the source fails behind a whole message",
         outside: Outside {
-            take: 184,
-            source_from: Some(2),
+            conn: Behaviour {
+                take: 184,
+                source_from: Some(2),
+                ..connections::WELL
+            },
             ..WELL
         },
         ended: Ended::ReadFault,
         written: None,
-        replies: &[("200 OK", CREATED)],
+        replies: &[CREATED],
     },
     Case {
         name: "the sink takes 7 bytes",
         outside: Outside {
-            put: 7,
-            sink_from: Some(2),
+            conn: Behaviour {
+                put: 7,
+                sink_from: Some(2),
+                ..connections::WELL
+            },
             ..WELL
         },
         ended: Ended::WriteFault(7),
         written: Some(7),
-        replies: &[("200 OK", CREATED)],
+        replies: &[CREATED],
     },
     Case {
         name: "the sink takes a reply and a third of the next one",
         outside: Outside {
-            put: 75,
-            sink_from: Some(5),
+            conn: Behaviour {
+                put: 75,
+                sink_from: Some(5),
+                ..connections::WELL
+            },
             ..WELL
         },
         ended: Ended::WriteFault(300),
         written: Some(300),
-        replies: &[("200 OK", CREATED), ("200 OK", CREATED)],
+        replies: &[CREATED, CREATED],
     },
     Case {
         name: "the random source fails",
@@ -71,16 +83,7 @@ const CASES: [Case; 6] = [
         },
         ended: Ended::Closed,
         written: None,
-        replies: &[
-            (
-                "500 Internal Server Error",
-                r#"{"Message":"random source fault","__type":"InternalServiceError"}"#,
-            ),
-            (
-                "500 Internal Server Error",
-                r#"{"Message":"random source fault","__type":"InternalServiceError"}"#,
-            ),
-        ],
+        replies: &[RANDOM_FAILS, RANDOM_FAILS],
     },
     Case {
         name: "the disk fails",
@@ -90,16 +93,7 @@ const CASES: [Case; 6] = [
         },
         ended: Ended::Closed,
         written: None,
-        replies: &[
-            (
-                "500 Internal Server Error",
-                r#"{"Message":"disk fault","__type":"InternalServiceError"}"#,
-            ),
-            (
-                "500 Internal Server Error",
-                r#"{"Message":"disk fault","__type":"InternalServiceError"}"#,
-            ),
-        ],
+        replies: &[DISK_FAILS, DISK_FAILS],
     },
 ];
 

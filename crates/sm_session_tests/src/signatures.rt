@@ -1,5 +1,7 @@
 //! Who has a secret must sign, and is refused by the first part of the signature that fails.
-use crate::support::{WELL, add_reply, session_of};
+use crate::support::{WELL, session_of};
+use sm_memory_fixtures::exchanges::{APP_NAMED, BAD};
+use sm_memory_fixtures::messages::add_reply;
 use sm_principal::People;
 use sm_session::Ended;
 use std::alloc::Global;
@@ -27,11 +29,6 @@ const LIST_BY_ADA: &str = "354dd405f4eb3c06338447a72ba46f5e9c7757e0f64e992ea4d06
 /// That of GIL's with the first body.
 const BY_GIL: &str = "cb56bdd896601b33b43ce3be5eae97481b824366070d16445627a8c9a89b2d20";
 
-const BAD: &str = "400 Bad Request";
-
-const CREATED: &str =
-    r#"{"ARN":"arn:aws:secretsmanager:us-east-1:000000000000:secret:db/app-ABCDEF","Name":"db/app"}"#;
-
 /// A message as the AWS command line writes it: the key, the names of the signed fields, the moment, the signature, the
 /// operation and the body.
 type Asked = (
@@ -46,7 +43,7 @@ type Asked = (
 /// What comes back: a status line, and a message with the name of its error or, for 200, the body.
 type Told = (&'static str, &'static str, &'static str);
 
-const OK: Told = ("200 OK", CREATED, "");
+const OK: Told = ("200 OK", APP_NAMED, "");
 
 const AUTHORIZATION: Told = (BAD, "signature: Authorization", "AccessDeniedException");
 

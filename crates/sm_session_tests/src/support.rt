@@ -6,9 +6,13 @@ use crate::gates::for_one;
 use sm_account::Account;
 use sm_base::limits::JOURNAL_LIMIT;
 use sm_disk::MemoryDisk;
-use sm_io::{CountWords, FixedClock, MemoryConn, MemorySink, MemorySource};
+use sm_io::{CountWords, FixedClock};
 use sm_lock::{Gate, Pass};
-use sm_model::{Bytes, Fails, List, Moment};
+use sm_memory_fixtures::connections;
+use sm_memory_fixtures::connections::{Behaviour, connection};
+use sm_memory_fixtures::disks::disk_of;
+use sm_memory_fixtures::fails::fails_from;
+use sm_model::Moment;
 use sm_principal::People;
 use sm_rotator::NoRotator;
 use sm_session::{Ended, serve};
@@ -18,22 +22,16 @@ use std::test::Fail;
 
 pub type Kept = Account<MemoryDisk, NoRotator>;
 
-/// How the objects of the outside behave: how many bytes move at a time, and from which call on each fails.
+/// How the objects of the outside behave: the connection, and from which call on each other one fails.
 #[derive(Clone, Copy)]
 pub struct Outside {
-    pub take: usize,
-    pub put: usize,
-    pub source_from: Option<u64>,
-    pub sink_from: Option<u64>,
+    pub conn: Behaviour,
     pub random_from: Option<u64>,
     pub disk_from: Option<u64>,
 }
 
 pub const WELL: Outside = Outside {
-    take: 1_000_000,
-    put: 1_000_000,
-    source_from: None,
-    sink_from: None,
+    conn: connections::WELL,
     random_from: None,
     disk_from: None,
 };
@@ -41,37 +39,13 @@ pub const WELL: Outside = Outside {
 /// How a session ended, what was written, and how many messages were answered.
 pub type Heard = (Ended, Vec<u8>, usize);
 
-fn fails(alloc: Global, from: Option<u64>) -> Fails {
-    Fails {
-        calls: List::empty(alloc),
-        from,
-    }
-}
-
 /// An account over an empty disk.
 pub fn account(alloc: Global, outside: &Outside) -> Option<Kept> {
-    let disk = MemoryDisk::new(
-        alloc,
-        Bytes::empty(alloc),
-        Bytes::empty(alloc),
-        Bytes::empty(alloc),
-        fails(alloc, outside.disk_from),
-    );
+    let disk = disk_of(alloc, b"", fails_from(alloc, outside.disk_from));
     match disk {
         Ok(disk) => Account::open(alloc, disk, 1, JOURNAL_LIMIT).ok(),
         Err(_) => None,
     }
-}
-
-fn connection(alloc: Global, input: &[u8], outside: &Outside) -> Result<MemoryConn, Fail> {
-    let bytes = Bytes::from_slice(alloc, input)?;
-    let source = MemorySource::new(
-        bytes,
-        outside.take.max(1),
-        fails(alloc, outside.source_from),
-    );
-    let sink = MemorySink::new(alloc, outside.put.max(1), fails(alloc, outside.sink_from));
-    Ok(MemoryConn::new(source, sink))
 }
 
 /// A session of one connection in which everybody may ask, and the pass again.
@@ -102,9 +76,9 @@ fn talk_of<R: Wait>(
     requires { IsIn gate.now pass }
     ensures { IfOk result (λ r. IsIn gate.now r.0) }
 {
-    let mut conn = connection(alloc, input, outside)?;
+    let mut conn = connection(alloc, input, &outside.conn)?;
     let mut clock = FixedClock::new(Moment(1_700_000_000));
-    let mut words = CountWords::new(alloc, 0, fails(alloc, outside.random_from));
+    let mut words = CountWords::new(alloc, 0, fails_from(alloc, outside.random_from));
     let served = serve(
         rt, alloc, gate, pass, &mut conn, &mut clock, &mut words, people,
     );
@@ -139,35 +113,4 @@ pub fn session_of<R: Wait>(
     };
     let (_pass, heard) = talk_of(rt, alloc, &gate, pass, people, input, outside)?;
     Ok(Some(heard))
-}
-
-/// Adds a message that asks for an operation.
-pub fn add_message(
-    alloc: Global,
-    input: &mut Vec<u8>,
-    operation: &str,
-    body: &[u8],
-) -> Result<(), Fail> {
-    let size = body.len();
-    let head = format!(in alloc;
-        "POST / HTTP/1.1\r\nX-Amz-Target: secretsmanager.{operation}\r\nContent-Length: {size}\r\n\r\n"
-    )?;
-    input.extend_from_slice(head.as_bytes())?;
-    input.extend_from_slice(body)?;
-    Ok(())
-}
-
-/// Adds a reply.
-pub fn add_reply(
-    alloc: Global,
-    output: &mut Vec<u8>,
-    status: &str,
-    body: &str,
-) -> Result<(), Fail> {
-    let size = body.len();
-    let reply = format!(in alloc;
-        "HTTP/1.1 {status}\r\nContent-Type: application/x-amz-json-1.1\r\nContent-Length: {size}\r\n\r\n{body}"
-    )?;
-    output.extend_from_slice(reply.as_bytes())?;
-    Ok(())
 }

@@ -5,7 +5,8 @@ use crate::primaries::{Primary, account_of, put_letters};
 use sm_base::List;
 use sm_frame::Frame;
 use sm_judging::Judged;
-use sm_model::{GetSecretValue, Label, Moment, Person, Reply, Request, SecretId, Text, Value};
+use sm_model::{GetSecretValue, Label, Moment, Reply, Request, SecretId, Text, Value};
+use sm_model_fixtures::requests::root;
 use sm_replica::{Replica, Taken, note_timely};
 use sm_ship::ship;
 use std::alloc::Global;
@@ -84,17 +85,12 @@ fn text_of(alloc: Global, reply: Reply) -> Result<String, Fail> {
 
 /// The value of `a` that a replica shows to the account's root.
 fn of_replica(alloc: Global, replica: &Replica) -> Result<String, Fail> {
-    let root = Person {
-        key: Text::fixed(""),
-        arn: Text::fixed("arn:aws:iam::000000000000:root"),
-        full: true,
-    };
     let request = Request::GetSecretValue(GetSecretValue {
         secret_id: Text::fixed("a"),
         version_id: None,
         version_stage: None,
     });
-    match replica.answer(&root, NOW, &request) {
+    match replica.answer(&root(), NOW, &request) {
         Judged::Accept(reply, _) => text_of(alloc, reply),
         Judged::Refuse(_) => Ok(String::from_str(alloc, "-")?),
         Judged::Memory => Err("memory".into()),

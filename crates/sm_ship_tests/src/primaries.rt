@@ -2,6 +2,9 @@
 use sm_account::Account;
 use sm_base::{Bytes, Fails};
 use sm_disk::MemoryDisk;
+use sm_memory_fixtures::disks::disk_of;
+use sm_memory_fixtures::journals;
+use sm_memory_fixtures::journals::put_record;
 use sm_rotator::NoRotator;
 use std::alloc::Global;
 use std::test::Fail;
@@ -34,20 +37,9 @@ const BODIES: &str = "\
 /// When the first of the numbered entries was made.
 const BEGUN: u64 = 1_700_000_009;
 
-/// The digits of a letter.
-fn digits_of(letter: char) -> &'static str {
-    for line in BODIES.lines() {
-        if let Some(digits) = line.trim_start().strip_prefix(letter) {
-            return digits.trim();
-        }
-    }
-    ""
-}
-
 /// The body of a letter.
 pub fn body_of(alloc: Global, letter: char) -> Result<Bytes, Fail> {
-    let body = hex::decode(alloc, digits_of(letter)).ok().ok_or("digits")?;
-    Ok(Bytes::new(body))
+    journals::body_of(alloc, BODIES, letter)
 }
 
 /// The body of the entry of this number: as `d`, made so many seconds after the first.
@@ -56,20 +48,6 @@ pub fn numbered(alloc: Global, number: u64) -> Result<Bytes, Fail> {
     body.extend_from_slice(&BEGUN.saturating_add(number).to_be_bytes())?;
     body.extend_from_slice(b"\0\0\0\0\0\0\0\0\0\0\0\0\x04\x01\0\0\0\0\x01x")?;
     Ok(Bytes::new(body))
-}
-
-/// Adds bytes behind their length.
-pub fn put_octets(bytes: &mut Vec<u8>, octets: &[u8]) -> Result<(), Fail> {
-    let length = u32::try_from(octets.len()).ok().ok_or("length")?;
-    bytes.extend_from_slice(&length.to_be_bytes())?;
-    bytes.extend_from_slice(octets)?;
-    Ok(())
-}
-
-/// Adds the record of a body, with its gate open.
-pub fn put_record(file: &mut Vec<u8>, body: &[u8]) -> Result<(), Fail> {
-    file.push(1)?;
-    put_octets(file, body)
 }
 
 /// Adds the records of letters.
@@ -86,13 +64,7 @@ pub fn account_of(alloc: Global, records: &[u8]) -> Result<Primary, Fail> {
     let mut file = Vec::from_slice(alloc, b"SMJRNL02")?;
     file.extend_from_slice(records)?;
     file.push(0)?;
-    let disk = MemoryDisk::new(
-        alloc,
-        Bytes::new(file),
-        Bytes::empty(alloc),
-        Bytes::empty(alloc),
-        Fails::never(alloc),
-    )?;
+    let disk = disk_of(alloc, file.as_slice(), Fails::never(alloc))?;
     let opened: Result<Primary, _> = Account::open(alloc, disk, 1, LIMIT);
     match opened {
         Ok(account) => Ok(account),

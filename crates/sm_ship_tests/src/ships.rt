@@ -1,12 +1,11 @@
 //! The frames of an account, byte by byte.
 ghost use Rattle.sm_ship.specs.Shipped.{AreShippable};
 
-use crate::primaries::{
-    Primary, account_of, body_of, numbered, put_letters, put_octets, put_record,
-};
+use crate::primaries::{Primary, account_of, body_of, numbered, put_letters};
 use sm_base::{Bytes, List};
 use sm_frame::Frame;
 use sm_frames::encode;
+use sm_memory_fixtures::journals::{put_body, put_record};
 use sm_ship::{next_frame, ship};
 use std::alloc::Global;
 use std::test::Fail;
@@ -68,8 +67,9 @@ fn put_rows(alloc: Global, bytes: &mut Vec<u8>, at: u64) -> Result<(), Fail> {
     bytes.push(2)?;
     bytes.extend_from_slice(&at.to_be_bytes())?;
     bytes.extend_from_slice(&2_u32.to_be_bytes())?;
-    put_octets(bytes, body_of(alloc, 'u')?.as_slice())?;
-    put_octets(bytes, body_of(alloc, 'q')?.as_slice())
+    put_body(bytes, body_of(alloc, 'u')?.as_slice())?;
+    put_body(bytes, body_of(alloc, 'q')?.as_slice())?;
+    Ok(())
 }
 
 /// Adds the bytes of a frame of so many entries.
@@ -78,7 +78,7 @@ fn put_entries(alloc: Global, bytes: &mut Vec<u8>, at: u64, count: u32) -> Resul
     bytes.extend_from_slice(&at.to_be_bytes())?;
     bytes.extend_from_slice(&count.to_be_bytes())?;
     for number in 0..u64::from(count) {
-        put_octets(
+        put_body(
             bytes,
             numbered(alloc, at.saturating_add(number))?.as_slice(),
         )?;

@@ -4,11 +4,12 @@ ghost use Rattle.sm_workers.specs.Workers.{IsFresh};
 
 use crate::meeting::{Holding, Meeting, Part, Watched};
 use crate::support::{
-    MemoryWorker, connection, connection_worker, edge, fails, late_rotation_worker, outcome,
-    ran_over, ran_server, rotation_worker, three,
+    MemoryWorker, connection, connection_worker, edge, late_rotation_worker, outcome, ran_over,
+    ran_server, rotation_worker, three,
 };
 use sm_io::MemoryConn;
-use sm_model::{Fails, List, Stage};
+use sm_memory_fixtures::fails::fails_at;
+use sm_model::{Fails, Stage};
 use sm_rotator::ScriptRotator;
 use sm_server::Status;
 use sm_workers::Task;
@@ -60,7 +61,7 @@ fn holding<'a>(rt: &'a HostRuntime, meeting: &'a Meeting, stage: Stage) -> Holdi
         rt,
         meeting,
         stage,
-        script: ScriptRotator::new(rt.alloc(), fails(rt.alloc(), None)),
+        script: ScriptRotator::new(rt.alloc(), Fails::never(rt.alloc())),
     }
 }
 
@@ -199,8 +200,7 @@ fn started_behind_a_fault<H: Threads + Wait + Sync>(
 ) -> Result<((u64, bool), (u64, bool), (u64, bool), (Status, u64)), Fail> {
     let meeting = Meeting::new();
     let mut workers = daily(rt, &meeting)?;
-    let calls = List::new(Vec::from_slice(rt.alloc(), &[call])?);
-    let disk_fails = Fails { calls, from: None };
+    let disk_fails = fails_at(rt.alloc(), call, false)?;
     let ended = ran_over(threads, rt.alloc(), workers.as_mut_slice(), disk_fails)?;
     Ok((
         came(&workers[0]),

@@ -3,8 +3,13 @@ ghost use Rattle.std.specs.Prelude.{◌≡◌, ◌≤◌, ◌+◌, All, IfOk, On
 ghost use Rattle.sm_workers.specs.Workers.{IsFresh};
 
 use sm_disk::MemoryDisk;
-use sm_io::{CountWords, Edge, FixedClock, MemoryConn, MemoryEdge, MemorySink, MemorySource};
-use sm_model::{Bytes, Fails, List, Moment};
+use sm_io::{CountWords, Edge, FixedClock, MemoryConn, MemoryEdge};
+use sm_memory_fixtures::connections;
+use sm_memory_fixtures::connections::WELL;
+use sm_memory_fixtures::disks::disk_of;
+use sm_memory_fixtures::fails::fails_from;
+use sm_memory_fixtures::messages::add_message;
+use sm_model::{Fails, List, Moment};
 use sm_rotator::Rotator;
 use sm_server::{Nobody, RanBy, Status, run_server};
 use sm_session::Ended;
@@ -17,14 +22,6 @@ use std::thread::Threads;
 /// A worker over memory, with an edge and a rotator of these kinds.
 pub type MemoryWorker<E, R: Rotator> = Worker<E, MemoryDisk, FixedClock, CountWords, R>;
 
-/// Calls that fail from one on.
-pub fn fails(alloc: Global, from: Option<u64>) -> Fails {
-    Fails {
-        calls: List::empty(alloc),
-        from,
-    }
-}
-
 /// The clock of each worker.
 fn clock() -> FixedClock {
     FixedClock::new(Moment(1_700_000_000))
@@ -32,30 +29,27 @@ fn clock() -> FixedClock {
 
 /// A connection with these messages, each an operation and a body.
 pub fn connection(alloc: Global, messages: &[(&str, &str)]) -> Result<MemoryConn, Fail> {
-    let mut input = String::new(alloc);
+    let mut input = Vec::new(alloc);
     for (operation, body) in messages {
-        let size = body.len();
-        let message = format!(in alloc;
-            "POST / HTTP/1.1\r\nX-Amz-Target: secretsmanager.{operation}\r\nContent-Length: {size}\r\n\r\n{body}"
-        )?;
-        input.push_str(&message)?;
+        add_message(alloc, &mut input, operation, body.as_bytes())?;
     }
-    let bytes = Bytes::from_slice(alloc, input.as_bytes())?;
-    let source = MemorySource::new(bytes, 1_000_000, fails(alloc, None));
-    let sink = MemorySink::new(alloc, 1_000_000, fails(alloc, None));
-    Ok(MemoryConn::new(source, sink))
+    Ok(connections::connection(alloc, input.as_slice(), &WELL)?)
 }
 
 /// An edge that hands out these connections, unless an accept fails.
 pub fn edge(alloc: Global, conns: Vec<MemoryConn>, from: Option<u64>) -> MemoryEdge<ConnEnd> {
-    MemoryEdge::new(alloc, List::new(conns), fails(alloc, from))
+    MemoryEdge::new(alloc, List::new(conns), fails_from(alloc, from))
 }
 
 /// A worker for an edge.
 pub fn connection_worker<E, R: Rotator>(alloc: Global, edge: E) -> MemoryWorker<E, R>
     ensures { IsFresh result }
 {
-    Worker::door(edge, clock(), CountWords::new(alloc, 0, fails(alloc, None)))
+    Worker::door(
+        edge,
+        clock(),
+        CountWords::new(alloc, 0, Fails::never(alloc)),
+    )
 }
 
 /// A worker that takes rotation turns.
@@ -65,7 +59,7 @@ pub fn rotation_worker<E, R: Rotator>(alloc: Global, rotator: R) -> MemoryWorker
     Worker::turner(
         rotator,
         clock(),
-        CountWords::new(alloc, 0, fails(alloc, None)),
+        CountWords::new(alloc, 0, Fails::never(alloc)),
     )
 }
 
@@ -77,7 +71,7 @@ pub fn late_rotation_worker<E, R: Rotator>(alloc: Global, rotator: R) -> MemoryW
     Worker::turner(
         rotator,
         FixedClock::new(Moment(1_700_086_400)),
-        CountWords::new(alloc, 80, fails(alloc, None)),
+        CountWords::new(alloc, 80, Fails::never(alloc)),
     )
 }
 
@@ -127,7 +121,7 @@ where
     requires many { (1 ≤ length workers.old) × (length workers.old ≤ 128) }
     requires fresh { All IsFresh workers.old }
 {
-    ran_over(rt, alloc, workers, fails(alloc, None))
+    ran_over(rt, alloc, workers, Fails::never(alloc))
 }
 
 /// The same over a disk of which these calls fail.
@@ -146,13 +140,7 @@ where
     for word in ["--mode", "serve"] {
         words.push(String::from_str(alloc, word)?)?;
     }
-    let disk = MemoryDisk::new(
-        alloc,
-        Bytes::empty(alloc),
-        Bytes::empty(alloc),
-        Bytes::empty(alloc),
-        disk_fails,
-    )?;
+    let disk = disk_of(alloc, b"", disk_fails)?;
     match run_server(rt, alloc, words.as_slice(), workers, disk, b"", &Nobody) {
         RanBy::Opened(status, account) => Ok((status, account.entries())),
         RanBy::Unopened(status, _disk) => Ok((status, 0)),
