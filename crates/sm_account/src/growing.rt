@@ -16,6 +16,7 @@ use crate::due::Due;
 use sm_disk::Disk;
 use sm_model::{Act, Bytes, Change, Copied, Entry, Moment, NoMemory, Person, Request};
 use sm_sizes::spell;
+use sm_table::Block;
 use std::alloc::Global;
 
 /// Takes all the memory that the entry of an accepted request needs: a place for it, the entry and its
@@ -26,7 +27,7 @@ pub fn grow_request<D: Disk>(
     moment: Moment,
     drawn: &[u8],
     request: &Request,
-    change: Change,
+    change: Block<Change>,
 ) -> Result<Due, NoMemory>
     requires can { CanMake inner.old.table change }
     requires bound { moment.0 ≤ LAST_READING }
@@ -41,7 +42,7 @@ pub fn grow_request<D: Disk>(
     ensures same { SameButRoom inner.old inner.new }
 {
     let entry = make_entry(inner.alloc, moment, person, drawn, request)?;
-    let due = grow(inner, entry, change)?;
+    let due = grow(inner, entry, change.into_value())?;
     Ok(due)
 }
 

@@ -16,6 +16,7 @@ use crate::handled::Handled;
 use sm_core::Judged;
 use sm_disk::Disk;
 use sm_model::{Moment, Person, Reply, Request, Why};
+use sm_table::Block;
 
 /// Answers a request of a person at a reading of the clock, with the random bytes that were drawn for it.
 pub fn handle<D: Disk>(
@@ -53,7 +54,7 @@ pub fn handle<D: Disk>(
 }
 
 /// Makes an entry for which all memory is there, unless it would pass a limit, and answers with the reply.
-fn finish<D: Disk>(inner: &mut AccountState<D>, seat: u32, reply: Reply, due: Due) -> Handled
+fn finish<D: Disk>(inner: &mut AccountState<D>, seat: u32, reply: Block<Reply>, due: Due) -> Handled
     requires kept { Kept D.Disk inner.old }
     requires due { LimitsAside inner.old due }
     requires room { HasCapacity inner.old }

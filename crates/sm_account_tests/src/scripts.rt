@@ -104,7 +104,7 @@ fn reply_text(alloc: Global, reply: &Reply) -> Result<String, Fail> {
 
 fn handled_text(alloc: Global, handled: &Handled) -> Result<String, Fail> {
     match handled {
-        Handled::Answered(reply) => reply_text(alloc, reply),
+        Handled::Answered(reply) => reply_text(alloc, reply.value()),
         Handled::Refused(why) => text_of(alloc, why.message(alloc)?.as_str()),
         Handled::DiskFault => text_of(alloc, "disk fault"),
         Handled::Memory => text_of(alloc, "no memory"),

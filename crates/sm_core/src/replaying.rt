@@ -19,7 +19,7 @@ use sm_judge_rotations::begun::judge_begun;
 use sm_judge_rotations::reported::judge_reported;
 use sm_judging::Judged;
 use sm_model::{Act, Answer, Arn, At, Change, Entry, NoMemory, Request, Why, need};
-use sm_table::Table;
+use sm_table::{Block, Table};
 use sm_versions::When;
 use std::alloc::Global;
 
@@ -201,11 +201,11 @@ fn replay_judged(judged: Judged, deletes: bool) -> Replayed
     }
 }
 
-fn or_nothing(change: Option<Change>, deletes: bool) -> Option<Change>
+fn or_nothing(change: Option<Block<Change>>, deletes: bool) -> Option<Change>
     ensures { result ≡ or_nothing deletes change }
 {
     match change {
-        Some(change) => Some(change),
+        Some(change) => Some(change.into_value()),
         None => { if deletes { Some(Change::Nothing) } else { None } }
     }
 }

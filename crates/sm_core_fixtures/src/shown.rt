@@ -386,15 +386,14 @@ fn reply_text(alloc: Global, reply: &Reply) -> Result<String, Fail> {
 /// The reply or the refusal. An entry is due where a sign of it stands first, which is a minus where it drops a secret.
 fn judged_text(alloc: Global, judged: &Judged) -> Result<String, Fail> {
     match judged {
-        Judged::Accept(reply, Some(Change::Drop(_))) => {
-            let reply = reply_text(alloc, reply)?;
-            Ok(format!(in alloc; "- {reply}")?)
+        Judged::Accept(reply, Some(change)) => {
+            let reply = reply_text(alloc, reply.value())?;
+            match change.value() {
+                Change::Drop(_) => Ok(format!(in alloc; "- {reply}")?),
+                _ => Ok(format!(in alloc; "+ {reply}")?),
+            }
         }
-        Judged::Accept(reply, Some(_)) => {
-            let reply = reply_text(alloc, reply)?;
-            Ok(format!(in alloc; "+ {reply}")?)
-        }
-        Judged::Accept(reply, None) => reply_text(alloc, reply),
+        Judged::Accept(reply, None) => reply_text(alloc, reply.value()),
         Judged::Refuse(why) => why_text(alloc, why),
         Judged::Memory => plain(alloc, "out of memory"),
     }

@@ -16,7 +16,7 @@ use sm_core_fixtures::asked::{column, request};
 use sm_core_fixtures::shown::{number, plain, show_once};
 use sm_model::{Change, Moment, Person, Request, SecretRow, Why, need};
 use sm_model_fixtures::requests::root;
-use sm_table::Table;
+use sm_table::{Block, Table};
 use sm_versions::When;
 use std::alloc::Global;
 use std::marker::Model;
@@ -410,13 +410,13 @@ fn commit(secrets: &mut Secrets, change: Change) -> Result<(), Fail>
     Ok(())
 }
 
-fn commit_any(secrets: &mut Secrets, change: Option<Change>) -> Result<(), Fail>
+fn commit_any(secrets: &mut Secrets, change: Option<Block<Change>>) -> Result<(), Fail>
     requires can { IfSome change (CanMake secrets.old) }
     requires stands { IfSome change (StandsAt secrets.old (record { 0 = 1700000000 })) }
     requires sound { IfSome change (ChangeSound (sweep secrets.old (record { 0 = 1700000000 }))) }
 {
     match change {
-        Some(change) => commit(secrets, change),
+        Some(change) => commit(secrets, change.into_value()),
         None => Ok(()),
     }
 }

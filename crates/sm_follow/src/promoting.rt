@@ -17,7 +17,6 @@ ghost use Rattle.sm_follow.specs.InputTurns.{PromotesAs, State, StopsUnless, pro
 use crate::end::End;
 use crate::follower::{Follower, Turned};
 use crate::output::Output;
-use sm_account::Handled;
 use sm_base::NoMemory;
 use sm_bodies::note_spelled;
 use sm_core::{Admitted, admit, forms};
@@ -27,7 +26,7 @@ use sm_judging::members::secret_id;
 use sm_model::{Moment, Person, PromotedSecret, Reply, Request, SecretId, Text, Why};
 use sm_record::Base;
 use sm_replica::{PromoteRefused, Replica};
-use sm_session::{Said, say_handled, say_refusal};
+use sm_session::{Said, say_refusal, say_reply};
 use sm_table::Table;
 use std::alloc::Global;
 
@@ -150,7 +149,7 @@ fn say_promoted(alloc: Global, table: &Table, id: &SecretId, moment: Moment) -> 
         Some(row) => match Text::from_str(alloc, row.arn.as_text().as_str()) {
             Ok(arn) => {
                 let reply = Reply::StopReplicationToReplica(PromotedSecret { arn });
-                say_handled(alloc, Handled::Answered(reply))
+                say_reply(alloc, &reply)
             }
             Err(NoMemory) => Said::Memory,
         },

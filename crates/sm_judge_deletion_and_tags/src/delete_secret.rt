@@ -107,20 +107,25 @@ fn judge_call(
 {
     match table.find(&call.id, when.moment) {
         Some(row) => delete_on(alloc, row, when, call.deletion),
-        None => Ok(delete_absent(when.moment, call.deletion, call.given)),
+        None => delete_absent(alloc, when.moment, call.deletion, call.given),
     }
 }
 
 /// Deletes no secret: a deletion that is forced is accepted all the same.
-fn delete_absent(moment: Moment, deletion: Deletion, given: Text) -> Judged
-    ensures { result ≡ delete_absent moment deletion given }
+fn delete_absent(
+    alloc: Global,
+    moment: Moment,
+    deletion: Deletion,
+    given: Text,
+) -> Result<Judged, NoMemory>
+    ensures { IfOk result (λ judged. judged ≡ delete_absent moment deletion given) }
 {
     match deletion {
-        Deletion::Forced => Judged::Accept(
+        Deletion::Forced => Judged::reads(
+            alloc,
             Reply::DeleteSecret(deleted_absent(given, moment)),
-            None,
         ),
-        Deletion::After(_) => Judged::Refuse(Why::NoSecret),
+        Deletion::After(_) => Ok(Judged::Refuse(Why::NoSecret)),
     }
 }
 
@@ -146,7 +151,7 @@ fn delete_at_once(alloc: Global, row: &SecretRow, moment: Moment) -> Result<Judg
     ensures { IfOk result (λ judged. judged ≡ delete_at_once row.now moment) }
 {
     let reply = deleted(alloc, row, moment)?;
-    Ok(Judged::Accept(Reply::DeleteSecret(reply), Some(Change::Drop(row.serial))))
+    Judged::changes(alloc, Reply::DeleteSecret(reply), Change::Drop(row.serial))
 }
 
 /// Schedules the secret of this row for deletion, unless it is scheduled already.
@@ -177,7 +182,7 @@ fn delete_later(alloc: Global, row: &SecretRow, when: When, days: u32) -> Result
     let mut after = row.copy(alloc)?;
     after.deletion = Some(date);
     finish(&mut after, when);
-    Ok(Judged::Accept(Reply::DeleteSecret(reply), Some(Change::Replace(after))))
+    Judged::changes(alloc, Reply::DeleteSecret(reply), Change::Replace(after))
 }
 
 // ---- the replies

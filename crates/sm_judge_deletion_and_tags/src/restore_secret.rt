@@ -38,7 +38,7 @@ fn restore_on(alloc: Global, row: &SecretRow, when: When) -> Result<Judged, NoMe
     let mut after = row.copy(alloc)?;
     after.deletion = None;
     finish(&mut after, when);
-    Ok(Judged::Accept(Reply::RestoreSecret(reply), Some(Change::Replace(after))))
+    Judged::changes(alloc, Reply::RestoreSecret(reply), Change::Replace(after))
 }
 
 /// The reply that names the secret.

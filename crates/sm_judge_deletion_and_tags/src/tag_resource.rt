@@ -2,7 +2,6 @@
 ghost use Rattle.std.specs.Prelude.{◌≡◌, IfOk, IsTrue, OnOk, None};
 ghost use Rattle.std.specs.List.{position};
 ghost use Rattle.sm_forms.specs.TagResource.{tag_forms};
-ghost use Rattle.sm_judging.specs.Secrets.{unless_scheduled};
 ghost use Rattle.sm_versions.specs.Sound.{tag_keys};
 ghost use Rattle.sm_versions.specs.Texts.{once};
 ghost use Rattle.sm_base.specs.Texts.{same_text};
@@ -13,6 +12,7 @@ use sm_base::list::copies;
 use sm_judging::Judged;
 use sm_judging::members::secret_id;
 use sm_judging::row_change::finish;
+use sm_judging::standing::standing;
 use sm_model::{
     Change, Copied, List, NoMemory, Reply, SecretRow, Tag, TagResource, Text, What, Why,
 };
@@ -21,7 +21,7 @@ use sm_versions::When;
 use std::alloc::Global;
 
 /// Judges a TagResource.
-#[tactic(auto, using(sm_forms::proofs::TagResourceLemmas::tag_id, crate::proofs::TagResourceLemmas::given_once))]
+#[tactic(auto, using(sm_forms::proofs::TagResourceLemmas::tag_id, crate::proofs::TagResourceLemmas::given_once, sm_judging::proofs::JudgedLemmas::judged_of_standing, sm_judging::proofs::JudgedLemmas::refused_unless_standing))]
 pub fn judge_tag(
     alloc: Global,
     table: &Table,
@@ -32,29 +32,13 @@ pub fn judge_tag(
     ensures { IfOk result (λ judged. judged ≡ tag_judgement table.now when tag.now) }
 {
     let id = secret_id(alloc, &tag.secret_id)?;
-    match table.find(&id, when.moment) {
-        Some(row) => tag_unless_scheduled(alloc, row, when, tag.tags.as_slice()),
-        None => Ok(Judged::Refuse(Why::NoSecret)),
+    match standing(table, &id, when.moment) {
+        Ok(row) => tag_on(alloc, row, when, tag.tags.as_slice()),
+        Err(why) => Ok(Judged::Refuse(why)),
     }
 }
 
 // ---- the tests
-
-/// Tags the secret of this row, unless it is scheduled for deletion.
-fn tag_unless_scheduled(
-    alloc: Global,
-    row: &SecretRow,
-    when: When,
-    given: &[Tag],
-) -> Result<Judged, NoMemory>
-    requires { IsTrue (once (tag_keys given.now)) }
-    ensures { IfOk result (λ judged. judged ≡ unless_scheduled row.now.deletion (tag_on row.now when given.now)) }
-{
-    match row.deletion {
-        Some(date) => Ok(Judged::Refuse(Why::Scheduled(date))),
-        None => tag_on(alloc, row, when, given),
-    }
-}
 
 /// Tags the secret of this row, where it has few enough tags then. As no key is given twice, more tags than a secret
 /// may have are refused before any is copied.
@@ -99,7 +83,7 @@ fn tag_within_limit(
     let mut after = row.copy(alloc)?;
     after.tags = tags;
     finish(&mut after, when);
-    Ok(Judged::Accept(Reply::TagResource, Some(Change::Replace(after))))
+    Judged::changes(alloc, Reply::TagResource, Change::Replace(after))
 }
 
 // ---- the tags

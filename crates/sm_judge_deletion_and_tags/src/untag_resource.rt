@@ -1,7 +1,6 @@
 //! Judging UntagResource (AWS Secrets Manager API Reference, UntagResource).
 ghost use Rattle.std.specs.Prelude.{◌≡◌, IfOk, None};
 ghost use Rattle.sm_forms.specs.UntagResource.{untag_forms};
-ghost use Rattle.sm_judging.specs.Secrets.{unless_scheduled};
 ghost use Rattle.sm_versions.specs.Texts.{is_among};
 ghost use Rattle.sm_judge_deletion_and_tags.specs.UntagResource.{without_tags, untag_on, untag_judgement};
 
@@ -10,13 +9,14 @@ use sm_base::list::copies;
 use sm_judging::Judged;
 use sm_judging::members::secret_id;
 use sm_judging::row_change::finish;
-use sm_model::{Change, Copied, List, NoMemory, Reply, SecretRow, Tag, Text, UntagResource, Why};
+use sm_judging::standing::standing;
+use sm_model::{Change, Copied, List, NoMemory, Reply, SecretRow, Tag, Text, UntagResource};
 use sm_table::Table;
 use sm_versions::When;
 use std::alloc::Global;
 
 /// Judges an UntagResource.
-#[tactic(auto, using(sm_forms::proofs::UntagResourceLemmas::untag_id))]
+#[tactic(auto, using(sm_forms::proofs::UntagResourceLemmas::untag_id, sm_judging::proofs::JudgedLemmas::judged_of_standing, sm_judging::proofs::JudgedLemmas::refused_unless_standing))]
 pub fn judge_untag(
     alloc: Global,
     table: &Table,
@@ -27,24 +27,9 @@ pub fn judge_untag(
     ensures { IfOk result (λ judged. judged ≡ untag_judgement table.now when untag.now) }
 {
     let id = secret_id(alloc, &untag.secret_id)?;
-    match table.find(&id, when.moment) {
-        Some(row) => untag_unless_scheduled(alloc, row, when, untag.tag_keys.as_slice()),
-        None => Ok(Judged::Refuse(Why::NoSecret)),
-    }
-}
-
-/// Takes tags off the secret of this row, unless it is scheduled for deletion.
-fn untag_unless_scheduled(
-    alloc: Global,
-    row: &SecretRow,
-    when: When,
-    keys: &[Text],
-) -> Result<Judged, NoMemory>
-    ensures { IfOk result (λ judged. judged ≡ unless_scheduled row.now.deletion (untag_on row.now when keys.now)) }
-{
-    match row.deletion {
-        Some(date) => Ok(Judged::Refuse(Why::Scheduled(date))),
-        None => untag_on(alloc, row, when, keys),
+    match standing(table, &id, when.moment) {
+        Ok(row) => untag_on(alloc, row, when, untag.tag_keys.as_slice()),
+        Err(why) => Ok(Judged::Refuse(why)),
     }
 }
 
@@ -56,7 +41,7 @@ fn untag_on(alloc: Global, row: &SecretRow, when: When, keys: &[Text]) -> Result
     let mut after = row.copy(alloc)?;
     after.tags = tags;
     finish(&mut after, when);
-    Ok(Judged::Accept(Reply::UntagResource, Some(Change::Replace(after))))
+    Judged::changes(alloc, Reply::UntagResource, Change::Replace(after))
 }
 
 /// Whether the key is one of these.

@@ -1,12 +1,13 @@
 //! Judging UpdateSecretVersionStage (AWS Secrets Manager API Reference, UpdateSecretVersionStage).
 ghost use Rattle.std.specs.Prelude.{◌≡◌, ◌⊎◌, IfOk, IsSome, None};
 ghost use Rattle.sm_forms.specs.UpdateSecretVersionStage.{move_forms};
-ghost use Rattle.sm_judging.specs.Secrets.{finished_row, unless_scheduled};
+ghost use Rattle.sm_judging.specs.Secrets.{finished_row};
 ghost use Rattle.sm_judge_labels.specs.UpdateSecretVersionStage.{move_call, move_reply, move_outcome, move_on, move_judged, move_judgement};
 
 use sm_judging::Judged;
 use sm_judging::members::{label_of, secret_id, token_given};
 use sm_judging::row_change::finish;
+use sm_judging::standing::standing;
 use sm_model::{
     Change, Copied, Label, NamedSecret, NoMemory, Reply, SecretId, SecretRow, Token,
     UpdateSecretVersionStage, What, Why,
@@ -54,29 +55,14 @@ fn move_call(alloc: Global, update: &UpdateSecretVersionStage) -> Result<MoveCal
 }
 
 /// Judges an UpdateSecretVersionStage by the secret that it names.
+#[tactic(auto, using(sm_judging::proofs::JudgedLemmas::judged_of_standing, sm_judging::proofs::JudgedLemmas::refused_unless_standing))]
 fn judge_call(alloc: Global, table: &Table, when: When, call: &MoveCall) -> Result<Judged, NoMemory>
     requires { IsSome call.now.to ⊎ IsSome call.now.from }
     ensures { IfOk result (λ judged. judged ≡ move_judged table.now when call.now) }
 {
-    match table.find(&call.id, when.moment) {
-        Some(row) => move_unless_scheduled(alloc, row, when, call),
-        None => Ok(Judged::Refuse(Why::NoSecret)),
-    }
-}
-
-/// Judges an UpdateSecretVersionStage of this row.
-fn move_unless_scheduled(
-    alloc: Global,
-    row: &SecretRow,
-    when: When,
-    call: &MoveCall,
-) -> Result<Judged, NoMemory>
-    requires { IsSome call.now.to ⊎ IsSome call.now.from }
-    ensures { IfOk result (λ judged. judged ≡ unless_scheduled row.now.deletion (move_on row.now when call.now)) }
-{
-    match row.deletion {
-        Some(date) => Ok(Judged::Refuse(Why::Scheduled(date))),
-        None => move_on(alloc, row, when, call),
+    match standing(table, &call.id, when.moment) {
+        Ok(row) => move_on(alloc, row, when, call),
+        Err(why) => Ok(Judged::Refuse(why)),
     }
 }
 
@@ -120,8 +106,9 @@ fn accept(alloc: Global, after: SecretRow, when: When) -> Result<Judged, NoMemor
     let mut after = after;
     finish(&mut after, when);
     let reply = move_reply(alloc, &after)?;
-    Ok(Judged::Accept(
+    Judged::changes(
+        alloc,
         Reply::UpdateSecretVersionStage(reply),
-        Some(Change::Replace(after)),
-    ))
+        Change::Replace(after),
+    )
 }

@@ -41,7 +41,7 @@ pub fn judge_batch(
         → page_rows table.now moment (batch_ask batch.now) ≡ first_listed table.now moment (batch_ask batch.now) }
 {
     let reply = secret_batch(alloc, table, person, moment, batch)?;
-    Ok(Judged::Accept(Reply::BatchGetSecretValue(reply), None))
+    Judged::reads(alloc, Reply::BatchGetSecretValue(reply))
 }
 
 /// The values of a batch, by SecretIds or by filters.
@@ -149,7 +149,7 @@ fn add(
     ensures values { OnOk result (values.new ≡ values.old ++ value_in judged) }
 {
     match judged {
-        Judged::Accept(reply, _) => add_value(values, reply),
+        Judged::Accept(reply, _) => add_value(values, reply.into_value()),
         Judged::Refuse(why) => add_error(alloc, errors, id, &why),
         Judged::Memory => unreachable!(),
     }

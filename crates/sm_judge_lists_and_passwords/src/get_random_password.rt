@@ -29,7 +29,7 @@ pub fn judge_password(
     let reply = RandomPassword {
         random_password: password_text(alloc, &ask, drawn)?,
     };
-    Ok(Judged::Accept(Reply::GetRandomPassword(reply), None))
+    Judged::reads(alloc, Reply::GetRandomPassword(reply))
 }
 
 /// What is asked of the password.

@@ -70,7 +70,7 @@ fn show_versions(alloc: Global, row: &SecretRow, call: &VersionsCall) -> Result<
     ensures { IfOk result (λ judged. judged ≡ versions_on row.now call.now) }
 {
     let reply = version_page(alloc, row, call)?;
-    Ok(Judged::Accept(Reply::ListSecretVersionIds(reply), None))
+    Judged::reads(alloc, Reply::ListSecretVersionIds(reply))
 }
 
 /// The page's versions, and the token of the next page.

@@ -34,7 +34,7 @@ pub fn judge_list(
 {
     let ask = list_ask(alloc, list)?;
     let reply = secret_page(alloc, table, moment, &ask)?;
-    Ok(Judged::Accept(Reply::ListSecrets(reply), None))
+    Judged::reads(alloc, Reply::ListSecrets(reply))
 }
 
 /// The members of a ListSecrets.

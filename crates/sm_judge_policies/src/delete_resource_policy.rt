@@ -1,19 +1,19 @@
 //! Judging DeleteResourcePolicy (AWS Secrets Manager API Reference, DeleteResourcePolicy).
 ghost use Rattle.std.specs.Prelude.{◌≡◌, IfOk, None};
 ghost use Rattle.sm_forms.specs.OfSecret.{of_secret_forms};
-ghost use Rattle.sm_judging.specs.Secrets.{unless_scheduled};
 ghost use Rattle.sm_judge_policies.specs.DeleteResourcePolicy.{delete_policy_on, delete_policy_judgement};
 
 use crate::kept::{keep, named};
 use sm_judging::Judged;
 use sm_judging::members::secret_id;
-use sm_model::{Change, NoMemory, OfSecret, Reply, SecretRow, Why};
+use sm_judging::standing::standing;
+use sm_model::{Change, NoMemory, OfSecret, Reply, SecretRow};
 use sm_table::Table;
 use sm_versions::When;
 use std::alloc::Global;
 
 /// Judges a DeleteResourcePolicy.
-#[tactic(auto, using(sm_forms::proofs::OfSecretLemmas::named_id))]
+#[tactic(auto, using(sm_forms::proofs::OfSecretLemmas::named_id, sm_judging::proofs::JudgedLemmas::judged_of_standing, sm_judging::proofs::JudgedLemmas::refused_unless_standing))]
 pub fn judge_delete_policy(
     alloc: Global,
     table: &Table,
@@ -24,23 +24,9 @@ pub fn judge_delete_policy(
     ensures { IfOk result (λ judged. judged ≡ delete_policy_judgement table.now when delete.now) }
 {
     let id = secret_id(alloc, &delete.secret_id)?;
-    match table.find(&id, when.moment) {
-        Some(row) => delete_policy_unless_scheduled(alloc, row, when),
-        None => Ok(Judged::Refuse(Why::NoSecret)),
-    }
-}
-
-/// Takes the policy off this row, unless its secret is scheduled for deletion.
-fn delete_policy_unless_scheduled(
-    alloc: Global,
-    row: &SecretRow,
-    when: When,
-) -> Result<Judged, NoMemory>
-    ensures { IfOk result (λ judged. judged ≡ unless_scheduled row.now.deletion (delete_policy_on row.now when)) }
-{
-    match row.deletion {
-        Some(date) => Ok(Judged::Refuse(Why::Scheduled(date))),
-        None => delete_policy_on(alloc, row, when),
+    match standing(table, &id, when.moment) {
+        Ok(row) => delete_policy_on(alloc, row, when),
+        Err(why) => Ok(Judged::Refuse(why)),
     }
 }
 
@@ -50,8 +36,9 @@ fn delete_policy_on(alloc: Global, row: &SecretRow, when: When) -> Result<Judged
 {
     let reply = named(alloc, row)?;
     let after = keep(alloc, row, when, None)?;
-    Ok(Judged::Accept(
+    Judged::changes(
+        alloc,
         Reply::DeleteResourcePolicy(reply),
-        Some(Change::Replace(after)),
-    ))
+        Change::Replace(after),
+    )
 }

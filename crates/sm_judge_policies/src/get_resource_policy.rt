@@ -35,7 +35,7 @@ fn get_policy_on(alloc: Global, row: &SecretRow) -> Result<Judged, NoMemory>
     ensures { IfOk result (λ judged. judged ≡ get_policy_on row.now) }
 {
     let reply = policy_shown(alloc, row)?;
-    Ok(Judged::Accept(Reply::GetResourcePolicy(reply), None))
+    Judged::reads(alloc, Reply::GetResourcePolicy(reply))
 }
 
 /// The reply that shows the policy as it was given, where there is one.

@@ -1,12 +1,12 @@
 //! Judging PutResourcePolicy (AWS Secrets Manager API Reference, PutResourcePolicy).
 ghost use Rattle.std.specs.Prelude.{◌≡◌, IfOk, None, Some};
 ghost use Rattle.sm_forms.specs.PutResourcePolicy.{put_policy_forms};
-ghost use Rattle.sm_judging.specs.Secrets.{unless_scheduled};
 ghost use Rattle.sm_judge_policies.specs.PutResourcePolicy.{public_statement, blocked, put_policy_kept, put_policy_on, put_policy_judgement};
 
 use crate::kept::{keep, named};
 use sm_judging::Judged;
 use sm_judging::members::secret_id;
+use sm_judging::standing::standing;
 use sm_model::{Change, Copied, KeptPolicy, NoMemory, PutResourcePolicy, Reply, SecretRow, Why};
 use sm_policy::is_public;
 use sm_table::Table;
@@ -14,7 +14,7 @@ use sm_versions::When;
 use std::alloc::Global;
 
 /// Judges a PutResourcePolicy.
-#[tactic(auto, using(sm_forms::proofs::PutResourcePolicyLemmas::put_policy_id))]
+#[tactic(auto, using(sm_forms::proofs::PutResourcePolicyLemmas::put_policy_id, sm_judging::proofs::JudgedLemmas::judged_of_standing, sm_judging::proofs::JudgedLemmas::refused_unless_standing))]
 pub fn judge_put_policy(
     alloc: Global,
     table: &Table,
@@ -25,25 +25,9 @@ pub fn judge_put_policy(
     ensures { IfOk result (λ judged. judged ≡ put_policy_judgement table.now when put.now) }
 {
     let id = secret_id(alloc, &put.secret_id)?;
-    match table.find(&id, when.moment) {
-        Some(row) => put_policy_unless_scheduled(alloc, row, when, put),
-        None => Ok(Judged::Refuse(Why::NoSecret)),
-    }
-}
-
-/// Gives this row the policy, unless its secret is scheduled for deletion.
-fn put_policy_unless_scheduled(
-    alloc: Global,
-    row: &SecretRow,
-    when: When,
-    put: &PutResourcePolicy,
-) -> Result<Judged, NoMemory>
-    ensures { IfOk result
-        (λ judged. judged ≡ unless_scheduled row.now.deletion (put_policy_on row.now when put.now)) }
-{
-    match row.deletion {
-        Some(date) => Ok(Judged::Refuse(Why::Scheduled(date))),
-        None => put_policy_on(alloc, row, when, put),
+    match standing(table, &id, when.moment) {
+        Ok(row) => put_policy_on(alloc, row, when, put),
+        Err(why) => Ok(Judged::Refuse(why)),
     }
 }
 
@@ -96,8 +80,9 @@ fn put_policy_kept(
 {
     let reply = named(alloc, row)?;
     let after = keep(alloc, row, when, Some(policy))?;
-    Ok(Judged::Accept(
+    Judged::changes(
+        alloc,
         Reply::PutResourcePolicy(reply),
-        Some(Change::Replace(after)),
-    ))
+        Change::Replace(after),
+    )
 }

@@ -57,7 +57,7 @@ fn validated(alloc: Global, text: &Text) -> Result<Judged, NoMemory>
 {
     let fault = fault_of(alloc, text)?;
     let reply = validation_of(alloc, fault)?;
-    Ok(Judged::Accept(Reply::ValidateResourcePolicy(reply), None))
+    Judged::reads(alloc, Reply::ValidateResourcePolicy(reply))
 }
 
 /// The reply that lists a fault, or none.

@@ -39,7 +39,7 @@ fn describe_row(alloc: Global, row: &SecretRow) -> Result<Judged, NoMemory>
     ensures { IfOk result (λ judged. judged ≡ describe_on row.now) }
 {
     let reply = described(alloc, row)?;
-    Ok(Judged::Accept(Reply::DescribeSecret(reply), None))
+    Judged::reads(alloc, Reply::DescribeSecret(reply))
 }
 
 /// All that is shown of a secret.

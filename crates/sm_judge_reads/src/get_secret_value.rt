@@ -1,7 +1,6 @@
 //! Judging GetSecretValue (AWS Secrets Manager API Reference, GetSecretValue).
 ghost use Rattle.std.specs.Prelude.{◌≡◌, IfOk, None, Some};
 ghost use Rattle.sm_forms.specs.GetSecretValue.{get_forms};
-ghost use Rattle.sm_judging.specs.Secrets.{unless_scheduled};
 ghost use Rattle.sm_judge_reads.specs.GetSecretValue.{get_call, text_of, bytes_of, got_secret, get_version, get_found, get_on, get_judged, get_judgement};
 ghost use Rattle.sm_table.specs.Changes.{row_with};
 ghost use Rattle.sm_versions.specs.Find.{lookup, looked_up};
@@ -9,6 +8,7 @@ ghost use Rattle.sm_versions.specs.Find.{lookup, looked_up};
 use sm_judging::Judged;
 use sm_judging::labels_shown::labels_shown;
 use sm_judging::members::{label_given, secret_id, token_given};
+use sm_judging::standing::standing;
 use sm_model::{
     Bytes, Copied, GetSecretValue, GotSecret, Label, Moment, NoMemory, Reply, SecretId, SecretRow,
     Text, Token, Value, VersionRow, Why,
@@ -53,6 +53,7 @@ fn get_call(alloc: Global, get: &GetSecretValue) -> Result<GetCall, NoMemory>
 }
 
 /// Judges a GetSecretValue by the secret that it names.
+#[tactic(auto, using(sm_judging::proofs::JudgedLemmas::judged_of_standing, sm_judging::proofs::JudgedLemmas::refused_unless_standing))]
 fn judge_call(
     alloc: Global,
     table: &Table,
@@ -61,25 +62,9 @@ fn judge_call(
 ) -> Result<Judged, NoMemory>
     ensures { IfOk result (λ judged. judged ≡ get_judged table.now moment call.now) }
 {
-    match table.find(&call.id, moment) {
-        Some(row) => get_unless_scheduled(alloc, table, row, call),
-        None => Ok(Judged::Refuse(Why::NoSecret)),
-    }
-}
-
-/// Judges a GetSecretValue of this row of the table.
-fn get_unless_scheduled(
-    alloc: Global,
-    table: &Table,
-    row: &SecretRow,
-    call: &GetCall,
-) -> Result<Judged, NoMemory>
-    requires { row_with table.now.secrets row.now.serial ≡ Some row.now }
-    ensures { IfOk result (λ judged. judged ≡ unless_scheduled row.now.deletion (get_on row.now call.now)) }
-{
-    match row.deletion {
-        Some(date) => Ok(Judged::Refuse(Why::Scheduled(date))),
-        None => get_on(alloc, table, row, call),
+    match standing(table, &call.id, moment) {
+        Ok(row) => get_on(alloc, table, row, call),
+        Err(why) => Ok(Judged::Refuse(why)),
     }
 }
 
@@ -114,7 +99,7 @@ fn get_version(alloc: Global, row: &SecretRow, version: &VersionRow) -> Result<J
         return Ok(Judged::Refuse(Why::NoVersion));
     }
     let reply = got_secret(alloc, row, version)?;
-    Ok(Judged::Accept(Reply::GetSecretValue(reply), None))
+    Judged::reads(alloc, Reply::GetSecretValue(reply))
 }
 
 /// The reply that shows a version.

@@ -1,22 +1,20 @@
 //! Judging CancelRotateSecret (AWS Secrets Manager API Reference, CancelRotateSecret).
 ghost use Rattle.std.specs.Prelude.{◌≡◌, IfOk, None};
 ghost use Rattle.sm_forms.specs.OfSecret.{of_secret_forms};
-ghost use Rattle.sm_judging.specs.Secrets.{unless_scheduled};
 ghost use Rattle.sm_judge_rotations.specs.CancelRotateSecret.{cancelled, job_token, cancel_reply, cancel_on, cancel_judgement};
 
 use sm_base::copy_two;
 use sm_judging::Judged;
 use sm_judging::members::secret_id;
 use sm_judging::row_change::finish;
-use sm_model::{
-    Change, Copied, Job, NoMemory, OfSecret, Reply, SecretRow, Token, VersionedSecret, Why,
-};
+use sm_judging::standing::standing;
+use sm_model::{Change, Copied, Job, NoMemory, OfSecret, Reply, SecretRow, Token, VersionedSecret};
 use sm_table::Table;
 use sm_versions::When;
 use std::alloc::Global;
 
 /// Judges a CancelRotateSecret.
-#[tactic(auto, using(sm_forms::proofs::OfSecretLemmas::named_id))]
+#[tactic(auto, using(sm_forms::proofs::OfSecretLemmas::named_id, sm_judging::proofs::JudgedLemmas::judged_of_standing, sm_judging::proofs::JudgedLemmas::refused_unless_standing))]
 pub fn judge_cancel(
     alloc: Global,
     table: &Table,
@@ -27,19 +25,9 @@ pub fn judge_cancel(
     ensures { IfOk result (λ judged. judged ≡ cancel_judgement table.now when cancel.now) }
 {
     let id = secret_id(alloc, &cancel.secret_id)?;
-    match table.find(&id, when.moment) {
-        Some(row) => cancel_unless_scheduled(alloc, row, when),
-        None => Ok(Judged::Refuse(Why::NoSecret)),
-    }
-}
-
-/// Cancels the rotation of this row, unless its secret is scheduled for deletion.
-fn cancel_unless_scheduled(alloc: Global, row: &SecretRow, when: When) -> Result<Judged, NoMemory>
-    ensures { IfOk result (λ judged. judged ≡ unless_scheduled row.now.deletion (cancel_on row.now when)) }
-{
-    match row.deletion {
-        Some(date) => Ok(Judged::Refuse(Why::Scheduled(date))),
-        None => cancel_on(alloc, row, when),
+    match standing(table, &id, when.moment) {
+        Ok(row) => cancel_on(alloc, row, when),
+        Err(why) => Ok(Judged::Refuse(why)),
     }
 }
 
@@ -51,10 +39,11 @@ fn cancel_on(alloc: Global, row: &SecretRow, when: When) -> Result<Judged, NoMem
     let mut after = row.copy(alloc)?;
     cancel(&mut after);
     finish(&mut after, when);
-    Ok(Judged::Accept(
+    Judged::changes(
+        alloc,
         Reply::CancelRotateSecret(reply),
-        Some(Change::Replace(after)),
-    ))
+        Change::Replace(after),
+    )
 }
 
 /// Turns rotation off, and drops the job. The labels stay.

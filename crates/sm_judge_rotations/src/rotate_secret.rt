@@ -3,7 +3,7 @@ ghost use Rattle.std.specs.Prelude.{◌≡◌, ◌≤◌, IfOk, IfSome, IsTrue, 
 ghost use Rattle.std.specs.Option.{option_or};
 ghost use Rattle.sm_base.specs.declared.moment.TheConstants.{LAST_READING};
 ghost use Rattle.sm_forms.specs.RotateSecret.{is_period, rotate_forms};
-ghost use Rattle.sm_judging.specs.Secrets.{finished_row, unless_scheduled};
+ghost use Rattle.sm_judging.specs.Secrets.{finished_row};
 ghost use Rattle.sm_model.specs.Bounds.{fits};
 ghost use Rattle.sm_model.specs.Needed.{token_bytes_if};
 ghost use Rattle.sm_judge_rotations.specs.RotateSecret.{days_of, rules_given, plan_of, token_to_start, rotate_call, days_or, schedule_or, turned_on, dated, with_rotation, turned_on_in, rotated, rotate_accepted, rotate_repeated, started, start_on, wait_on, rotate_on, rotate_judged, rotate_judgement};
@@ -13,6 +13,7 @@ use sm_dates::next_rotation;
 use sm_judging::Judged;
 use sm_judging::members::{secret_id, token_or_drawn};
 use sm_judging::row_change::finish;
+use sm_judging::standing::standing;
 use sm_model::{
     Change, Copied, Moment, NoMemory, Reply, RotateSecret, Rotation, Rules, SecretId, SecretRow,
     Text, Token, VersionedSecret, What, Why,
@@ -152,6 +153,7 @@ fn rotate_call(alloc: Global, drawn: &[u8], rotate: &RotateSecret) -> Result<Rot
 // ---- the tests
 
 /// Judges a RotateSecret by the secret that it names.
+#[tactic(auto, using(sm_judging::proofs::JudgedLemmas::judged_of_standing, sm_judging::proofs::JudgedLemmas::refused_unless_standing))]
 fn judge_call(
     alloc: Global,
     table: &Table,
@@ -161,26 +163,9 @@ fn judge_call(
     requires { when.moment.0 ≤ LAST_READING }
     ensures { IfOk result (λ judged. judged ≡ rotate_judged table.now when call.now) }
 {
-    match table.find(&call.id, when.moment) {
-        Some(row) => rotate_unless_scheduled(alloc, row, when, call),
-        None => Ok(Judged::Refuse(Why::NoSecret)),
-    }
-}
-
-/// Judges a RotateSecret of this row.
-fn rotate_unless_scheduled(
-    alloc: Global,
-    row: &SecretRow,
-    when: When,
-    call: &RotateCall,
-) -> Result<Judged, NoMemory>
-    requires { when.moment.0 ≤ LAST_READING }
-    ensures { IfOk result
-        (λ judged. judged ≡ unless_scheduled row.now.deletion (rotate_on row.now when call.now.plan call.now.token)) }
-{
-    match row.deletion {
-        Some(date) => Ok(Judged::Refuse(Why::Scheduled(date))),
-        None => rotate_on(alloc, row, when, call),
+    match standing(table, &call.id, when.moment) {
+        Ok(row) => rotate_on(alloc, row, when, call),
+        Err(why) => Ok(Judged::Refuse(why)),
     }
 }
 
@@ -366,7 +351,7 @@ fn accept(
     replace(&mut after.rotation, rotation);
     finish(&mut after, when);
     let reply = rotated(alloc, &after, version_id)?;
-    Ok(Judged::Accept(Reply::RotateSecret(reply), Some(Change::Replace(after))))
+    Judged::changes(alloc, Reply::RotateSecret(reply), Change::Replace(after))
 }
 
 /// The answer to a repeat.
@@ -375,5 +360,5 @@ fn repeat(alloc: Global, row: &SecretRow, token: &Token) -> Result<Judged, NoMem
 {
     let version_id = token.copy(alloc)?;
     let reply = rotated(alloc, row, Some(version_id))?;
-    Ok(Judged::Accept(Reply::RotateSecret(reply), None))
+    Judged::reads(alloc, Reply::RotateSecret(reply))
 }

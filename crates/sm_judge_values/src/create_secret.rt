@@ -190,7 +190,7 @@ fn create_held(alloc: Global, row: &SecretRow, call: &CreateCall) -> Result<Judg
     }
     let version_id = token_of(alloc, &call.first)?;
     let reply = created_secret(alloc, row, version_id)?;
-    Ok(Judged::Accept(Reply::CreateSecret(reply), None))
+    Judged::reads(alloc, Reply::CreateSecret(reply))
 }
 
 /// Whether there are more tags than a secret may have.
@@ -237,7 +237,7 @@ fn create_with_room(
     let version_id = token_of(alloc, &call.first)?;
     let row = created_row(alloc, table.next(), moment, call)?;
     let reply = created_secret(alloc, &row, version_id)?;
-    Ok(Judged::Accept(Reply::CreateSecret(reply), Some(Change::Add(row))))
+    Judged::changes(alloc, Reply::CreateSecret(reply), Change::Add(row))
 }
 
 /// The reply that names the secret, its replica regions where it has some, and the version where a value was given.
@@ -345,9 +345,10 @@ fn with_first(
         label: current(),
         id: first.token.copy(alloc)?,
     };
+    let mut labels = Vec::with_capacity(alloc, 1)?;
+    labels.push(pair)?;
     let mut row = row;
-    row.labels = List::empty(alloc);
-    row.labels.push(pair)?;
+    row.labels = List::new(labels);
     row.versions = SharedList::empty(alloc);
     row.versions.push(alloc, first_version(moment, first))?;
     row.next_version = 1;

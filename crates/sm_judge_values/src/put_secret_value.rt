@@ -3,7 +3,7 @@ ghost use Rattle.std.specs.Prelude.{◌≡◌, IfOk, IfSome, IsTrue, None, Some,
 ghost use Rattle.std.specs.List.{list_all};
 ghost use Rattle.sm_base.specs.Spelling.{is_label};
 ghost use Rattle.sm_forms.specs.PutSecretValue.{put_forms};
-ghost use Rattle.sm_judging.specs.Secrets.{finished_row, unless_scheduled};
+ghost use Rattle.sm_judging.specs.Secrets.{finished_row};
 ghost use Rattle.sm_model.specs.Needed.{token_bytes};
 ghost use Rattle.sm_judge_values.specs.PutSecretValue.{labels_asked, labels_placed, put_value, put_call, put_reply, put_accepted, put_repeated, put_on, put_judged, put_judgement};
 ghost use Rattle.sm_model.specs.Labels.{holder, aws_current};
@@ -13,9 +13,10 @@ use sm_judging::Judged;
 use sm_judging::labels_shown::labels_shown;
 use sm_judging::members::{labels_of, secret_id};
 use sm_judging::row_change::finish;
+use sm_judging::standing::standing;
 use sm_model::{
     Change, Copied, Label, List, NoMemory, PutSecretValue, PutValue, Reply, SecretId, SecretRow,
-    Text, Token, Why,
+    Text, Token,
 };
 use sm_table::Table;
 use sm_versions::When;
@@ -104,27 +105,13 @@ fn only_current(alloc: Global) -> Result<List<Label>, NoMemory>
 // ---- the tests
 
 /// Judges a PutSecretValue by the secret that it names.
+#[tactic(auto, using(sm_judging::proofs::JudgedLemmas::judged_of_standing, sm_judging::proofs::JudgedLemmas::refused_unless_standing))]
 fn judge_call(alloc: Global, table: &Table, when: When, call: &PutCall) -> Result<Judged, NoMemory>
     ensures { IfOk result (λ judged. judged ≡ put_judged table.now when call.now) }
 {
-    match table.find(&call.id, when.moment) {
-        Some(row) => put_unless_scheduled(alloc, row, when, call),
-        None => Ok(Judged::Refuse(Why::NoSecret)),
-    }
-}
-
-/// Judges a PutSecretValue of this row.
-fn put_unless_scheduled(
-    alloc: Global,
-    row: &SecretRow,
-    when: When,
-    call: &PutCall,
-) -> Result<Judged, NoMemory>
-    ensures { IfOk result (λ judged. judged ≡ unless_scheduled row.now.deletion (put_on row.now when call.now)) }
-{
-    match row.deletion {
-        Some(date) => Ok(Judged::Refuse(Why::Scheduled(date))),
-        None => put_on(alloc, row, when, call),
+    match standing(table, &call.id, when.moment) {
+        Ok(row) => put_on(alloc, row, when, call),
+        Err(why) => Ok(Judged::Refuse(why)),
     }
 }
 
@@ -181,7 +168,7 @@ fn accept(alloc: Global, after: SecretRow, when: When, token: &Token) -> Result<
     let mut after = after;
     finish(&mut after, when);
     let reply = put_reply(alloc, &after, token)?;
-    Ok(Judged::Accept(Reply::PutSecretValue(reply), Some(Change::Replace(after))))
+    Judged::changes(alloc, Reply::PutSecretValue(reply), Change::Replace(after))
 }
 
 /// The answer to a repeat.
@@ -189,5 +176,5 @@ fn repeat(alloc: Global, row: &SecretRow, token: &Token) -> Result<Judged, NoMem
     ensures { IfOk result (λ judged. judged ≡ put_repeated row.now token.now) }
 {
     let reply = put_reply(alloc, row, token)?;
-    Ok(Judged::Accept(Reply::PutSecretValue(reply), None))
+    Judged::reads(alloc, Reply::PutSecretValue(reply))
 }

@@ -1,7 +1,7 @@
 //! Judging UpdateSecret (AWS Secrets Manager API Reference, UpdateSecret).
 ghost use Rattle.std.specs.Prelude.{◌≡◌, ◌||◌, ◌≤◌, ◌∷◌, [], IfOk, None, is_some, length};
 ghost use Rattle.sm_forms.specs.UpdateSecret.{update_forms};
-ghost use Rattle.sm_judging.specs.Secrets.{finished_row, unless_scheduled};
+ghost use Rattle.sm_judging.specs.Secrets.{finished_row};
 ghost use Rattle.sm_model.specs.Needed.{token_bytes_if};
 ghost use Rattle.sm_judge_values.specs.NewValue.{new_value, token_of};
 ghost use Rattle.sm_judge_values.specs.UpdateSecret.{update_call, given_or, redescribed, update_placed, update_accepted, update_repeated, update_on, update_judged, update_judgement};
@@ -10,7 +10,8 @@ use crate::new_value::{NewValue, Placed, new_value, place, token_of, versioned_s
 use sm_judging::Judged;
 use sm_judging::members::secret_id;
 use sm_judging::row_change::finish;
-use sm_model::{Change, Copied, NoMemory, Reply, SecretId, SecretRow, Text, UpdateSecret, Why};
+use sm_judging::standing::standing;
+use sm_model::{Change, Copied, NoMemory, Reply, SecretId, SecretRow, Text, UpdateSecret};
 use sm_table::Table;
 use sm_versions::When;
 use sm_versions::labels::current;
@@ -69,6 +70,7 @@ fn update_call(alloc: Global, drawn: &[u8], update: &UpdateSecret) -> Result<Upd
 // ---- the tests
 
 /// Judges an UpdateSecret by the secret that it names.
+#[tactic(auto, using(sm_judging::proofs::JudgedLemmas::judged_of_standing, sm_judging::proofs::JudgedLemmas::refused_unless_standing))]
 fn judge_call(
     alloc: Global,
     table: &Table,
@@ -77,24 +79,9 @@ fn judge_call(
 ) -> Result<Judged, NoMemory>
     ensures { IfOk result (λ judged. judged ≡ update_judged table.now when call) }
 {
-    match table.find(&call.id, when.moment) {
-        Some(row) => update_unless_scheduled(alloc, row, when, call),
-        None => Ok(Judged::Refuse(Why::NoSecret)),
-    }
-}
-
-/// Judges an UpdateSecret of this row.
-fn update_unless_scheduled(
-    alloc: Global,
-    row: &SecretRow,
-    when: When,
-    call: UpdateCall,
-) -> Result<Judged, NoMemory>
-    ensures { IfOk result (λ judged. judged ≡ unless_scheduled row.now.deletion (update_on row.now when call)) }
-{
-    match row.deletion {
-        Some(date) => Ok(Judged::Refuse(Why::Scheduled(date))),
-        None => update_on(alloc, row, when, call),
+    match standing(table, &call.id, when.moment) {
+        Ok(row) => update_on(alloc, row, when, call),
+        Err(why) => Ok(Judged::Refuse(why)),
     }
 }
 
@@ -150,7 +137,7 @@ fn accept(alloc: Global, after: SecretRow, when: When, call: UpdateCall) -> Resu
     replace(&mut after.kms, call.kms);
     finish(&mut after, when);
     let reply = versioned_secret(alloc, &after, version_id)?;
-    Ok(Judged::Accept(Reply::UpdateSecret(reply), Some(Change::Replace(after))))
+    Judged::changes(alloc, Reply::UpdateSecret(reply), Change::Replace(after))
 }
 
 /// The answer to a repeat.
@@ -159,5 +146,5 @@ fn repeat(alloc: Global, row: &SecretRow, value: &Option<NewValue>) -> Result<Ju
 {
     let version_id = token_of(alloc, value)?;
     let reply = versioned_secret(alloc, row, version_id)?;
-    Ok(Judged::Accept(Reply::UpdateSecret(reply), None))
+    Judged::reads(alloc, Reply::UpdateSecret(reply))
 }

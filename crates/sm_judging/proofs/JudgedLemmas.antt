@@ -9,7 +9,7 @@ use Rattle.sm_judging.specs.declared.judged.Judged.{Judged}
 use Rattle.sm_judging.specs.declared.judged.Judged.TheVariants.{Accept, Refuse, Memory}
 use Rattle.sm_judging.specs.Judged.{judged_told, refusal_told, IfAccepted, IfChange}
 use Rattle.sm_judging.specs.Refusals.{first_refusal, unless_there, scheduled_refusal, refusal_at, repeat_at}
-use Rattle.sm_judging.specs.Secrets.{unless_scheduled, on_secret, if_there}
+use Rattle.sm_judging.specs.Secrets.{IsStanding, standing_refusal, unless_scheduled, on_secret, if_there}
 
 -- ---- what a call answers: the judgement, or want of memory
 
@@ -35,6 +35,20 @@ if_change_then Memory P Q f h = tt
 first_alone : (test : Option Why) → test ≡ first_refusal (test ∷ [])
 first_alone None = refl
 first_alone (Some why) = refl
+
+pub judged_of_standing : (found : Option SecretRow) (row : SecretRow) (judge : SecretRow → Judged)
+    → IsStanding found row → judge row ≡ on_secret found judge
+judged_of_standing found row judge (there, unscheduled) = rw (there, unscheduled) refl
+
+scheduled_refuses : (deletion : Option Moment) (judged : Judged) (why : Why) → scheduled_refusal deletion ≡ Some why
+    → Refuse why ≡ unless_scheduled deletion judged
+scheduled_refuses None judged why e = absurd (cc)
+scheduled_refuses (Some date) judged why e = cc
+
+pub refused_unless_standing : (found : Option SecretRow) (judge : SecretRow → Judged) (why : Why)
+    → standing_refusal found ≡ Some why → Refuse why ≡ on_secret found judge
+refused_unless_standing None judge why e = cc
+refused_unless_standing (Some row) judge why e = scheduled_refuses row.deletion (judge row) why e
 
 unless_scheduled_refusal : (deletion : Option Moment) (judged : Judged) (test : Option Why) → refusal_told judged
     ≡ Some test

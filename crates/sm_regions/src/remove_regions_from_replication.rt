@@ -1,7 +1,6 @@
 //! Judging RemoveRegionsFromReplication (AWS Secrets Manager API Reference, RemoveRegionsFromReplication).
 ghost use Rattle.std.specs.Prelude.{◌≡◌, IfOk, None};
 ghost use Rattle.sm_forms.specs.RegionsOfSecret.{remove_regions_forms};
-ghost use Rattle.sm_judging.specs.Secrets.{unless_scheduled};
 ghost use Rattle.sm_regions.specs.RemoveRegionsFromReplication.{without_regions, remove_on, remove_judgement};
 
 use crate::regional::{in_regions, replicated_secret};
@@ -9,13 +8,14 @@ use sm_base::list::copies;
 use sm_judging::Judged;
 use sm_judging::members::secret_id;
 use sm_judging::regions::is_among;
-use sm_model::{Change, List, NoMemory, RegionsOfSecret, Reply, SecretRow, Text, Why};
+use sm_judging::standing::standing;
+use sm_model::{Change, List, NoMemory, RegionsOfSecret, Reply, SecretRow, Text};
 use sm_table::Table;
 use sm_versions::When;
 use std::alloc::Global;
 
 /// Judges a RemoveRegionsFromReplication.
-#[tactic(auto, using(sm_forms::proofs::RegionsOfSecretLemmas::remove_id))]
+#[tactic(auto, using(sm_forms::proofs::RegionsOfSecretLemmas::remove_id, sm_judging::proofs::JudgedLemmas::judged_of_standing, sm_judging::proofs::JudgedLemmas::refused_unless_standing))]
 pub fn judge_remove(
     alloc: Global,
     table: &Table,
@@ -26,24 +26,9 @@ pub fn judge_remove(
     ensures { IfOk result (λ judged. judged ≡ remove_judgement table.now when remove.now) }
 {
     let id = secret_id(alloc, &remove.secret_id)?;
-    match table.find(&id, when.moment) {
-        Some(row) => remove_unless_scheduled(alloc, row, when, remove.regions.as_slice()),
-        None => Ok(Judged::Refuse(Why::NoSecret)),
-    }
-}
-
-/// Takes regions off the secret of this row, unless it is scheduled for deletion.
-fn remove_unless_scheduled(
-    alloc: Global,
-    row: &SecretRow,
-    when: When,
-    gone: &[Text],
-) -> Result<Judged, NoMemory>
-    ensures { IfOk result (λ judged. judged ≡ unless_scheduled row.now.deletion (remove_on row.now when gone.now)) }
-{
-    match row.deletion {
-        Some(date) => Ok(Judged::Refuse(Why::Scheduled(date))),
-        None => remove_on(alloc, row, when, gone),
+    match standing(table, &id, when.moment) {
+        Ok(row) => remove_on(alloc, row, when, remove.regions.as_slice()),
+        Err(why) => Ok(Judged::Refuse(why)),
     }
 }
 
@@ -54,10 +39,11 @@ fn remove_on(alloc: Global, row: &SecretRow, when: When, gone: &[Text]) -> Resul
     let regions = without_regions(alloc, row.regions.as_slice(), gone)?;
     let after = in_regions(alloc, row, when, regions)?;
     let reply = replicated_secret(alloc, &after)?;
-    Ok(Judged::Accept(
+    Judged::changes(
+        alloc,
         Reply::RemoveRegionsFromReplication(reply),
-        Some(Change::Replace(after)),
-    ))
+        Change::Replace(after),
+    )
 }
 
 /// Drops the regions that are among these.

@@ -1,7 +1,6 @@
 //! Judging ReplicateSecretToRegions (AWS Secrets Manager API Reference, ReplicateSecretToRegions).
 ghost use Rattle.std.specs.Prelude.{◌≡◌, IfOk, None};
 ghost use Rattle.sm_forms.specs.RegionsOfSecret.{replicate_forms};
-ghost use Rattle.sm_judging.specs.Secrets.{unless_scheduled};
 ghost use Rattle.sm_regions.specs.ReplicateSecretToRegions.{has_too_many_regions, replicate_on, replicate_within_limit, replicate_judgement};
 
 use crate::regional::{in_regions, replicated_secret};
@@ -9,13 +8,14 @@ use sm_base::limits::REGIONS_LIMIT;
 use sm_judging::Judged;
 use sm_judging::members::secret_id;
 use sm_judging::regions::with_regions;
+use sm_judging::standing::standing;
 use sm_model::{Change, List, NoMemory, RegionsOfSecret, Reply, SecretRow, Text, What, Why};
 use sm_table::Table;
 use sm_versions::When;
 use std::alloc::Global;
 
 /// Judges a ReplicateSecretToRegions.
-#[tactic(auto, using(sm_forms::proofs::RegionsOfSecretLemmas::replicate_id))]
+#[tactic(auto, using(sm_forms::proofs::RegionsOfSecretLemmas::replicate_id, sm_judging::proofs::JudgedLemmas::judged_of_standing, sm_judging::proofs::JudgedLemmas::refused_unless_standing))]
 pub fn judge_replicate(
     alloc: Global,
     table: &Table,
@@ -26,24 +26,9 @@ pub fn judge_replicate(
     ensures { IfOk result (λ judged. judged ≡ replicate_judgement table.now when replicate.now) }
 {
     let id = secret_id(alloc, &replicate.secret_id)?;
-    match table.find(&id, when.moment) {
-        Some(row) => replicate_unless_scheduled(alloc, row, when, replicate.regions.as_slice()),
-        None => Ok(Judged::Refuse(Why::NoSecret)),
-    }
-}
-
-/// Adds regions to the secret of this row, unless it is scheduled for deletion.
-fn replicate_unless_scheduled(
-    alloc: Global,
-    row: &SecretRow,
-    when: When,
-    given: &[Text],
-) -> Result<Judged, NoMemory>
-    ensures { IfOk result (λ judged. judged ≡ unless_scheduled row.now.deletion (replicate_on row.now when given.now)) }
-{
-    match row.deletion {
-        Some(date) => Ok(Judged::Refuse(Why::Scheduled(date))),
-        None => replicate_on(alloc, row, when, given),
+    match standing(table, &id, when.moment) {
+        Ok(row) => replicate_on(alloc, row, when, replicate.regions.as_slice()),
+        Err(why) => Ok(Judged::Refuse(why)),
     }
 }
 
@@ -81,8 +66,9 @@ fn replicate_within_limit(
 {
     let after = in_regions(alloc, row, when, regions)?;
     let reply = replicated_secret(alloc, &after)?;
-    Ok(Judged::Accept(
+    Judged::changes(
+        alloc,
         Reply::ReplicateSecretToRegions(reply),
-        Some(Change::Replace(after)),
-    ))
+        Change::Replace(after),
+    )
 }

@@ -23,7 +23,7 @@ pub use ended::Ended;
 pub use heard::Heard;
 pub use hearing::read;
 pub use said::Said;
-pub use saying::{say_handled, say_refusal};
+pub use saying::{say_handled, say_refusal, say_reply};
 pub use sending::send;
 pub use serving::serve;
 pub use streams::{MESSAGE_LIMIT, finish, next_message};

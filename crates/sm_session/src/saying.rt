@@ -19,7 +19,7 @@ pub fn say_refusal(alloc: Global, why: &Why) -> Said
 }
 
 /// The reply to an accepted request.
-fn say_reply(alloc: Global, reply: &Reply) -> Said
+pub fn say_reply(alloc: Global, reply: &Reply) -> Said
     ensures { Says result (shown reply.now) }
 {
     match body(alloc, reply) {
@@ -33,7 +33,7 @@ pub fn say_handled(alloc: Global, handled: Handled) -> Said
     ensures { SaysHandled handled result }
 {
     match handled {
-        Handled::Answered(reply) => say_reply(alloc, &reply),
+        Handled::Answered(reply) => say_reply(alloc, reply.value()),
         Handled::Refused(why) => say_refusal(alloc, &why),
         Handled::DiskFault => say_refusal(alloc, &Why::DiskFault),
         Handled::Memory => Said::Memory,

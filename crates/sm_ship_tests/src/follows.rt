@@ -91,7 +91,7 @@ fn of_replica(alloc: Global, replica: &Replica) -> Result<String, Fail> {
         version_stage: None,
     });
     match replica.answer(&root(), NOW, &request) {
-        Judged::Accept(reply, _) => text_of(alloc, reply),
+        Judged::Accept(reply, _) => text_of(alloc, reply.into_value()),
         Judged::Refuse(_) => Ok(String::from_str(alloc, "-")?),
         Judged::Memory => Err("memory".into()),
     }

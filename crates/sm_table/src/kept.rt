@@ -2,15 +2,16 @@
 ghost use Rattle.std.specs.Prelude.{◌≡◌, IfOk, option_copied};
 ghost use Rattle.sm_versions.specs.Find.{looked_up, lookup};
 
+use crate::block::Block;
 use sm_model::{Label, NoMemory, SecretRow, Token};
 use sm_versions::{Found, LabelIndex};
 use std::alloc::Global;
 use std::marker::Model;
 
-/// A row with an index of its labels, which contracts see as the row.
+/// A row in a block of its own with an index of its labels, which contracts see as the row.
 #[derive(Drop)]
 pub struct Kept {
-    row: SecretRow,
+    row: Block<SecretRow>,
     labels: LabelIndex,
 }
 
@@ -32,19 +33,20 @@ impl Kept {
         ensures { IfOk result (λ kept. kept ≡ row) }
     {
         let labels = LabelIndex::of(alloc, &row)?;
+        let row = Block::new(alloc, row)?;
         Ok(Kept { row, labels })
     }
 
     pub fn row(&self) -> &SecretRow
         ensures { result.now ≡ self.now }
     {
-        &self.row
+        self.row.value()
     }
 
     /// The version that the id, the label or both name, or without them the one with AWSCURRENT. It takes no memory.
     pub fn find_version(&self, id: Option<&Token>, label: Option<&Label>) -> Found<'_>
         ensures { looked_up result ≡ lookup self.now (option_copied id.entry) (option_copied label.entry) }
     {
-        self.labels.find(&self.row, id, label)
+        self.labels.find(self.row.value(), id, label)
     }
 }

@@ -2,6 +2,7 @@
 //! memory that the change needs.
 #![tactic(auto)]
 
+pub mod block;
 pub mod dates;
 pub mod deletion;
 pub mod gathered;
@@ -15,4 +16,5 @@ pub mod search;
 pub mod signs;
 pub mod table;
 
+pub use block::Block;
 pub use table::{Prepared, Table};
