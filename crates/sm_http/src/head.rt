@@ -8,6 +8,7 @@ ghost use Rattle.httparse.specs.Spans.{header_bytes, IsHeaderWithin};
 ghost use Rattle.sm_http.specs.Heads.{blank_line, Passed, line_ends, values_of, is_length};
 
 use httparse::spans::HeaderSpan;
+use memchr::memchr_iter;
 
 /// Whether the bytes begin with CR LF CR LF.
 fn is_blank_line(bytes: &[u8]) -> bool
@@ -16,19 +17,30 @@ fn is_blank_line(bytes: &[u8]) -> bool
     bytes.starts_with(b"\r\n\r\n")
 }
 
-/// How many bytes there are up to and including the first CR LF CR LF, which begins at none of so many places in front.
-#[tactic(auto, using(crate::proofs::HeadLemmas::blank_line_here, crate::proofs::HeadLemmas::blank_line_further))]
-pub fn blank_line(bytes: &[u8], passed: usize) -> Option<usize>
-    requires { Passed passed bytes.now }
+/// How many bytes there are up to and including the first CR LF CR LF. It is looked for only where a CR stands.
+#[tactic(auto, using(crate::proofs::HeadLemmas::line_here, crate::proofs::HeadLemmas::line_nowhere))]
+fn first_blank_line(bytes: &[u8]) -> Option<usize>
     ensures value { result ≡ blank_line bytes.now }
     ensures within { IfSome result (λ n. n ≤ length bytes.now) }
 {
-    for place in passed..bytes.len() {
+    for place in memchr_iter(b'\r', bytes) {
         if is_blank_line(&bytes[place..]) {
             return Some(place + 4);
         }
     }
     None
+}
+
+/// How many bytes there are up to and including the first CR LF CR LF, which begins at none of so many places in front.
+pub fn blank_line(bytes: &[u8], passed: usize) -> Option<usize>
+    requires { Passed passed bytes.now }
+    ensures value { result ≡ blank_line bytes.now }
+    ensures within { IfSome result (λ n. n ≤ length bytes.now) }
+{
+    match first_blank_line(bytes.get(passed..)?) {
+        Some(count) => Some(passed + count),
+        None => None,
+    }
 }
 
 /// Whether two names are the same, whose case does not count.
