@@ -1,6 +1,7 @@
 -- Each call of a run, from what the account says of its own call.
-use Rattle.std.proofs.Common.{◌≡◌, ◌⊎◌, ℕ, ◌+◌, ◌-◌, ◌≤◌, Bool, false, nat_lt, List, [], ◌∷◌, ◌++◌, length, map, slice_get, Option, Some, None, option_map, refl, sym, ap, subst, ◌∙◌, inl, inr, arith}
+use Rattle.std.proofs.Common.{◌≡◌, ℕ, ◌-◌, false, nat_lt, List, [], map, slice_get, Option, Some, None, option_map, refl, sym, ap, subst, ◌∙◌, inl, arith}
 use Rattle.std.proofs.lemmas.Option.{slice_get-map}
+use Rattle.sm_base.specs.Faults.{Rose}
 use Rattle.sm_base.specs.declared.limits.TheConstants.{JOURNAL_LIMIT}
 use Rattle.sm_base.specs.declared.moment.Moment.{Moment}
 use Rattle.sm_claims.specs.Works.{IsWorkOf}
@@ -33,17 +34,17 @@ use Rattle.sm_account.specs.StartDue.{StartsAs, start_at, started_by}
 use Rattle.sm_account.specs.States.{Base, state_at}
 use Rattle.sm_account.specs.declared.account.Account.{Account}
 use Rattle.sm_account.specs.declared.handled.Handled.{Handled}
-use Rattle.sm_account.specs.declared.next_work.NextWork.{NextWork}
 use Rattle.sm_account.specs.declared.next_work.NextWork.TheVariants as works
 use Rattle.sm_account.specs.declared.report.Reported.{Reported as reports}
 use Rattle.sm_account.specs.declared.start_due.StartedDue.{StartedDue}
 use Rattle.sm_drive.specs.Aims.{Aim, Claims, aim_asked, aim_ready, aim_told, aim_within}
 use Rattle.sm_opening.specs.Openings.{IsRefused}
+use Rattle.sm_drive.specs.Disks.{OnDiskFault, found_by}
 use Rattle.sm_drive.specs.Openings.{Tells}
 use Rattle.sm_drive.specs.Outcomes.{handled_as, reported_as, started_as}
 use Rattle.sm_drive.specs.Refused.{is_damaged}
-use Rattle.sm_drive.specs.Stands.{Stand, all_at, base_at, seat, opened, stand_of, told_of}
-use Rattle.sm_drive.specs.Stepping.{Calls, Counts, IsUnder, stand_in}
+use Rattle.sm_drive.specs.Stands.{Stand, base_at, seat, opened, stand_of, told_of}
+use Rattle.sm_drive.specs.Stepping.{Calls, Counts, IsUnder, disks_in, stand_in}
 use Rattle.sm_drive.specs.Steps.{Goes, GoesTo, Reopening, entries_with}
 use Rattle.sm_drive.specs.Working.{Asks, Keeps}
 use Rattle.sm_drive.specs.declared.call.Call.{Call}
@@ -52,7 +53,7 @@ use Rattle.sm_drive.specs.declared.outcome.Outcome.{Outcome}
 use Rattle.sm_drive.specs.declared.outcome.Outcome.TheVariants.{Entered, Quiet, Refused, Stale, Limit, DiskFault, Asked, Nothing, Memory, Reopened}
 use Rattle.sm_drive.specs.declared.run.Run.{Run}
 use Rattle.sm_drive.proofs.RestartLemmas.{found_state, not_damaged}
-use Rattle.sm_drive.proofs.StepLemmas.{asked_goes, base_here, claim_goes, handled_goes, leaves_tells, reported_goes, same_stand, started_goes, total}
+use Rattle.sm_drive.proofs.StepLemmas.{asked_goes, base_here, claim_goes, handled_fault, handled_goes, leaves_tells, reported_fault, reported_goes, same_stand, started_fault, started_goes, total}
 
 -- the same run with another account and other verdicts
 abbrev pub run_with : {D R : Type 0} {G : DiskGhosts D} {V : RotatorGhosts R} → Run D R G V → Account D R G V
@@ -62,19 +63,38 @@ run_with run account verdicts = record run { account = account; verdicts = verdi
 abbrev pub asked : Person → Moment → List ℕ → Request → Question
 asked person now drawn request = record { person = person; now = now; drawn = drawn; request = request }
 
+-- no disk fails where a rotator is asked
+asks_fault : (P : Type 0) {R : Type 0} {V : RotatorGhosts R} (work : Work) (old new : List (Verdict R V))
+    (out : Outcome) → Asks V work old out new → OnDiskFault out P
+asks_fault P work old new Asked asks = tt
+asks_fault P work old new Memory asks = tt
+asks_fault P work old new (Entered place) asks = tt
+asks_fault P work old new Quiet asks = tt
+asks_fault P work old new Refused asks = tt
+asks_fault P work old new Stale asks = tt
+asks_fault P work old new Limit asks = tt
+asks_fault P work old new DiskFault asks = absurd asks
+asks_fault P work old new Nothing asks = tt
+asks_fault P work old new Reopened asks = tt
+
 module _ {D R : Type 0} (G : DiskGhosts D) (V : RotatorGhosts R) (old : Run D R G V) (account : Account D R G V)
     (origin : accounts.SameOrigin old.account account) where
+  -- the disk's count of faults rose
+  abbrev HasRisen : Type 0
+  HasRisen = Rose (G.faults (accounts.disk old.account)) (G.faults (accounts.disk account))
+
   -- what holds of every call of the account, where the step is right
   calls_by : (verdicts : List (Verdict R V)) (call : Call) (out : Outcome) (call_outcome : CallOutcome)
       → Leaves G old.account.inner account.inner seat call_outcome
+      → found_by call (disks_in old) ≡ accounts.began old.account → OnDiskFault out HasRisen
       → (IsUnder old → (entries : List Entry) → Counts old.first (stand_in old entries)
       → (more : List Entry) × Goes V.replies call out (stand_in old entries) (stand_of account verdicts more))
       → Calls G V old call out (run_with old account verdicts)
-  calls_by verdicts call out call_outcome leaves goes = record {
+  calls_by verdicts call out call_outcome leaves found fault goes = record {
     first = refl;
     under = λ under. ap (λ (b : Base). b.limit) origin.base_stays ∙ under;
     tells = leaves_tells old.account account call_outcome leaves;
-    later = leaves.later;
+    touches = record { began = origin.began_stays ∙ sym found; later = leaves.later; fault = fault };
     goes = λ under tells entries counts. goes under entries counts;
   }
 
@@ -100,7 +120,8 @@ module _ {D R : Type 0} (G : DiskGhosts D) (V : RotatorGhosts R) (old : Run D R 
   handle_by person now drawn request result place is_place answers leaves =
       let wanted : ends = outcome (accounts.state old.account) (asked person now drawn request) in
       let out : Outcome = handled_as (nat_lt (total old.account) (total account)) place result in
-      calls_by old.verdicts (calls.Handle person now drawn request) out (handled_by result wanted) leaves
+      calls_by old.verdicts (calls.Handle person now drawn request) out (handled_by result wanted) leaves refl
+      (handled_fault HasRisen wanted result (nat_lt (total old.account) (total account)) place answers leaves.fault)
       (λ under entries counts.
       let goes = handled_goes old.account account old.verdicts entries old.first place counts is_place wanted result
       answers leaves in (
@@ -133,7 +154,8 @@ module _ {D R : Type 0} (G : DiskGhosts D) (V : RotatorGhosts R) (old : Run D R 
       → Calls G V old (calls.Due now drawn) (started_as place result) (run_with old account old.verdicts)
   due_by now drawn result place is_place answers leaves =
       let wanted : Effort (Unit {0}) = start_at (accounts.state old.account) now drawn in
-      calls_by old.verdicts (calls.Due now drawn) (started_as place result) (started_by result wanted) leaves
+      calls_by old.verdicts (calls.Due now drawn) (started_as place result) (started_by result wanted) leaves refl
+      (started_fault HasRisen wanted result place answers leaves.fault)
       (λ under entries counts.
       let goes = started_goes old.account account old.verdicts entries old.first place counts is_place wanted result
       answers leaves in (
@@ -162,7 +184,8 @@ module _ {D R : Type 0} (G : DiskGhosts D) (V : RotatorGhosts R) (old : Run D R 
       → Calls G V old (calls.Report number now) (reported_as place result) (run_with old account old.verdicts)
   report_by number now verdict result place named is_place answers leaves =
       let wanted : Effort (Option At) = report_at (accounts.state old.account) now verdict.work verdict.answer in
-      calls_by old.verdicts (calls.Report number now) (reported_as place result) (reported_by result wanted) leaves
+      calls_by old.verdicts (calls.Report number now) (reported_as place result) (reported_by result wanted) leaves refl
+      (reported_fault HasRisen wanted result place answers leaves.fault)
       (λ under entries counts.
       let goes = reported_goes old.account account old.verdicts entries old.first place counts is_place wanted result
       answers leaves in
@@ -195,13 +218,13 @@ module _ {D R : Type 0} (G : DiskGhosts D) (V : RotatorGhosts R) (old : Run D R 
 
   -- what becomes of the secret that is ready
   ready_goes : (now : Moment) (verdicts : List (Verdict R V)) (out : Outcome) (call_outcome : CallOutcome)
-      → Leaves G old.account.inner account.inner seat call_outcome
+      → Leaves G old.account.inner account.inner seat call_outcome → OnDiskFault out HasRisen
       → ((entries : List Entry) → GoesTo V.replies (aim_ready (ready_at (accounts.base old.account)
       (accounts.history old.account) (later (accounts.state old.account).last now))
       (later (accounts.state old.account).last now)) out (stand_in old entries) (stand_of account verdicts entries))
       → Calls G V old (calls.Work now) out (run_with old account verdicts)
-  ready_goes now verdicts out call_outcome leaves goes =
-      calls_by verdicts (calls.Work now) out call_outcome leaves (λ under entries counts. (
+  ready_goes now verdicts out call_outcome leaves fault goes =
+      calls_by verdicts (calls.Work now) out call_outcome leaves refl fault (λ under entries counts. (
         entries,
         at_base (λ (b : Base). aim_ready (ready_at b (accounts.history old.account)
             (later (state_at b (accounts.history old.account)).last now))
@@ -219,7 +242,7 @@ module _ {D R : Type 0} (G : DiskGhosts D) (V : RotatorGhosts R) (old : Run D R 
       → Calls G V old (calls.Work now) out (run_with old account verdicts)
   work_calls now work verdicts out next leaves asks =
       ready_goes now verdicts out (call_outcomes.Claimed work.arn work.at
-      (later (accounts.state old.account).last now)) leaves
+      (later (accounts.state old.account).last now)) leaves (asks_fault HasRisen work old.verdicts verdicts out asks)
       (λ entries. to (ready_at (accounts.base old.account) (accounts.history old.account)
       (later (accounts.state old.account).last now)) next entries)
     where
@@ -259,7 +282,7 @@ module _ {D R : Type 0} (G : DiskGhosts D) (V : RotatorGhosts R) (old : Run D R 
       → Leaves G old.account.inner account.inner seat call_outcomes.Nothing
       → Calls G V old (calls.Work now) Nothing (run_with old account old.verdicts)
   no_work_calls now next leaves =
-      ready_goes now old.verdicts Nothing call_outcomes.Nothing leaves
+      ready_goes now old.verdicts Nothing call_outcomes.Nothing leaves tt
       (λ entries. to (ready_at (accounts.base old.account) (accounts.history old.account)
       (later (accounts.state old.account).last now)) next entries)
     where
@@ -274,7 +297,7 @@ module _ {D R : Type 0} (G : DiskGhosts D) (V : RotatorGhosts R) (old : Run D R 
   pub wanting_calls : (now : Moment) → Leaves G old.account.inner account.inner seat call_outcomes.Nothing
       → Calls G V old (calls.Work now) Memory (run_with old account old.verdicts)
   wanting_calls now leaves =
-      ready_goes now old.verdicts Memory call_outcomes.Nothing leaves
+      ready_goes now old.verdicts Memory call_outcomes.Nothing leaves tt
       (λ entries. to (ready_at (accounts.base old.account) (accounts.history old.account)
       (later (accounts.state old.account).last now)) entries)
     where
@@ -316,7 +339,7 @@ module _ {D R : Type 0} (G : DiskGhosts D) (V : RotatorGhosts R) (old : Run D R 
     first = refl;
     under = λ under. under;
     tells = λ s reads. (s, reads);
-    later = omega arith;
+    touches = record { began = refl; later = omega arith; fault = tt };
     goes = λ under tells entries counts. (
       entries,
       subst (λ (told : Option Told). GoesTo V.replies
@@ -343,8 +366,8 @@ module _ {D R : Type 0} (G : DiskGhosts D) (V : RotatorGhosts R) (old : Run D R 
       first = refl;
       under = λ under. ap (λ (b : Base). b.limit) over.base_is;
       tells = from.stays.tells;
-      later = from.later;
-      goes = λ under tells entries counts. reopens tells entries;
+      touches = record { began = over.began_is ∙ closed_is; later = from.later; fault = tt };
+      goes = λ under tells entries counts. reopens (tells refl) entries;
     }
       where
         from : TakenFrom G (accounts.disk old.account) JOURNAL_LIMIT (accounts.taken account) (accounts.disk account)

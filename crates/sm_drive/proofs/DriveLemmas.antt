@@ -1,12 +1,11 @@
 -- How a run comes on call by call, and what it is at its end.
-use Rattle.std.proofs.Common.{◌≡◌, ◌⊎◌, ℕ, ◌+◌, ◌<◌, ◌≤◌, List, [], ◌∷◌, ◌++◌, take, drop, take-append-drop, length, length-append, get_or, slice_get, Option, Some, None, IfSome, refl, sym, ap, subst, ◌∙◌, inl, inr, arith}
+use Rattle.std.proofs.Common.{◌≡◌, ℕ, ◌+◌, ◌<◌, ◌≤◌, List, [], ◌∷◌, ◌++◌, take, drop, take-append-drop, length, length-append, get_or, slice_get, Some, None, IfSome, refl, sym, ap, subst, ◌∙◌, inl, inr, arith}
 use Rattle.std.proofs.Math.Logic.{∥∥₁_elim, ∥∥₁_map, ∥∥₁_map₂}
 use Rattle.std.proofs.lemmas.List.{take_all, take_more}
 use Rattle.std.proofs.lemmas.Option.{slice_get_read}
 use native.Mathlib.Nat.{ℕ_set}
 use Rattle.sm_disk.specs.declared.disk.Disk.{Ghosts as DiskGhosts}
 use Rattle.sm_disk.specs.Sight.{Image, Sight}
-use Rattle.sm_disk.specs.Steps.{GoesOnTelling}
 use Rattle.sm_base.specs.declared.limits.TheConstants.{JOURNAL_LIMIT}
 use Rattle.sm_journal.specs.declared.answers.OpenRefused.{OpenRefused}
 use Rattle.sm_journal.specs.declared.answers.OpenRefused.TheVariants.{Memory}
@@ -17,10 +16,10 @@ use Rattle.sm_record.specs.declared.base.Base.{Base}
 use Rattle.sm_rotation.specs.Vouched.{Replies}
 use Rattle.sm_rotator.specs.declared.rotator.Rotator.{Ghosts as RotatorGhosts}
 use Rattle.sm_rotator.specs.declared.verdict.Verdict.{Verdict}
-use Rattle.sm_core.specs.Histories.{InTime, replay}
-use Rattle.sm_core.specs.Vouching.{EachAllowed, LegalKeepsVouched, Vouched}
+use Rattle.sm_core.specs.Histories.{InTime}
+use Rattle.sm_core.specs.Vouching.{EachAllowed, LegalKeepsVouched}
 use Rattle.sm_core.proofs.VouchedLemmas.{legal_vouched}
-use Rattle.sm_replay.specs.Following.{after_all, entries_limit, MayCome}
+use Rattle.sm_replay.specs.Following.{entries_limit, MayCome}
 use Rattle.sm_replay.specs.Laws.{KeepsSound}
 use Rattle.sm_replay.proofs.FollowLemmas.{after_count, come_front, none_come}
 use Rattle.sm_replay.proofs.SoundLaws.{come_sound}
@@ -31,28 +30,28 @@ use Rattle.sm_opening.specs.Lawful.{IsLawful, MayFollowIf, StaysLawful, base_und
 use Rattle.sm_opening.proofs.KeepingLaws.{stays_itself}
 use Rattle.sm_opening.proofs.LawfulLaws.{stays_lawful}
 use Rattle.sm_account.specs.Accounts as accounts
-use Rattle.sm_account.specs.Allowed.{EntriesAllowed, IsAllowedAt}
+use Rattle.sm_account.specs.Allowed.{IsAllowedAt}
 use Rattle.sm_account.specs.AccountState.{with_entries}
 use Rattle.sm_account.specs.History.{entries_in}
 use Rattle.sm_account.specs.Openings.{IsOpenedOver, TakenFrom}
 use Rattle.sm_account.specs.States.{Base as bases}
 use Rattle.sm_account.specs.declared.account.Account.{Account}
 use Rattle.sm_account.proofs.HeldLemmas.{timely_front}
+use Rattle.sm_drive.specs.Disks.{GoesOver, disks_of}
 use Rattle.sm_drive.specs.Drives.{Drives, Follows, StandsAt, Went}
 use Rattle.sm_drive.specs.Going.{Came, HasCome, IsFresh}
-use Rattle.sm_drive.specs.Openings.{Begins, Tells, beginning}
+use Rattle.sm_drive.specs.Openings.{Begins, TellsAtRestarts, beginning}
 use Rattle.sm_drive.specs.Refused.{IsRefusedAt, IsStopped, StopsBehind}
-use Rattle.sm_drive.specs.Runs.{Runs}
 use Rattle.sm_drive.specs.RunInvariant.{Stands}
-use Rattle.sm_drive.specs.Stands.{Stand, all_at, base_at, stand_of}
-use Rattle.sm_drive.specs.Stepping.{Calls, Counts, stand_in}
+use Rattle.sm_drive.specs.Stands.{Stand, all_at, stand_of}
+use Rattle.sm_drive.specs.Stepping.{Calls, Counts, disks_in, stand_in}
+use Rattle.sm_drive.specs.Steps.{Goes}
 use Rattle.sm_drive.specs.declared.call.Call.{Call}
-use Rattle.sm_drive.specs.declared.call.Call.TheVariants.{Restart}
 use Rattle.sm_drive.specs.declared.driven.Driven.{Driven}
 use Rattle.sm_drive.specs.declared.outcome.Outcome.{Outcome}
 use Rattle.sm_drive.specs.declared.run.Run.{Run}
 use Rattle.sm_drive.proofs.FollowsLaws.{Keeps, all_opened, counted_on, each_front, follows_on}
-use Rattle.sm_drive.proofs.RunLemmas.{runs_on}
+use Rattle.sm_drive.proofs.TurnLemmas.{over_later, over_more, tells_front, tells_last, turns_more}
 
 -- ---- what always holds of a run's account, where it stands
 
@@ -104,8 +103,8 @@ module _ {D R : Type 0} (G : DiskGhosts D) (V : RotatorGhosts R) (stays : StaysL
   come_none stands = record {
     under = fresh.under;
     first = refl;
-    later = omega arith;
-    tells = λ tells. tells;
+    over = record { opened = accounts.disk start.account; later = fresh.later; touched = refl };
+    tells = λ told. fresh.tells told.0 told.1;
     came = λ tells. (
       [],
       record {
@@ -128,16 +127,19 @@ module _ {D R : Type 0} (G : DiskGhosts D) (V : RotatorGhosts R) (stays : StaysL
   come_on calls outs now next call out before behind goes come = record {
     under = goes.under come.under;
     first = goes.first ∙ come.first;
-    later = omega (arith, come.later, goes.later);
+    over = over_more G (accounts.began start.account) calls outs call out (disks_in now) (disks_in next) come.over
+        goes.touches;
     tells = λ tells. let told = come.tells tells in goes.tells told.0 told.1;
     came = λ tells.
-        let was = come.came tells in
-        let step = goes.goes come.under (come.tells tells) was.0 (counts_here was.0 was.1) in
+        let was = come.came (tells_front calls (call ∷ []) (G.sight (accounts.began start.account)) tells) in
+        let step = goes.goes come.under
+        (λ restarts. come.tells (tells_last calls call (G.sight (accounts.began start.account)) tells restarts)) was.0
+        (counts_here was.0 was.1) in
         let all = follows_on stays V.replies begun call out (stand_in now was.0) (stand_in next step.0)
         (keeps_at G V now was.0 before) (keeps_at G V next step.0 behind) step.1 was.1.follows in (
           step.0,
           record {
-            runs = runs_on V.replies calls outs call out (beginning (accounts.taken start.account))
+            runs = turns_more (Goes V.replies) calls outs call out (beginning (accounts.taken start.account))
                 (stand_in now was.0) (stand_in next step.0) was.1.runs step.1;
             counted = counted_here (stand_in next step.0) all;
             follows = all;
@@ -154,25 +156,29 @@ module _ {D R : Type 0} (G : DiskGhosts D) (V : RotatorGhosts R) (stays : StaysL
       counted_here : (last : Stand) → ∥ Follows V.replies begun last ∥₁ → Counts begun.entries last
       counted_here last follows = ∥∥₁_elim follows (ℕ_set _ _) (λ f. counted_on V.replies begun last f)
 
-  -- a restart that is refused
-  pub stops : (calls : List Call) (outs : List Outcome) (now : Run D R G V) (all : List Call) (count : ℕ) (call : Call)
-      (refused : OpenRefused D) → calls ≡ take count all → slice_get all count ≡ Some call → Stands G V now
-      → HasCome start calls outs now → IsRefusedAt G V now call refused → Tells (G.sight (accounts.disk start.account))
-      → StopsBehind G V.replies (accounts.taken start.account) all refused
-  stops calls outs now all count call refused front at stands come why tells =
-      let was = come.came tells in
-      record {
-        count = count;
-        restarts = at ∙ ap Some why.restarts;
-        outcomes = outs;
-        last = stand_in now was.0;
-        runs = subst (λ (l : List Call). Runs V.replies l outs (beginning (accounts.taken start.account))
-            (stand_in now was.0)) front was.1.runs;
-        before = accounts.disk now.account;
-        holds = stands.on_disk;
-        refused_is = why.refused_is;
-        whole = why.whole (come.tells tells);
-      }
+  -- a Restart that is refused
+  pub stops : (all : List Call) (count : ℕ) (outs : List Outcome) (now : Run D R G V) (call : Call)
+      (refused : OpenRefused D) → slice_get all count ≡ Some call → Stands G V now
+      → HasCome start (take count all) outs now → IsRefusedAt G V now call refused
+      → StopsBehind G V.replies (accounts.began start.account) all refused
+  stops all count outs now call refused at stands come why = record {
+    count = count;
+    restarts = at ∙ ap Some why.restarts;
+    outcomes = outs;
+    disks = disks_in now;
+    over = come.over;
+    left = λ tells.
+        let was = come.came tells in
+        record {
+          taken = accounts.taken start.account;
+          begins = fresh.begins;
+          last = stand_in now was.0;
+          runs = was.1.runs;
+          holds = stands.on_disk;
+        };
+    refused_is = why.refused_is;
+    whole = λ tells. why.whole (come.tells tells);
+  }
 
 -- ---- the loop
 
@@ -222,17 +228,10 @@ module _ {D R : Type 0} (G : DiskGhosts D) (V : RotatorGhosts R) (start : Run D 
 
   pub gone_stops : (k : ℕ) (call : Call) → k < length calls → call ≡ get_or calls k call → (outs : List Outcome)
       (room : ℕ) (now : Run D R G V) (refused : OpenRefused D) → GoneOn G V start calls k outs room now
-      → IsRefusedAt G V now call refused → Tells (G.sight (accounts.disk start.account))
-      → StopsBehind G V.replies (accounts.taken start.account) calls refused
-  gone_stops k call lt is outs room now refused gone why tells =
-      stops G V stays_lawful start fresh (take k calls) outs now calls k call refused refl
-      (slice_get_read calls (length calls) k call refl lt is) gone.stands gone.come why tells
-
-  -- its count of faults never fell
-  pub gone_fallen : (k : ℕ) (outs : List Outcome) (room : ℕ) (now : Run D R G V) (call : Call)
-      (refused : OpenRefused D) → GoneOn G V start calls k outs room now → IsRefusedAt G V now call refused
-      → G.faults (accounts.disk start.account) ≤ G.faults (stores.disk_in refused)
-  gone_fallen k outs room now call refused gone why = omega (arith, gone.come.later, why.refused_is.later)
+      → IsRefusedAt G V now call refused → StopsBehind G V.replies (accounts.began start.account) calls refused
+  gone_stops k call lt is outs room now refused gone why =
+      stops G V stays_lawful start fresh calls k outs now call refused
+      (slice_get_read calls (length calls) k call refl lt is) gone.stands gone.come why
 
 -- ---- the beginning
 
@@ -240,6 +239,15 @@ module _ {D R : Type 0} (G : DiskGhosts D) (V : RotatorGhosts R) (start : Run D 
 abbrev pub run_of : {D R : Type 0} {G : DiskGhosts D} {V : RotatorGhosts R} → Account D R G V → List (Verdict R V) → ℕ
     → Run D R G V
 run_of account verdicts first = record { account = account; verdicts = verdicts; first = first }
+
+begins_from : {D : Type 0} (G : DiskGhosts D) (disk now : D) (taken : Held)
+    → TakenFrom G disk JOURNAL_LIMIT taken now → Begins (G.sight disk) taken
+begins_from G disk now taken from = record {
+  format = from.format;
+  held = from.held;
+  found = from.found;
+  takes = from.takes;
+}
 
 module _ {D R : Type 0} {G : DiskGhosts D} {V : RotatorGhosts R} (disk : D) (account : Account D R G V)
     (over : IsOpenedOver disk 1 JOURNAL_LIMIT account) where
@@ -256,22 +264,23 @@ module _ {D R : Type 0} {G : DiskGhosts D} {V : RotatorGhosts R} (disk : D) (acc
 
   -- a run of an account that was just opened is fresh
   pub fresh_over : (verdicts : List (Verdict R V)) → verdicts ≡ [] → (first : ℕ)
-      → first ≡ (made_of (accounts.all_of account)).entries → IsFresh (run_of account verdicts first)
-  fresh_over verdicts none first is =
+      → first ≡ (made_of (accounts.all_of account)).entries
+      → TakenFrom G disk JOURNAL_LIMIT (accounts.taken account) (accounts.disk account)
+      → IsFresh (run_of account verdicts first)
+  fresh_over verdicts none first is taken_from =
       subst (λ (l : List (Verdict R V)). IsFresh (run_of account l first)) (sym none) (record {
         under = ap (λ (b : bases). b.limit) over.base_is;
         first = is ∙ ap (λ (h : Held). (made_of h).entries) all_taken;
         stands = stood;
+        begins = begins_from G (accounts.began account) (accounts.disk account) (accounts.taken account) from;
+        tells = from.stays.tells;
+        later = from.later;
       })
-
-pub begins_from : {D : Type 0} (G : DiskGhosts D) (disk now : D) (taken : Held)
-    → TakenFrom G disk JOURNAL_LIMIT taken now → Begins (G.sight disk) taken
-begins_from G disk now taken from = record {
-  format = from.format;
-  held = from.held;
-  found = from.found;
-  takes = from.takes;
-}
+    where
+      from : TakenFrom G (accounts.began account) JOURNAL_LIMIT (accounts.taken account) (accounts.disk account)
+      from =
+          subst (λ (d : D). TakenFrom G d JOURNAL_LIMIT (accounts.taken account) (accounts.disk account))
+          (sym over.began_is) taken_from
 
 -- ---- the end of a run
 
@@ -303,50 +312,57 @@ went sound vouches replies disk calls outs taken last begins came = record {
   each = λ count. ∥∥₁_map came.follows (λ f. stands_at sound vouches replies (made_of taken) last count f);
 }
 
--- a run over a disk that tells went so
-pub drives : {D R : Type 0} (G : DiskGhosts D) (V : RotatorGhosts R) (disk : D) (calls : List Call)
-    (start now : Run D R G V) (outs : List Outcome) → Begins (G.sight disk) (accounts.taken start.account)
-    → GoesOnTelling (G.sight disk) (G.sight (accounts.disk start.account)) → HasCome start calls outs now
-    → Tells (G.sight disk)
-    → Drives G V (G.sight disk) calls (record { account = now.account; outcomes = outs; verdicts = now.verdicts })
-drives G V disk calls start now outs begins goes_on come (s, reads) =
-    let was = come.came (goes_on s reads) in
-    record {
-      entries = was.0;
-      went = went come_sound legal_vouched V.replies (G.sight disk) calls outs (accounts.taken start.account)
-          (stand_in now was.0) begins was.1;
-    }
-
 -- what a run leaves, by its parts
 abbrev pub driven_of : {D R : Type 0} {G : DiskGhosts D} {V : RotatorGhosts R} → Account D R G V → List Outcome
     → List (Verdict R V) → Driven D R G V
 driven_of account outs verdicts = record { account = account; outcomes = outs; verdicts = verdicts }
 
 module _ {D R : Type 0} (G : DiskGhosts D) (V : RotatorGhosts R) (disk : D) (calls : List Call)
-    (start now : Run D R G V) (outs : List Outcome) (come : HasCome start calls outs now) (driven : Driven D R G V)
+    (start now : Run D R G V) (fresh : IsFresh start) (began : accounts.began start.account ≡ disk)
+    (outs : List Outcome) (come : HasCome start calls outs now) (driven : Driven D R G V)
     (is : driven ≡ driven_of now.account outs now.verdicts) where
-  pub drives_to : Begins (G.sight disk) (accounts.taken start.account)
-      → GoesOnTelling (G.sight disk) (G.sight (accounts.disk start.account)) → Tells (G.sight disk)
-      → Drives G V (G.sight disk) calls driven
-  drives_to begins goes_on tells =
-      subst (λ (d : Driven D R G V). Drives G V (G.sight disk) calls d) (sym is)
-      (drives G V disk calls start now outs begins goes_on come tells)
+  drives : TellsAtRestarts calls (G.sight (accounts.began start.account))
+      → Drives G V (G.sight (accounts.began start.account)) calls (driven_of now.account outs now.verdicts)
+  drives tells =
+      let was = come.came tells in
+      record {
+        entries = was.0;
+        went = went come_sound legal_vouched V.replies (G.sight (accounts.began start.account)) calls outs
+            (accounts.taken start.account) (stand_in now was.0) fresh.begins was.1;
+      }
 
-  pub later_to : G.faults disk ≤ G.faults (accounts.disk start.account)
-      → G.faults disk ≤ G.faults (accounts.disk driven.account)
-  later_to later =
-      subst (λ (d : Driven D R G V). G.faults disk ≤ G.faults (accounts.disk d.account)) (sym is)
-      (omega (arith, later, come.later))
+  -- it went so over the disk that it was given
+  pub drives_to : TellsAtRestarts calls (G.sight disk) → Drives G V (G.sight disk) calls driven
+  drives_to =
+      subst (λ (d : Driven D R G V). TellsAtRestarts calls (G.sight disk) → Drives G V (G.sight disk) calls d) (sym is)
+      (subst (λ (given : D). TellsAtRestarts calls (G.sight given)
+      → Drives G V (G.sight given) calls (driven_of now.account outs now.verdicts)) began drives)
 
--- it was refused at a restart
-pub stopped : {D R : Type 0} (G : DiskGhosts D) (V : RotatorGhosts R) (disk : D) (calls : List Call)
-    (start : Run D R G V) (refused : OpenRefused D) → Begins (G.sight disk) (accounts.taken start.account)
-    → GoesOnTelling (G.sight disk) (G.sight (accounts.disk start.account))
-    → (Tells (G.sight (accounts.disk start.account))
-    → StopsBehind G V.replies (accounts.taken start.account) calls refused)
-    → IsStopped G V.replies disk calls refused
-stopped G V disk calls start refused begins goes_on behind =
-    inr (λ (s, reads). (accounts.taken start.account, begins, behind (goes_on s reads)))
+  pub over_to : GoesOver G disk calls driven.outcomes (disks_of driven.account)
+  over_to =
+      subst (λ (d : Driven D R G V). GoesOver G disk calls d.outcomes (disks_of d.account)) (sym is)
+      (subst (λ (given : D). GoesOver G given calls outs (disks_of now.account)) began come.over)
+
+  pub later_to : G.faults disk ≤ G.faults (accounts.disk driven.account)
+  later_to = over_later G disk calls driven.outcomes (disks_of driven.account) over_to
+
+module _ {D R : Type 0} (G : DiskGhosts D) (V : RotatorGhosts R) (disk : D) (calls : List Call)
+    (start : Run D R G V) (began : accounts.began start.account ≡ disk) (refused : OpenRefused D)
+    (stops : StopsBehind G V.replies (accounts.began start.account) calls refused) where
+  behind : StopsBehind G V.replies disk calls refused
+  behind = subst (λ (given : D). StopsBehind G V.replies given calls refused) began stops
+
+  -- it was refused at a Restart
+  pub stopped : IsStopped G V.replies disk calls refused
+  stopped = inr behind
+
+  pub fallen_to : G.faults disk ≤ G.faults (stores.disk_in refused)
+  fallen_to =
+      omega (
+        arith,
+        over_later G disk (take behind.count calls) behind.outcomes behind.disks behind.over,
+        behind.refused_is.later,
+      )
 
 -- memory was wanted before the disk was touched
 pub wanting : {D : Type 0} (G : DiskGhosts D) (replies : Replies) (disk : D) (calls : List Call)

@@ -1,5 +1,5 @@
 -- What holds of all entries of a run goes on with each call.
-use Rattle.std.proofs.Common.{◌≡◌, ◌⊎◌, ℕ, ◌+◌, ◌≤◌, List, [], ◌∷◌, ◌++◌, take, drop, length, Option, Some, None, IfSome, refl, sym, ap, subst, ◌∙◌, append-nil, append_assoc, inl, inr, arith}
+use Rattle.std.proofs.Common.{◌≡◌, ◌⊎◌, ◌+◌, ◌≤◌, List, [], ◌∷◌, ◌++◌, length, Option, Some, None, IfSome, refl, sym, ap, subst, ◌∙◌, append-nil, append_assoc, inl, inr}
 use Rattle.std.proofs.Math.Logic.{∥∥₁_map₂}
 use Rattle.sm_base.specs.declared.moment.Moment.{Moment}
 use Rattle.sm_base.specs.declared.moment.TheConstants.{LAST_READING}
@@ -27,8 +27,8 @@ use Rattle.sm_account.proofs.HeldLemmas.{made_rows, timely_more}
 use Rattle.sm_account.proofs.StateLaws.{entries_more}
 use Rattle.sm_drive.specs.Aims.{Aim, Enters, Claims, Reopens, Stops, aim}
 use Rattle.sm_drive.specs.Drives.{Follows}
-use Rattle.sm_drive.specs.Stands.{Stand, all_at, base_at, seat, opened, marked, entered, faulted, claimed, keeping}
-use Rattle.sm_drive.specs.Steps.{Goes, GoesTo, Entering, Claiming, Reopening, Stopping, held_with, entries_with}
+use Rattle.sm_drive.specs.Stands.{Stand, all_at, base_at, seat, opened, marked, entered, faulted, claimed}
+use Rattle.sm_drive.specs.Steps.{Goes, GoesTo, Entering, Claiming, held_with, entries_with}
 use Rattle.sm_drive.specs.declared.call.Call.{Call}
 use Rattle.sm_drive.specs.declared.outcome.Outcome.{Outcome}
 use Rattle.sm_drive.specs.declared.outcome.Outcome.TheVariants.{Entered, Quiet, Refused, Stale, Limit, DiskFault, Asked, Nothing, Memory, Reopened}

@@ -1,3 +1,4 @@
+mod TurnLemmas
 mod RunLemmas
 mod FollowsLaws
 mod RestartLemmas

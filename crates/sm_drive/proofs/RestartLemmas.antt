@@ -1,5 +1,5 @@
 -- What a restart finds on the disk, and that it is not damaged.
-use Rattle.std.proofs.Common.{◌≡◌, ◌⊎◌, ℕ, ◌+◌, Bool, true, false, List, [], ◌∷◌, ◌++◌, length, take, drop, take-append-drop, Option, Some, None, IfSome, refl, sym, ap, subst, ◌∙◌, inl, inr}
+use Rattle.std.proofs.Common.{◌≡◌, ◌⊎◌, ℕ, ◌+◌, false, take, drop, take-append-drop, Option, Some, None, refl, sym, ap, subst, ◌∙◌, inl, inr}
 use Rattle.std.proofs.Math.Logic.{∥∥₁_elim, ∥∥₁_map₂}
 use Rattle.sm_base.specs.declared.limits.TheConstants.{JOURNAL_LIMIT}
 use Rattle.sm_disk.specs.Sight.{Image}
@@ -14,16 +14,14 @@ use Rattle.sm_replay.proofs.FollowLemmas.{come_front, come_more}
 use Rattle.sm_sound.specs.Bases.{IsSound}
 use Rattle.sm_store.specs.BaseFiles.{HoldsAs, active}
 use Rattle.sm_store.specs.BaseOpenings.{IsDamagedAt}
-use Rattle.sm_store.specs.Held.{Held, Recovered, RecoveredEither, edition_of, with_entry}
+use Rattle.sm_store.specs.Held.{Held, Recovered, RecoveredEither, edition_of}
 use Rattle.sm_store.proofs.HeldLaws.{one_held, held_not_damaged, held_not_foreign}
 use Rattle.sm_opening.specs.Lawful.{IsLawful, MayFollowIf, base_under, made_of}
 use Rattle.sm_opening.specs.Openings.{IsFound, IsRefused}
-use Rattle.sm_opening.specs.Replacing.{taken_of}
 use Rattle.sm_opening.specs.Unlawful.{IsUnlawful, IsUnlawfulAt}
 use Rattle.sm_opening.proofs.LawfulLaws.{taken_makes}
 use Rattle.sm_account.specs.Crashes.{HoldsOnDisk}
 use Rattle.sm_account.specs.Openings.{TakenFrom}
-use Rattle.sm_drive.specs.Openings.{Tells}
 use Rattle.sm_drive.specs.Refused.{is_damaged}
 use Rattle.sm_drive.specs.Steps.{held_with}
 

@@ -1,34 +1,22 @@
 -- Runs of calls: how they join, and that their entries stay.
-use Rattle.std.proofs.Common.{◌≡◌, ℕ, zero, suc, ◌+◌, ◌<◌, List, [], ◌∷◌, ◌++◌, length, slice_get, Option, Some, None, refl, sym, ap, subst, ◌∙◌, append-nil, append_assoc, inl, inr}
+use Rattle.std.proofs.Common.{◌≡◌, ℕ, zero, suc, List, [], ◌∷◌, ◌++◌, length, slice_get, Option, Some, None, refl, sym, ap, subst, ◌∙◌, append-nil, append_assoc, inl, inr}
 use Rattle.sm_base.specs.declared.moment.Moment.{Moment}
 use Rattle.sm_model.specs.declared.entry.Entry.{Entry}
 use Rattle.sm_model.specs.declared.rows.SecretRow.{SecretRow}
 use Rattle.sm_rotation.specs.Vouched.{Replies}
 use Rattle.sm_drive.specs.Aims.{Aim, Enters, Claims, Reopens, Stops, aim}
 use Rattle.sm_drive.specs.Laws.{EntriesStay, RunsJoin, EnteredIsThere}
-use Rattle.sm_drive.specs.Runs.{Runs}
 use Rattle.sm_drive.specs.Stands.{Stand}
-use Rattle.sm_drive.specs.Steps.{Goes, GoesTo, Entering, Claiming, Reopening, Stopping, entries_with}
-use Rattle.sm_drive.specs.declared.call.Call.{Call}
+use Rattle.sm_drive.specs.Steps.{Goes, GoesTo, Entering, Claiming, Reopening, entries_with}
 use Rattle.sm_drive.specs.declared.outcome.Outcome.{Outcome}
 use Rattle.sm_drive.specs.declared.outcome.Outcome.TheVariants.{Entered, Quiet, Refused, Stale, Limit, DiskFault, Asked, Nothing, Memory, Reopened}
+use Rattle.sm_drive.proofs.TurnLemmas.{get_past, none_some, turns_join}
 
 -- ---- runs join
 
 pub runs_join : RunsJoin
-runs_join replies [] others [] next first mid last runs more =
-    subst (λ (s : Stand). Runs replies others next s last) runs more
-runs_join replies [] others (out ∷ outs) next first mid last runs more = absurd runs
-runs_join replies (call ∷ calls) others [] next first mid last runs more = absurd runs
-runs_join replies (call ∷ calls) others (out ∷ outs) next first mid last (step, goes, rest) more =
-    (step, goes, runs_join replies calls others outs next step mid last rest more)
-
--- one call more
-pub runs_on : (replies : Replies) (calls : List Call) (outs : List Outcome) (call : Call) (out : Outcome)
-    (first mid last : Stand) → Runs replies calls outs first mid → Goes replies call out mid last
-    → Runs replies (calls ++ call ∷ []) (outs ++ out ∷ []) first last
-runs_on replies calls outs call out first mid last runs goes =
-    runs_join replies calls (call ∷ []) outs (out ∷ []) first mid last runs (last, goes, refl)
+runs_join replies calls others outs next first mid last runs more =
+    turns_join (Goes replies) calls others outs next first mid last runs more
 
 -- ---- entries stay
 
@@ -95,11 +83,6 @@ entries_stay replies (call ∷ calls) (out ∷ outs) first last (next, goes, res
 
 -- ---- what is acknowledged is there
 
-get_past : (front : List Entry) (entry : Entry) (rest : List Entry)
-    → slice_get (front ++ entry ∷ rest) (length front) ≡ Some entry
-get_past [] entry rest = refl
-get_past (e ∷ front) entry rest = get_past front entry rest
-
 entered_now : (entry : Entry) (place : ℕ) (old new : Stand) (more : List Entry) (last : List Entry)
     → Entering entry (Entered place) old new → last ≡ new.entries ++ more
     → (e : Entry) × (slice_get last place ≡ Some e)
@@ -126,9 +109,6 @@ entered_to replies (Stops wanted) place old new more last goes grown = absurd go
 
 some_is : (a b : Outcome) → Some a ≡ Some b → a ≡ b
 some_is a b same = cc
-
-none_some : (a : Outcome) → ◌≡◌ {A = Option Outcome} None (Some a) → ⊥
-none_some a same = cc
 
 pub entered_is_there : EnteredIsThere
 entered_is_there replies calls [] first last i place runs at = absurd (none_some (Entered place) at)

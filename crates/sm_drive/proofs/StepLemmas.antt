@@ -1,5 +1,5 @@
 -- What the account says of a call is a step of the run.
-use Rattle.std.proofs.Common.{◌≡◌, ◌⊎◌, ℕ, ◌+◌, ◌-◌, ◌<◌, ◌≤◌, Bool, true, false, cond, nat_lt, List, [], ◌∷◌, ◌++◌, map, length, length-append, Option, Some, None, IsSome, refl, sym, ap, subst, ◌∙◌, append-nil, inl, inr, arith}
+use Rattle.std.proofs.Common.{◌≡◌, ℕ, ◌+◌, ◌-◌, Bool, true, false, cond, nat_lt, List, [], ◌∷◌, ◌++◌, map, length, length-append, Option, Some, None, refl, sym, ap, subst, ◌∙◌, append-nil, inl, inr, arith}
 use Rattle.std.proofs.lemmas.Bool.{le-ltb, lt-ltb}
 use mathlib.Core.List.{map-append}
 use Rattle.sm_base.specs.declared.limits.TheConstants.{JOURNAL_LIMIT}
@@ -13,44 +13,39 @@ use Rattle.sm_model.specs.declared.entry.Mark.{Mark}
 use Rattle.sm_model.specs.declared.entry.Mark.TheVariants as marks
 use Rattle.sm_model.specs.declared.rows.SecretRow.{SecretRow}
 use Rattle.sm_model.specs.declared.why.Why.{Why}
-use Rattle.sm_rotation.specs.Vouched.{Replies}
 use Rattle.sm_rotator.specs.declared.rotator.Rotator.{Ghosts as RotatorGhosts}
-use Rattle.sm_rotator.specs.declared.told.Told.{Told}
 use Rattle.sm_rotator.specs.declared.verdict.Verdict.{Verdict}
 use Rattle.sm_rotator.specs.declared.work.Work.{Work}
 use Rattle.sm_store.specs.BaseStores as stores
 use Rattle.sm_store.specs.Held.{Held}
 use Rattle.sm_opening.specs.Lawful.{made_of}
 use Rattle.sm_account.specs.Accounts as accounts
-use Rattle.sm_account.specs.AccountState.{all_held, disk_in}
-use Rattle.sm_account.specs.CallOutcomes.{CallOutcome, Leaves, LeavesTried, tried_by}
+use Rattle.sm_account.specs.CallOutcomes.{CallOutcome, IfFailed, Leaves, LeavesTried, tried_by}
 use Rattle.sm_account.specs.CallOutcomes as call_outcomes
 use Rattle.sm_account.specs.Efforts.{Effort, Undue, Over, Due}
 use Rattle.sm_account.specs.Handled.{HandledAs}
 use Rattle.sm_account.specs.Handling.{handled_by}
 use Rattle.sm_account.specs.History.{entries_in}
-use Rattle.sm_account.specs.NextWork.{NextAs, next_by}
 use Rattle.sm_account.specs.Outcome.{Outcome as ends, Refuses, Replies as replied}
 use Rattle.sm_account.specs.Report.{ReportsAs, reported_by}
 use Rattle.sm_account.specs.StartDue.{StartsAs, started_by}
 use Rattle.sm_account.specs.declared.account.Account.{Account}
 use Rattle.sm_account.specs.declared.handled.Handled.{Handled}
 use Rattle.sm_account.specs.declared.handled.Handled.TheVariants as handled
-use Rattle.sm_account.specs.declared.next_work.NextWork.{NextWork}
-use Rattle.sm_account.specs.declared.next_work.NextWork.TheVariants as works
 use Rattle.sm_account.specs.declared.report.Reported.{Reported as reports}
 use Rattle.sm_account.specs.declared.report.Reported.TheVariants as reported
 use Rattle.sm_account.specs.declared.start_due.StartedDue.{StartedDue}
 use Rattle.sm_account.specs.declared.start_due.StartedDue.TheVariants as started
 use Rattle.sm_account.proofs.HeldLemmas.{made_count}
 use Rattle.sm_account.proofs.StateLaws.{entries_more}
-use Rattle.sm_drive.specs.Aims.{Aim, Enters, Claims, Reopens, Stops, aim_asked, aim_ready, aim_within, is_limit, refused_as}
+use Rattle.sm_drive.specs.Aims.{Aim, Enters, Claims, Stops, aim_asked, aim_within, is_limit, refused_as}
+use Rattle.sm_drive.specs.Disks.{OnDiskFault}
 use Rattle.sm_drive.specs.Outcomes.{answered_as, handled_as, reported_as, started_as}
-use Rattle.sm_drive.specs.Stands.{Stand, all_at, base_at, seat, entered, faulted, claimed, keeping, stand_of, told_of}
+use Rattle.sm_drive.specs.Stands.{Stand, base_at, seat, entered, faulted, claimed, keeping, stand_of, told_of}
 use Rattle.sm_drive.specs.Stepping.{Counts}
-use Rattle.sm_drive.specs.Steps.{EndsAs, FailsAs, GoesTo, MayAnswer}
+use Rattle.sm_drive.specs.Steps.{EndsAs, GoesTo}
 use Rattle.sm_drive.specs.declared.outcome.Outcome.{Outcome}
-use Rattle.sm_drive.specs.declared.outcome.Outcome.TheVariants.{Entered, Quiet, Refused, Stale, Limit, DiskFault, Asked, Nothing, Memory, Reopened}
+use Rattle.sm_drive.specs.declared.outcome.Outcome.TheVariants.{Entered, Quiet, Refused, Stale, Limit, DiskFault, Asked, Nothing, Memory}
 
 -- ---- a disk goes on telling
 
@@ -67,6 +62,49 @@ module _ {D R : Type 0} {G : DiskGhosts D} {V : RotatorGhosts R} (old new : Acco
   pub leaves_tells : (call_outcome : CallOutcome) → Leaves G old.inner new.inner seat call_outcome
       → GoesOnTelling (G.sight (accounts.disk old)) (G.sight (accounts.disk new))
   leaves_tells call_outcome leaves = tells_by (tried_by call_outcome) leaves.any_moment
+
+-- ---- a fact where the disk failed, of the account and of the run
+
+module _ (P : Type 0) where
+  answered_fault : (entered : Bool) (place : ℕ) → OnDiskFault (answered_as entered place) P
+  answered_fault true place = tt
+  answered_fault false place = tt
+
+  refused_fault : (why : Why) → OnDiskFault (refused_as why) P
+  refused_fault why = by (is_limit why)
+    where
+      by : (b : Bool) → OnDiskFault (cond b Limit Refused) P
+      by true = tt
+      by false = tt
+
+  pub handled_fault : (wanted : ends) (result : Handled) (entered : Bool) (place : ℕ) → HandledAs result wanted
+      → IfFailed (handled_by result wanted) P → OnDiskFault (handled_as entered place result) P
+  handled_fault wanted (handled.Answered reply) entered place is failed = answered_fault entered place
+  handled_fault wanted (handled.Refused why) entered place is failed = refused_fault why
+  handled_fault (replied reply (Some entry)) handled.DiskFault entered place is failed = failed
+  handled_fault (replied reply None) handled.DiskFault entered place is failed = absurd is
+  handled_fault (Refuses why) handled.DiskFault entered place is failed = absurd is
+  handled_fault wanted handled.Memory entered place is failed = tt
+
+  pub reported_fault : (wanted : Effort (Option At)) (result : reports) (place : ℕ) → ReportsAs result wanted
+      → IfFailed (reported_by result wanted) P → OnDiskFault (reported_as place result) P
+  reported_fault wanted reported.Moved place is failed = tt
+  reported_fault wanted (reported.Stale at) place is failed = tt
+  reported_fault wanted (reported.Limit most) place is failed = tt
+  reported_fault (Due entry) reported.DiskFault place is failed = failed
+  reported_fault (Undue at) reported.DiskFault place is failed = absurd is
+  reported_fault (Over passed) reported.DiskFault place is failed = absurd is
+  reported_fault wanted reported.Memory place is failed = tt
+
+  pub started_fault : (wanted : Effort (Unit {0})) (result : StartedDue) (place : ℕ) → StartsAs result wanted
+      → IfFailed (started_by result wanted) P → OnDiskFault (started_as place result) P
+  started_fault wanted (started.Started arn) place is failed = tt
+  started_fault wanted started.None place is failed = tt
+  started_fault wanted (started.Limit most) place is failed = tt
+  started_fault (Due entry) started.DiskFault place is failed = failed
+  started_fault (Undue none) started.DiskFault place is failed = absurd is
+  started_fault (Over passed) started.DiskFault place is failed = absurd is
+  started_fault wanted started.Memory place is failed = tt
 
 -- ---- where the run stands after a call
 

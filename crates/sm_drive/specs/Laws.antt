@@ -1,5 +1,5 @@
 -- What every run keeps.
-use Rattle.std.specs.Prelude.{◌≡◌, ℕ, List, ◌++◌, Some, slice_get, length}
+use Rattle.std.specs.Prelude.{◌≡◌, ℕ, List, ◌++◌, Some, slice_get}
 use Rattle.sm_model.specs.declared.entry.Entry.{Entry}
 use Rattle.sm_rotation.specs.Vouched.{Replies}
 use Rattle.sm_drive.specs.Runs.{Runs}

@@ -3,7 +3,9 @@ pub mod Asked
 pub mod Aims
 pub mod Outcomes
 pub mod Steps
+pub mod Turns
 pub mod Runs
+pub mod Disks
 pub mod Openings
 pub mod Working
 pub mod RunInvariant

@@ -1,5 +1,5 @@
 -- What the opening at the start of a run takes.
-use Rattle.std.specs.Prelude.{◌≡◌, []}
+use Rattle.std.specs.Prelude.{◌≡◌, ℕ, List, [], Some, slice_get}
 use Rattle.sm_base.specs.declared.limits.TheConstants.{JOURNAL_LIMIT}
 use Rattle.sm_disk.specs.Sight.{Image, Sight}
 use Rattle.sm_journal.specs.declared.format.Format.{Format}
@@ -7,6 +7,8 @@ use Rattle.sm_opening.specs.Openings.{IsFound}
 use Rattle.sm_opening.specs.Replacing.{taken_of}
 use Rattle.sm_store.specs.Held.{Held}
 use Rattle.sm_drive.specs.Stands.{Stand, opened}
+use Rattle.sm_drive.specs.declared.call.Call.{Call}
+use Rattle.sm_drive.specs.declared.call.Call.TheVariants.{Restart}
 
 -- what a read of the disk gives, or the state that this makes as a base
 pub record Begins (now : Sight) (taken : Held) : Type 0 where
@@ -22,3 +24,7 @@ beginning taken = opened taken [] []
 -- the disk tells what a read gives
 abbrev pub Tells : Sight → Type 0
 Tells now = (s : Image) × now.reads s
+
+-- where one of the calls is a Restart, the disk tells what a read gives
+abbrev pub TellsAtRestarts : List Call → Sight → Type 0
+TellsAtRestarts calls now = (place : ℕ) → slice_get calls place ≡ Some Restart → Tells now

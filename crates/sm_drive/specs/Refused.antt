@@ -1,5 +1,6 @@
 -- Why a run has no end: the refusal of an opening.
 use Rattle.std.specs.Prelude.{◌≡◌, ◌⊎◌, ℕ, Bool, true, false, List, Some, slice_get, take}
+use Rattle.sm_disk.specs.Sight.{Sight}
 use Rattle.sm_disk.specs.declared.disk.Disk.{Ghosts as DiskGhosts}
 use Rattle.sm_journal.specs.declared.answers.OpenRefused.{OpenRefused}
 use Rattle.sm_journal.specs.declared.answers.OpenRefused.TheVariants.{Damaged, Failed, Memory}
@@ -9,7 +10,8 @@ use Rattle.sm_store.specs.Held.{Held}
 use Rattle.sm_opening.specs.Openings.{IsRefused}
 use Rattle.sm_account.specs.Accounts.{disk}
 use Rattle.sm_account.specs.Crashes.{HoldsOnDisk}
-use Rattle.sm_drive.specs.Openings.{Begins, Tells, beginning}
+use Rattle.sm_drive.specs.Disks.{Disks, GoesOver}
+use Rattle.sm_drive.specs.Openings.{Begins, Tells, TellsAtRestarts, beginning}
 use Rattle.sm_drive.specs.Runs.{Runs}
 use Rattle.sm_drive.specs.Stands.{Stand, all_at}
 use Rattle.sm_drive.specs.declared.call.Call.{Call}
@@ -30,21 +32,30 @@ pub record IsRefusedAt {D R : Type 0} (G : DiskGhosts D) (V : RotatorGhosts R) (
   pub refused_is : IsRefused G (disk run.account) refused
   pub whole : Tells (G.sight (disk run.account)) → is_damaged refused ≡ false
 
--- The calls before a Restart ran from what was taken, and it was refused over what they left on the disk, which is not
--- damaged.
-pub record StopsBehind {D : Type 0} (G : DiskGhosts D) (replies : Replies) (taken : Held) (calls : List Call)
+-- What calls made of a disk that was given: they ran from what the opening at the start took, and each image of the
+-- disk as they left it recovers to what the account then had, or to it and the entry whose write failed last.
+pub record IsLeft (replies : Replies) (given : Sight) (calls : List Call) (outs : List Outcome) (now : Sight)
+    : Type 0 where
+  pub taken : Held
+  pub begins : Begins given taken
+  pub last : Stand
+  pub runs : Runs replies calls outs (beginning taken) last
+  pub holds : HoldsOnDisk (all_at last) last.failed now
+
+-- The calls before a Restart ran, and it was refused over the disk as they left it. Where the disk that was given
+-- tells, that one is not damaged.
+pub record StopsBehind {D : Type 0} (G : DiskGhosts D) (replies : Replies) (given : D) (calls : List Call)
     (refused : OpenRefused D) : Type 0 where
   pub count : ℕ
   pub restarts : slice_get calls count ≡ Some Restart
   pub outcomes : List Outcome
-  pub last : Stand
-  pub runs : Runs replies (take count calls) outcomes (beginning taken) last
-  pub before : D
-  pub holds : HoldsOnDisk (all_at last) last.failed (G.sight before)
-  pub refused_is : IsRefused G before refused
-  pub whole : is_damaged refused ≡ false
+  pub disks : Disks D
+  pub over : GoesOver G given (take count calls) outcomes disks
+  pub left : TellsAtRestarts (take count calls) (G.sight given)
+      → IsLeft replies (G.sight given) (take count calls) outcomes (G.sight disks.now)
+  pub refused_is : IsRefused G disks.now refused
+  pub whole : Tells (G.sight given) → is_damaged refused ≡ false
 
--- A run is refused at the start, by the opening's rule; or, over a disk that tells, at a Restart.
+-- A run is refused at the start or at a Restart, by the opening's rule.
 abbrev pub IsStopped : {D : Type 0} → DiskGhosts D → Replies → D → List Call → OpenRefused D → Type 0
-IsStopped G replies disk calls refused = IsRefused G disk refused
-    ⊎ (Tells (G.sight disk) → (taken : Held) × Begins (G.sight disk) taken × StopsBehind G replies taken calls refused)
+IsStopped G replies given calls refused = IsRefused G given refused ⊎ StopsBehind G replies given calls refused

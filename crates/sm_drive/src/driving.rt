@@ -3,13 +3,13 @@ ghost use Rattle.std.specs.Prelude.{◌≡◌, ◌≤◌, [], IfOk, IfErr, lengt
 ghost use Rattle.sm_account.specs.Accounts as accounts;
 ghost use Rattle.sm_account.specs.Accounts.{all_of, failed};
 ghost use Rattle.sm_account.specs.Crashes.{HoldsOnDisk};
-ghost use Rattle.sm_disk.specs.Steps.{GoesOnTelling};
 ghost use Rattle.sm_opening.specs.Openings.{IsRefused};
 ghost use Rattle.sm_store.specs.BaseStores.{disk_in};
 ghost use Rattle.sm_drive.specs.Asked.{AllMayBeMade};
+ghost use Rattle.sm_drive.specs.Disks.{GoesOver, disks_of};
 ghost use Rattle.sm_drive.specs.Drives.{Drives};
 ghost use Rattle.sm_drive.specs.Going.{IsFresh};
-ghost use Rattle.sm_drive.specs.Openings.{Begins, Tells};
+ghost use Rattle.sm_drive.specs.Openings.{TellsAtRestarts};
 ghost use Rattle.sm_drive.specs.Refused.{IsStopped};
 
 use crate::call::Call;
@@ -35,20 +35,26 @@ pub fn drive<D: Disk, R: Rotator>(
 ) -> Result<Driven<D, R>, OpenRefused<D>>
     requires { AllMayBeMade calls }
 
-    // Over a disk that tells: there is an outcome for each call, each but want of memory as the account's rules want
-    // it. The entries are legal, one after the other, from the state at the opening, and what the account has is that
-    // state and they. What is acknowledged has its place among them for good. Each other one is that of a call at which
-    // the disk failed, and a later restart found it. After each number of them the secrets are sound, and what a
-    // rotator accepted stays so.
-    ensures ran { IfOk result (λ driven. Tells (D.sight disk) →
+    // Over a disk that tells, or over any disk where no call is a restart: there is an outcome for each call, each but
+    // want of memory as the account's rules want it. The entries are legal, one after the other, from the state at the
+    // opening, and what the account has is that state and they. What is acknowledged has its place among them for good.
+    // Each other one is that of a call at which the disk failed, and a later restart found it. After each number of
+    // them the secrets are sound, and what a rotator accepted stays so.
+    ensures ran { IfOk result (λ driven. TellsAtRestarts calls (D.sight disk) →
         Drives D.Disk R.Rotator (D.sight disk) calls driven) }
+
+    // The account was opened over the disk that was given, or over what the calls before the last restart left of it.
+    // The disk's count of faults never falls from call to call, and it rose in each whose outcome is that the disk
+    // failed.
+    ensures over { IfOk result (λ driven. GoesOver D.Disk disk calls driven.outcomes (disks_of driven.account)) }
 
     // Each image of the disk recovers to what the account has, or while the tail is unsure to this, or to it and the
     // entry whose write failed last.
     ensures tail { IfOk result (λ driven.
         HoldsOnDisk (all_of driven.account) (failed driven.account) (D.sight (accounts.disk driven.account))) }
 
-    // An opening was refused, by its own rule: at the start, or at a restart, which finds no damage.
+    // An opening was refused, by its own rule: of the disk that was given, or at a restart of what the calls before it
+    // left of that disk. Where the disk that was given tells, a restart finds no damage.
     ensures refused { IfErr result (IsStopped D.Disk R.replies disk calls) }
 
     ensures later { IfOk result (λ driven. D.faults disk ≤ D.faults (accounts.disk driven.account)) }
@@ -80,8 +86,9 @@ fn run_over<D: Disk, R: Rotator>(
     requires made { AllMayBeMade calls.now }
     requires none { outcomes.items ≡ [] }
     requires room { length calls.now ≤ vec_capacity outcomes }
-    ensures ran { IfOk result (λ driven. Tells (D.sight disk) →
+    ensures ran { IfOk result (λ driven. TellsAtRestarts calls.now (D.sight disk) →
         Drives D.Disk R.Rotator (D.sight disk) calls.now driven) }
+    ensures over { IfOk result (λ driven. GoesOver D.Disk disk calls.now driven.outcomes (disks_of driven.account)) }
     ensures tail { IfOk result (λ driven.
         HoldsOnDisk (all_of driven.account) (failed driven.account) (D.sight (accounts.disk driven.account))) }
     ensures refused { IfErr result (IsStopped D.Disk R.replies disk calls.now) }
@@ -102,9 +109,7 @@ fn run_over<D: Disk, R: Rotator>(
 /// A run before its first call.
 fn begin<D: Disk, R: Rotator>(alloc: Global, disk: D) -> Result<Run<D, R>, OpenRefused<D>>
     ensures fresh { IfOk result IsFresh }
-    ensures begins { IfOk result (λ run. Begins (D.sight disk) (accounts.taken run.account)) }
-    ensures tells { IfOk result (λ run. GoesOnTelling (D.sight disk) (D.sight (accounts.disk run.account))) }
-    ensures later { IfOk result (λ run. D.faults disk ≤ D.faults (accounts.disk run.account)) }
+    ensures began { IfOk result (λ run. accounts.began run.account ≡ disk) }
     ensures refused { IfErr result (IsRefused D.Disk disk) }
 {
     match Account::open(alloc, disk, 1, JOURNAL_LIMIT) {

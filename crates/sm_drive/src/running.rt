@@ -1,10 +1,8 @@
 //! The calls of a run, one after the other.
 ghost use Rattle.std.specs.Prelude.{◌≡◌, ◌≤◌, [], IfOk, IfErr, length, vec_capacity};
-ghost use Rattle.sm_account.specs.Accounts.{disk, taken};
-ghost use Rattle.sm_store.specs.BaseStores.{disk_in};
+ghost use Rattle.sm_account.specs.Accounts.{began};
 ghost use Rattle.sm_drive.specs.Asked.{AllMayBeMade};
 ghost use Rattle.sm_drive.specs.Going.{IsFresh, HasCome};
-ghost use Rattle.sm_drive.specs.Openings.{Tells};
 ghost use Rattle.sm_drive.specs.Refused.{StopsBehind};
 
 use crate::call::Call;
@@ -30,9 +28,7 @@ pub fn go_on<D: Disk, R: Rotator>(
     requires none { outcomes.old.items ≡ [] }
     requires room { length calls.now ≤ vec_capacity outcomes.old }
     ensures come { IfOk result (HasCome start calls.now outcomes.new.items) }
-    ensures refused { IfErr result (λ refused. Tells (D.sight (disk start.account)) →
-        StopsBehind D.Disk R.replies (taken start.account) calls.now refused) }
-    ensures fallen { IfErr result (λ refused. D.faults (disk start.account) ≤ D.faults (disk_in refused)) }
+    ensures refused { IfErr result (StopsBehind D.Disk R.replies (began start.account) calls.now) }
     ensures later { R.faults rotator.old ≤ R.faults rotator.new }
 {
     start.stand();

@@ -1,6 +1,7 @@
-use Rattle.std.proofs.Common.{◌≡◌, List, IfOk, IfErr, subst}
+use Rattle.std.proofs.Common.{List, IfOk, IfErr, subst}
+use Rattle.sm_drive.specs.Disks.{GoesOver, disks_of}
 use Rattle.sm_drive.specs.Drives.{Drives}
-use Rattle.sm_drive.specs.Openings.{Tells}
+use Rattle.sm_drive.specs.Openings.{TellsAtRestarts}
 use Rattle.sm_drive.specs.Refused.{IsStopped}
 use Rattle.sm_drive.specs.declared.call.Call.{Call}
 use Rattle.sm_drive.proofs.DriveLemmas.{wanting}
@@ -8,8 +9,14 @@ use Rattle.sm_drive.proofs.driving.drive.Goals as goal
 
 pub returns-in-Ok-clause-ran : goal.returns-in-Ok-clause-ran
 returns-in-Ok-clause-ran g c =
-    subst (λ (l : List Call). IfOk c.run_over.result (λ driven. Tells (g.D.Disk.sight c.args.disk)
+    subst (λ (l : List Call). IfOk c.run_over.result (λ driven. TellsAtRestarts l (g.D.Disk.sight c.args.disk)
     → Drives g.D.Disk g.R.Rotator (g.D.Disk.sight c.args.disk) l driven)) c.as_slice.ensures c.run_over.ensures.ran
+
+pub returns-in-Ok-clause-over : goal.returns-in-Ok-clause-over
+returns-in-Ok-clause-over g c =
+    subst (λ (l : List Call). IfOk c.run_over.result
+    (λ driven. GoesOver g.D.Disk c.args.disk l driven.outcomes (disks_of driven.account))) c.as_slice.ensures
+    c.run_over.ensures.over
 
 pub returns-in-Ok-clause-refused : goal.returns-in-Ok-clause-refused
 returns-in-Ok-clause-refused g c =

@@ -1,6 +1,6 @@
 use Rattle.std.proofs.Common.{arith, vec_capacity}
 use Rattle.sm_drive.proofs.AskedLemmas.{made_at}
-use Rattle.sm_drive.proofs.DriveLemmas.{gone_all, gone_fallen, gone_first, gone_more, gone_stops}
+use Rattle.sm_drive.proofs.DriveLemmas.{gone_all, gone_first, gone_more, gone_stops}
 use Rattle.sm_drive.proofs.running.go_on.Goals as goal
 
 pub loop-call-init : goal.loop-call-init
@@ -31,17 +31,11 @@ loop-call-preserved g c = record {
 }
 
 pub returns-in-Err-clause-refused : goal.returns-in-Err-clause-refused
-returns-in-Err-clause-refused g c = λ tells.
+returns-in-Err-clause-refused g c =
     gone_stops g.D.Disk g.R.Rotator c.args.start c.requires.fresh c.args.calls.now c.loop-call.call-index
     c.call-item.result c.loop-call-test.true c.call-item.is c.loop-call.outcomes.items
     (vec_capacity c.loop-call.outcomes) c.loop-call.run c.in-Err.refused c.loop-call.invariant.gone
-    c.in-Err.ensures.refused tells
-
-pub returns-in-Err-clause-fallen : goal.returns-in-Err-clause-fallen
-returns-in-Err-clause-fallen g c =
-    gone_fallen g.D.Disk g.R.Rotator c.args.start c.requires.fresh c.args.calls.now c.loop-call.call-index
-    c.loop-call.outcomes.items (vec_capacity c.loop-call.outcomes) c.loop-call.run c.call-item.result c.in-Err.refused
-    c.loop-call.invariant.gone c.in-Err.ensures.refused
+    c.in-Err.ensures.refused
 
 pub returns-in-Err-clause-later : goal.returns-in-Err-clause-later
 returns-in-Err-clause-later g c = omega (arith, c.loop-call.invariant.later, c.in-Err.ensures.later)

@@ -1,4 +1,4 @@
-use Rattle.std.proofs.Common.{List, ap, refl, subst, ◌∙◌, length, ℕ}
+use Rattle.std.proofs.Common.{List, ap, subst, ◌∙◌, length, ℕ}
 use Rattle.sm_drive.specs.Asked.{MayBeMade}
 use Rattle.sm_drive.specs.Stepping.{Calls}
 use Rattle.sm_drive.specs.declared.call.Call.TheVariants as calls
