@@ -266,21 +266,47 @@ def number(text):
 
 
 def integer(text):
-    # `-0` is no integer.
+    # One past all doubles is refused, and `-0` is no integer.
+    number(text)
     return int(text) if text != "-0" else -0.0
 
 
+class Members(dict):
+    """The members of an object, of which the last of a name counts. Its depth is that of all that stood there."""
+
+    def __init__(self, pairs):
+        super().__init__(pairs)
+        for name, value in pairs:
+            stand_in_utf8([name, value])
+        self.depth = 1 + max((depth(value) for _, value in pairs), default=0)
+
+
+def stand_in_utf8(value):
+    # Half of a surrogate pair can't be written again.
+    if isinstance(value, str):
+        value.encode()
+    elif isinstance(value, list):
+        for item in value:
+            stand_in_utf8(item)
+
+
 def depth(value):
-    if isinstance(value, (dict, list)):
-        items = value.values() if isinstance(value, dict) else value
-        return 1 + max(map(depth, items), default=0)
+    if isinstance(value, Members):
+        return value.depth
+    if isinstance(value, list):
+        return 1 + max(map(depth, value), default=0)
     return 0
 
 
 def read_json(body):
-    read = json.loads(body.decode("utf-8"), parse_constant=no_constant, parse_float=number, parse_int=integer)
-    # Half of a surrogate pair can't be written again.
-    json.dumps(read, ensure_ascii=False).encode()
+    read = json.loads(
+        body.decode("utf-8"),
+        object_pairs_hook=Members,
+        parse_constant=no_constant,
+        parse_float=number,
+        parse_int=integer,
+    )
+    stand_in_utf8(read)
     if depth(read) > 127:
         raise ValueError(body)
     return read
@@ -308,7 +334,7 @@ class LeftOut(Exception):
 
 def of_type(kind):
     def read(value):
-        if type(value) is not kind:
+        if (dict if isinstance(value, Members) else type(value)) is not kind:
             raise Wrong
         return value
 
@@ -1650,8 +1676,8 @@ def date_of(moment):
 
 
 def summary(account):
-    """What mode check says of an account."""
-    account.begin_now()
+    """What mode check says of an account, at the reading of the clock, also where that is before the last entry."""
+    account.begin(account.clock)
     secrets = account.secrets
     lines = [f"secrets {len(secrets)} versions {sum(len(it.versions) for it in secrets)} entries {account.count()}"]
     for it in secrets:
