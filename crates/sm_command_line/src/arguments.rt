@@ -84,7 +84,8 @@ pub fn people<'a>(alloc: Global) -> Arg<'a>
         "people",
         "FILE",
         "The file that says who may call; without it everybody may",
-        "The file that says who may call, a line for each access key. Without it everybody may do all.\n\
+        "The file that says who may call, a line for each access key. Without it everybody may do what no policy \
+         denies.\n\
          Example: --people /etc/secretsd/people",
     )
 }

@@ -25,7 +25,7 @@ fn bare<'a>(alloc: Global) -> Command<'a>
              secretsd --mode agent --listen 127.0.0.1:7777\n      \
              reads secrets from that server for others on this machine, and keeps each for five minutes\n  \
              secretsd --mode ship --data secrets | secretsd --mode follow --data replica\n      \
-             makes a folder a replica of another one, and writes how many entries it has\n  \
+             follows a folder as a replica of it, and writes how many entries it has\n  \
              secretsd --number 0 < messages\n      \
              answers them the same way in each run, and forgets the secrets at its end",
         )
