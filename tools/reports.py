@@ -110,24 +110,52 @@ def fault_of_long_opening(program):
     return None
 
 
+def removed_alone(folder, create):
+    """The journal is removed, and the folder gets the time back that a program can set."""
+    time_before = os.stat(folder).st_mtime_ns
+    os.unlink(os.path.join(folder, "journal-0"))
+    os.utime(folder, ns=(time_before, time_before))
+
+
+def removed_elsewhere(folder, create):
+    """The journal is moved out of the folder, takes a write there, and is removed."""
+    elsewhere = f"{folder}-elsewhere"
+    os.rename(os.path.join(folder, "journal-0"), elsewhere)
+    create()
+    os.unlink(elsewhere)
+
+
 def fault_of_removed_folder(program):
-    """A folder that was removed while it is served takes no write any more, and that is said in a few lines."""
+    """A folder that was removed while it is served takes no write any more, nor does one whose journal was."""
+    for remove in (lambda folder, create: shutil.rmtree(folder), removed_alone, removed_elsewhere):
+        fault = fault_of_removal(program, remove)
+        if fault:
+            return fault
+    return None
+
+
+def fault_of_removal(program, remove):
+    """No write is taken once the journal was removed so, behind some that were, and that is said in a few lines."""
     with tempfile.TemporaryDirectory() as top:
         folder = os.path.join(top, "secrets")
         os.mkdir(folder)
         with Serving(program, "--data", folder) as server:
-            created(server, "one")
-            shutil.rmtree(folder)
+            statuses = set()
+            for name in ("one", "two", "three"):
+                statuses.update(created(server, name))
+                # The clock of files goes on meanwhile.
+                time.sleep(0.05)
+            remove(folder, lambda: statuses.update(created(server, "four")))
             client = Client(server.port)
             puts = {client.ask("PutSecretValue", SecretId="one", SecretString=value(n)) for n in range(50)}
             status = client.ask("GetSecretValue", SecretId="one")
             client.close()
             server.kill()
     lines = told(server, REMOVED)
-    if (puts, status) != ({500}, 200):
-        return f"over a folder that was removed puts were answered {puts}, and a read {status}"
+    if (statuses, puts, status) != ({200}, {500}, 200):
+        return f"creations were answered {statuses}, puts once the journal was removed {puts}, and a read {status}"
     if not lines or f"of the file journal-0 in {folder} failed" not in lines[0] or len(lines) > MOST_LINES:
-        return f"of a folder that was removed it said {server.said}"
+        return f"of a journal that was removed it said {server.said}"
     return fault_of_values(server)
 
 

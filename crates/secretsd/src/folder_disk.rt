@@ -2,6 +2,7 @@
 ghost use Rattle.std.specs.Prelude.{◌≡◌, true, false, Ok, IsErr, IfOk, OnOk, OnErr, MatchResult};
 ghost use Rattle.sm_disk.specs.Faults.{HasCause, faults_after};
 
+use crate::naming::{Folder, Named};
 use crate::opening::{Opening, name_of};
 use crate::reports::{Kind, Reports};
 use sm_disk::{Disk, DiskFailed, FolderRefused};
@@ -10,7 +11,7 @@ use std::alloc::Global;
 use std::fs::{File, OpenOptions, TryLockError};
 use std::io;
 use std::io::ErrorKind;
-use std::os::unix::fs::{FileExt, MetadataExt, OpenOptionsExt};
+use std::os::unix::fs::{FileExt, OpenOptionsExt};
 use std::path::Path;
 use std::rt::Files;
 
@@ -37,7 +38,9 @@ pub struct FolderDisk<'a> {
     journal_1: Kept,
     root: Kept,
     lock: File,
-    folder: &'a str,
+    folder: Folder<'a>,
+    /// What was seen last of the name of a file.
+    named: Option<Named>,
     reports: &'a Reports<'a>,
     opening: &'a Opening<'a>,
     faults: u64,
@@ -52,6 +55,7 @@ impl<'a> Drop for FolderDisk<'a> {
             root: _,
             lock: _,
             folder: _,
+            named: _,
             reports: _,
             opening: _,
             faults: _,
@@ -91,42 +95,38 @@ fn check_lock(locked: Result<(), TryLockError>) -> Result<(), FolderRefused>
     }
 }
 
-/// A file that has a name still. One whose last name was removed is there as long as it is open, and then no more.
-fn named(file: &File) -> io::Result<&File> {
-    if file.metadata()?.nlink() == 0 {
-        return Err(io::Error::new(ErrorKind::NotFound, "the file was removed while it is open"));
-    }
-    Ok(file)
-}
-
 impl<'a> FolderDisk<'a> {
     ghost use Rattle.secretsd.specs.Folder.{kept_of, is_lost, lost, IsFresh};
 
     /// Opens the files of a folder that is there, and makes those that aren't. The lock on its file `lock` is had as
     /// long as the disk is there, and the folder is synced, so that a file that was made is not lost with its name.
     pub fn open(
-        rt: &HostRuntime,
-        folder: &'a str,
+        rt: &'a HostRuntime,
+        path: &'a str,
         reports: &'a Reports<'a>,
         opening: &'a Opening<'a>,
     ) -> Result<FolderDisk<'a>, FolderRefused>
         ensures { IfOk result IsFresh }
     {
         let alloc = rt.alloc();
-        let lock = open_in(rt, alloc, folder, "lock")?;
+        let lock = open_in(rt, alloc, path, "lock")?;
         check_lock(lock.try_lock())?;
-        let disk = FolderDisk {
-            journal_0: keep(open_in(rt, alloc, folder, name_of(0))?),
-            journal_1: keep(open_in(rt, alloc, folder, name_of(1))?),
-            root: keep(open_in(rt, alloc, folder, name_of(2))?),
+        let journal_0 = keep(open_in(rt, alloc, path, name_of(0))?);
+        let journal_1 = keep(open_in(rt, alloc, path, name_of(1))?);
+        let root = keep(open_in(rt, alloc, path, name_of(2))?);
+        let folder = Folder::open(rt, path)?;
+        folder.sync()?;
+        Ok(FolderDisk {
+            journal_0,
+            journal_1,
+            root,
             lock,
             folder,
+            named: None,
             reports,
             opening,
             faults: 0,
-        };
-        File::open(rt, folder)?.sync_all()?;
-        Ok(disk)
+        })
     }
 
     /// The file of this number, unless it is lost.
@@ -180,7 +180,7 @@ impl<'a> FolderDisk<'a> {
 
     /// Says an error.
     fn say(&self, file: u8, call: &str, error: &io::Error) {
-        let folder = self.folder;
+        let folder = self.folder.path();
         let name = name_of(file);
         self.reports.say(
             Kind::Disk,
@@ -249,17 +249,27 @@ impl<'a> FolderDisk<'a> {
         ensures counted { CountedSync file self.old self.new result }
     {
         let synced = match self.file(file) {
-            Ok(file) => sync_named(file),
+            Ok(kept) => self.sync_named(file, kept),
             Err(error) => Err(error),
         };
-        if synced.is_ok() {
-            self.opening.note_sync(file);
+        match self.count_error(file, "sync", synced) {
+            Ok(named) => {
+                self.named = named;
+                self.opening.note_sync(file);
+                Ok(())
+            }
+            Err(DiskFailed) => {
+                self.lose(file);
+                Err(DiskFailed)
+            }
         }
-        let result = self.count_error(file, "sync", synced);
-        if result.is_err() {
-            self.lose(file);
-        }
-        result
+    }
+
+    /// Syncs the file of this number, which has to have a name still.
+    fn sync_named(&self, number: u8, file: &File) -> io::Result<Option<Named>> {
+        let named = self.folder.look_for_name(number, file, self.named)?;
+        file.sync_data()?;
+        Ok(named)
     }
 }
 
@@ -299,9 +309,4 @@ impl<'a> Disk for FolderDisk<'a> {
 
 impl<'a> OneReading for FolderDisk<'a> {
     ghost one_reading = { λ disk r s told _. absurd told };
-}
-
-/// Syncs a file that has a name still.
-fn sync_named(file: &File) -> io::Result<()> {
-    named(file)?.sync_data()
 }

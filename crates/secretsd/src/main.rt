@@ -15,6 +15,7 @@ mod entropy;
 mod folder_disk;
 mod hall;
 mod logged_stream;
+mod naming;
 mod opening;
 mod orders;
 mod parting;
