@@ -7,3 +7,4 @@ pub mod CourseLemmas
 pub mod FollowLemmas
 pub mod DiskLemmas
 pub mod RunLaws
+pub mod CatchUpLaws

@@ -31,7 +31,7 @@ use Rattle.sm_follow.specs.Streams.{Around}
 
 -- ---- what a message leaves
 
-goes_is : (a b : State) → Goes a ≡ Goes b → a ≡ b
+pub goes_is : (a b : State) → Goes a ≡ Goes b → a ≡ b
 goes_is a b e = cc
 
 no_fails : (a : State) (kept : Kept) → Goes a ≡ Fails kept → ⊥
@@ -41,7 +41,7 @@ no_lacks : (a : State) (kept : Kept) → Goes a ≡ Lacks kept → ⊥
 no_lacks a kept e = cc
 
 -- a replica that was promoted, and what its disk holds then
-abbrev promoted_of : State → State
+abbrev pub promoted_of : State → State
 promoted_of old = record { replica = record old.replica { promoted = true }; held = only old.replica.base }
 
 -- all stays as it was, or the replica is promoted
@@ -76,7 +76,7 @@ module _ (old new : State) where
       after_asked (stopped_by asked.request) (moment_at old answers.now) asked turn.output answers.asks
   after_answers (Ok asked) turn (inr unasked) = inl (goes_is new old unasked.says.1)
 
-  after_message : (people : People) (bytes : List ℕ) (turn : InputTurn)
+  pub after_message : (people : People) (bytes : List ℕ) (turn : InputTurn)
       → AnswersMessage people old bytes turn (Goes new) → StaysOr old new
   after_message people bytes turn answers = after_answers (heard people answers.message) turn answers.answers
 
@@ -84,7 +84,7 @@ module _ (old new : State) where
 
 module _ (history : List Entry) (h : IsHistory history) where
   -- the position of what so many first entries make
-  told_at : (n : ℕ) (base : Base) → IsAt history n base → base.entries ≡ n
+  pub told_at : (n : ℕ) (base : Base) → IsAt history n base → base.entries ≡ n
   told_at n base at =
       let entries : base.entries ≡ (after_all origin (take n history)).entries = ap (λ (b : Base). b.entries) at.is in
       omega (arith, entries, after_count origin (take n history), length-take n history, at.within)
@@ -122,7 +122,7 @@ module _ (history : List Entry) (h : IsHistory history) where
     | inr is ↦ same_place n old.replica.base new.replica.base (ap (λ (s : State). s.replica.base) is) at
   ]
 
-  run_climbs : (people : People) (n : ℕ) (old : State) (inputs : List Input) (turns : List InputTurn) (new : State)
+  pub run_climbs : (people : People) (n : ℕ) (old : State) (inputs : List Input) (turns : List InputTurn) (new : State)
       → IsAt history n old.replica.base → AllOf history (frames_in inputs) → InputTurnsOf people old inputs turns new
       → Climbs history n new.replica.base
   run_climbs people n old [] turns new at all (none, is) =
@@ -199,7 +199,7 @@ lawful_at history n base h at =
     subst (λ (b : Base). IsLawful (only b)) (sym at.is) (stays_lawful front lawful)
 
 -- before all entries
-at_first : (history : List Entry) → IsAt history 0 origin
+pub at_first : (history : List Entry) → IsAt history 0 origin
 at_first history = record { within = omega arith; is = refl }
 
 holds_kept : (is : Bool) (held : Held) (state : State) → HoldsBy is held state → is ≡ false → state.held ≡ held
@@ -214,7 +214,7 @@ holds_promoted true held state holds e = holds
 module _ {D : Type 0} (G : Ghosts D) (people : People) (region : List ℕ) (end : End) (before after : Around)
     (old new : D) (run : FollowsOver G people region end before after old new) (history : List Entry) (state : State)
     (is : run.onward ≡ Goes state) where
-  run_turns : InputTurnsOf people (first_state region run.held) run.followed.inputs run.followed.turns state
+  pub run_turns : InputTurnsOf people (first_state region run.held) run.followed.inputs run.followed.turns state
   run_turns =
       subst (λ (w : Onward). Follows people (first_state region run.held) run.followed.inputs run.followed.turns w) is
       run.followed.follows

@@ -48,7 +48,7 @@ whole_at_end (ends.WriteFault count) kept onward output before after is whole = 
 
 written_as : (wanted : outputs) → (output : Outgoing) × IsWritten wanted output
 written_as (said.Position at) = (Position at, refl)
-written_as (said.Reply reply) = (Reply (reply_of reply), inl refl)
+written_as (said.Reply reply) = (Reply (reply_of reply), refl)
 
 module _ (wanted : outputs) (onward : Onward) (before after : Written) where
   -- how much of an output was written

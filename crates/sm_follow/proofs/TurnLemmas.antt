@@ -55,15 +55,9 @@ same_answer status body a is same =
 -- what was said of an answer is that, or want of memory, however it is written
 pub written_says : (reply : Said) (wanted : Answered) (output : Outgoing) → session.Says reply wanted
     → IsWritten (said.Reply reply) output → IsReply wanted output
-written_says (replies.Reply status body) wanted output says (inl is) =
+written_says (replies.Reply status body) wanted output says is =
     inl (is ∙ ap Reply (same_answer status body wanted says.0 says.1))
-written_says (replies.Reply status body) wanted output says (inr is) = inr is
-written_says replies.Memory wanted output says (inl is) = inr is
-written_says replies.Memory wanted output says (inr is) = inr is
-
-pub written_memory : (output : Outgoing) → IsWritten (said.Reply replies.Memory) output → output ≡ Reply unavailable
-written_memory output (inl is) = is
-written_memory output (inr is) = is
+written_says replies.Memory wanted output says is = inr is
 
 -- a replica that was promoted, and what its disk holds then
 abbrev promoted_state : State → State
@@ -96,20 +90,38 @@ module _ {D : Type 0} {G : Ghosts D} where
   pub comes_memory : (P : Outgoing → Onward → Type 0) (faults : ℕ) (state : State) (follower : Follower D G)
       → Stands state follower → ((o : Outgoing) → o ≡ Reply unavailable → P o (Goes state))
       → ComesBy P faults (turned.On follower (said.Reply replies.Memory))
-  comes_memory P faults state follower stands f = (state, stands, λ o w. f o (written_memory o w))
+  comes_memory P faults state follower stands f = (state, stands, f)
 
   -- each image of the disk of a store that was opened recovers to what it holds
   pub keeps_opened : (limit : ℕ) (held : Held) (store : BaseStore D G) → IsOpened limit held store
       → KeepsOnDisk (Sure held) (G.sight (disk_of store))
   keeps_opened limit held store opened = λ c image. holds_recover store held None opened.holds c image
 
+  -- there was no memory for a promotion, and the disk is as it was
+  pub lacks_comes : (state : State) (moment : Moment) (text : List ℕ)
+      → IsTrue (shows state.replica (secret_id text) moment) → (store : BaseStore D G)
+      → IsOpened JOURNAL_LIMIT state.held store → (faults : ℕ) (t : Turned D G)
+      → t ≡ turned.Ends ends.Memory (disk_of store) (said.Reply replies.Memory)
+      → ComesBy (PromotesAs state moment text) faults t
+  lacks_comes state moment text shown_is store opened faults t is =
+      subst (λ (x : Turned D G). ComesBy (PromotesAs state moment text) faults x) (sym is) (
+        Sure state.held,
+        Lacks (Sure state.held),
+        refl,
+        keeps_opened JOURNAL_LIMIT state.held store opened,
+        tt,
+        λ o w. inr (inr (inl (record { shown_is = shown_is; says = w; lacks = inl refl }))),
+      )
+
   -- a base that was put on the disk of a promoted replica, or not
   module _ (state : State) (moment : Moment) (text : List ℕ)
       (shown_is : IsTrue (shows state.replica (secret_id text) moment)) (base : Base) (sound : IsSound base)
       (is : base ≡ state.replica.base) (replica : Replica)
-      (promoted : replica ≡ record state.replica { promoted = true }) (wanted : Said)
-      (says : session.Says wanted (promoted_answer (found state.replica.base.rows moment (secret_id text)))) where
-    pub put_comes : (faults : ℕ) (t : Turned D G) → PutsBase state.held base replica wanted faults t
+      (promoted : replica ≡ record state.replica { promoted = true }) (status : ℕ) (body : List ℕ)
+      (says : session.Says (replies.Reply status body)
+      (promoted_answer (found state.replica.base.rows moment (secret_id text)))) where
+    pub put_comes : (faults : ℕ) (t : Turned D G)
+        → PutsBase state.held base replica (replies.Reply status body) faults t
         → ComesBy (PromotesAs state moment text) faults t
     put_comes faults (turned.On next output) (opened, same, output_is) = (
       promoted_state state,
@@ -120,7 +132,9 @@ module _ {D : Type 0} {G : Ghosts D} where
       λ o w. inl (record {
         shown_is = shown_is;
         sound = subst IsSound is sound;
-        says = written_says wanted _ o says (subst (λ x. IsWritten x o) output_is w);
+        says = subst (λ x. IsWritten x o) output_is w
+            ∙ ap Reply (same_answer status body
+            (promoted_answer (found state.replica.base.rows moment (secret_id text))) says.0 says.1);
         goes = refl;
       }),
     )
@@ -143,7 +157,8 @@ module _ {D : Type 0} {G : Ghosts D} where
       subst (λ (b : Base). KeepsOnDisk (Either state.held (only b)) (G.sight disk)) is keeps,
       tt,
       λ o w. inr (inr (inl (record {
-        says = written_memory o (subst (λ x. IsWritten x o) output_is w);
+        shown_is = shown_is;
+        says = subst (λ x. IsWritten x o) output_is w;
         lacks = inr refl;
       }))),
     )

@@ -1,5 +1,5 @@
 -- The writing of outputs.
-use Rattle.std.proofs.Common.{◌≡◌, ℕ, ◌<◌, List, [], length, take, true, Option, Some, None, Result, Ok, Err, inl, inr, refl, ap, subst, ◌∙◌, arith}
+use Rattle.std.proofs.Common.{◌≡◌, ℕ, ◌<◌, List, [], length, take, true, Option, Some, None, Result, Ok, Err, refl, ap, subst, ◌∙◌, arith}
 use Rattle.std.proofs.lemmas.List.{take_all}
 use Rattle.std.specs.Io.KnownBytes.{append_known}
 use Rattle.std.specs.Prelude.{IfOk, MatchBool}
@@ -7,12 +7,12 @@ use Rattle.sm_base.specs.Faults.{Rose}
 use Rattle.sm_frames.specs.Outputs.{position_bytes, reply_bytes}
 use Rattle.sm_http.specs.declared.reply.Sent.{Sent}
 use Rattle.sm_http.specs.Framed.{Sends}
-use Rattle.sm_reply.specs.Shown.{Answered}
-use Rattle.sm_session.specs.Replies.{framed_answer, unavailable}
+use Rattle.sm_session.specs.Replies.{framed_answer, reply_of}
+use Rattle.sm_session.specs.declared.said.Said.{Said}
 use Rattle.sm_follow.specs.declared.end.End.TheVariants as ends
 use Rattle.sm_follow.specs.declared.output.Output.{Output as outputs}
 use Rattle.sm_follow.specs.declared.output.Output.TheVariants as said
-use Rattle.sm_follow.specs.Outputs.{IsReply, IsWritten, Outgoing, Position, Puts, Reply, counted, output_bytes}
+use Rattle.sm_follow.specs.Outputs.{IsWritten, Outgoing, Position, Puts, Reply, counted, output_bytes}
 
 some_bytes : (a b : List ℕ) → Some a ≡ Some b → a ≡ b
 some_bytes a b e = cc
@@ -45,15 +45,11 @@ pub position_encoded : {E : Type 0} (at : ℕ) (r : Result (List ℕ) E) → IfO
 position_encoded at (Ok bytes) is = (Position at, refl, is)
 position_encoded at (Err why) is = tt
 
-pub reply_whole : (answer : Answered) (bytes : List ℕ) → bytes ≡ reply_bytes (framed_answer answer)
-    → (written : Outgoing) × IsReply answer written × (bytes ≡ output_bytes written)
-reply_whole answer bytes is = (Reply answer, inl refl, is)
-
-pub reply_lacking : {E : Type 0} (answer : Answered) (r : Result (List ℕ) E)
-    → IfOk r (λ bytes. bytes ≡ reply_bytes (framed_answer unavailable))
-    → IfOk r (λ bytes. (written : Outgoing) × IsReply answer written × (bytes ≡ output_bytes written))
-reply_lacking answer (Ok bytes) is = (Reply unavailable, inr refl, is)
-reply_lacking answer (Err why) is = tt
+pub reply_encoded : {E : Type 0} (reply : Said) (r : Result (List ℕ) E)
+    → IfOk r (λ bytes. bytes ≡ reply_bytes (framed_answer (reply_of reply)))
+    → IfOk r (λ bytes. (written : Outgoing) × IsWritten (said.Reply reply) written × (bytes ≡ output_bytes written))
+reply_encoded reply (Ok bytes) is = (Reply (reply_of reply), refl, is)
+reply_encoded reply (Err why) is = tt
 
 -- ---- a reply that is put together in memory
 

@@ -106,11 +106,12 @@ abbrev pub promoted_answer : Option SecretRow → Answered
 promoted_answer None = refused whys.NoSecret
 promoted_answer (Some row) = shown (replies.StopReplicationToReplica (record { arn = row.arn }))
 
--- The replica shows the secret, and becomes an account of its own: what it holds was put on the disk before the reply.
+-- The replica shows the secret, and becomes an account of its own: what it holds was put on the disk before the reply,
+-- for whose body there was memory.
 pub record Promotes (old : State) (moment : Moment) (text : List ℕ) (output : Outgoing) (onward : Onward) : Type 0 where
   pub shown_is : IsTrue (shows old.replica (secret_id text) moment)
   pub sound : IsSound old.replica.base
-  pub says : IsReply (promoted_answer (found old.replica.base.rows moment (secret_id text))) output
+  pub says : output ≡ Reply (promoted_answer (found old.replica.base.rows moment (secret_id text)))
   pub goes : onward ≡ Goes (record {
     replica = record old.replica { promoted = true };
     held = only old.replica.base;
@@ -127,10 +128,12 @@ pub record FailsToPromote (old : State) (moment : Moment) (text : List ℕ) (out
     pub says : IsReply (refused whys.DiskFault) output
     pub fails : onward ≡ Fails (old_or_base old)
 
--- there was no memory for it, and the run ends: before the disk was touched, or behind that
-pub record LacksToPromote (old : State) (output : Outgoing) (onward : Onward) : Type 0 where
-  pub says : output ≡ Reply unavailable
-  pub lacks : (onward ≡ Lacks (Sure old.held)) ⊎ (onward ≡ Lacks (old_or_base old))
+-- there was no memory for it or for its reply's body, and the run ends: before the disk was touched, or behind that
+pub record LacksToPromote (old : State) (moment : Moment) (text : List ℕ) (output : Outgoing) (onward : Onward) : Type 0
+  where
+    pub shown_is : IsTrue (shows old.replica (secret_id text) moment)
+    pub says : output ≡ Reply unavailable
+    pub lacks : (onward ≡ Lacks (Sure old.held)) ⊎ (onward ≡ Lacks (old_or_base old))
 
 -- a reply that leaves all as it was
 abbrev pub Says : State → Answered → Outgoing → Onward → Type 0
@@ -145,9 +148,10 @@ pub record ShowsNothing (old : State) (moment : Moment) (text : List ℕ) (outpu
 abbrev pub PromotesAs : State → Moment → List ℕ → Outgoing → Onward → Type 0
 PromotesAs old moment text output onward =
     Promotes old moment text output onward ⊎ (FailsToPromote old moment text output onward
-    ⊎ (LacksToPromote old output onward ⊎ ShowsNothing old moment text output onward))
+    ⊎ (LacksToPromote old moment text output onward ⊎ ShowsNothing old moment text output onward))
 
--- a message that stops the replication, where nothing or this refuses it; there may be no memory for any of it
+-- a message that stops the replication, where nothing or this refuses it; there may be no memory for the tests or the
+-- SecretId, and then all stays
 abbrev pub StopsUnless : Option Why → State → Moment → List ℕ → Outgoing → Onward → Type 0
 StopsUnless (Some why) old moment text output onward = Says old (refused why) output onward
 StopsUnless None old moment text output onward =

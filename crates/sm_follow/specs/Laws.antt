@@ -1,5 +1,5 @@
 -- What holds of whole runs of a replica.
-use Rattle.std.specs.Prelude.{◌≡◌, ◌≤◌, ℕ, Bool, true, false, List, [], ◌∷◌}
+use Rattle.std.specs.Prelude.{◌≡◌, ◌≤◌, ℕ, ◌+◌, Bool, true, false, List, [], ◌∷◌, ◌++◌, length}
 use Rattle.sm_disk.specs.declared.disk.Disk.{Ghosts}
 use Rattle.sm_frame.specs.declared.frame.Frame.{Frame}
 use Rattle.sm_frames.specs.declared.input.Input.{Input}
@@ -8,12 +8,14 @@ use Rattle.sm_model.specs.declared.entry.Entry.{Entry}
 use Rattle.sm_opening.specs.Lawful.{IsLawful}
 use Rattle.sm_principal.specs.declared.people.People.{People}
 use Rattle.sm_record.specs.declared.base.Base.{Base}
-use Rattle.sm_replica.specs.Histories.{IsAt, IsHistory}
+use Rattle.sm_replica.specs.Histories.{AreFrom, IsAt, IsHistory}
 use Rattle.sm_replica.specs.Laws.{AllOf}
+use Rattle.sm_replica.specs.Shipping.{Ships}
 use Rattle.sm_store.specs.Held.{Held, only}
 use Rattle.sm_follow.specs.declared.end.End.{End}
 use Rattle.sm_follow.specs.Disks.{FollowsOver, KeepsOnDisk}
 use Rattle.sm_follow.specs.InputTurns.{Goes, InputTurn, InputTurnsOf, State, Sure}
+use Rattle.sm_follow.specs.Outputs.{Outgoing, Position, Reply}
 use Rattle.sm_follow.specs.Streams.{Around}
 
 -- the frames among inputs
@@ -64,3 +66,49 @@ RunsLeavePrefix {D} G = (people : People) (region : List ℕ) (end : End) (befor
     (run : FollowsOver G people region end before after old new) (history : List Entry) (state : State)
     → IsHistory history → AllOf history (frames_in run.followed.inputs) → run.onward ≡ Goes state
     → LeavesPrefix G history run.held state new
+
+-- ---- where all frames of an account come in order
+
+-- An account's base is what so many first entries of a history make, and its entries are the next ones. Its frames from
+-- a replica's position, all of them in order and with messages between them, bring a replica that is not past the
+-- account's end to that, where it is not promoted.
+abbrev pub CatchesUp : Type 0
+CatchesUp = (people : People) (history : List Entry) (n : ℕ) (base : Base) (entries : List Entry) (position : ℕ)
+    (old : State) (inputs : List Input) (turns : List InputTurn) (new : State) → IsHistory history
+    → IsAt history n base → AreFrom history n entries → IsAt history position old.replica.base
+    → position ≤ n + length entries → Ships base entries position (frames_in inputs)
+    → InputTurnsOf people old inputs turns new → new.replica.promoted ≡ false
+    → IsAt history (n + length entries) new.replica.base
+
+-- the position that an output tells, and else the one that was told before
+abbrev pub position_in : ℕ → Outgoing → ℕ
+position_in before (Position at) = at
+position_in before (Reply answer) = before
+
+-- the position that was written last, and where none was, the one from before
+abbrev pub position_told : ℕ → List InputTurn → ℕ
+position_told before [] = before
+position_told before (turn ∷ turns) = position_told (position_in before turn.output) turns
+
+-- Inputs of which some told of the history, lost, repeated and in any order; and then all frames of an account came in
+-- order, with messages between them, from the position that was written last, which was not past the account's end.
+pub record EndsShipped (history : List Entry) (base : Base) (entries : List Entry) (inputs : List Input)
+    (turns : List InputTurn) : Type 0 where
+  pub earlier : List Input
+  pub shipped : List Input
+  pub front : List InputTurn
+  pub back : List InputTurn
+  pub inputs_are : inputs ≡ earlier ++ shipped
+  pub turns_are : turns ≡ front ++ back
+  pub each : length front ≡ length earlier
+  pub told : AllOf history (frames_in earlier)
+  pub within : position_told 0 front ≤ base.entries + length entries
+  pub ships : Ships base entries (position_told 0 front) (frames_in shipped)
+
+-- a run over such inputs that ends where the replica goes on, not promoted, leaves it at the account's end
+abbrev pub RunsCatchUp : {D : Type 0} → Ghosts D → Type 0
+RunsCatchUp {D} G = (people : People) (region : List ℕ) (end : End) (before after : Around) (old new : D)
+    (run : FollowsOver G people region end before after old new) (history : List Entry) (n : ℕ) (base : Base)
+    (entries : List Entry) (state : State) → IsHistory history → IsAt history n base → AreFrom history n entries
+    → EndsShipped history base entries run.followed.inputs run.followed.turns → run.onward ≡ Goes state
+    → state.replica.promoted ≡ false → IsAt history (n + length entries) state.replica.base

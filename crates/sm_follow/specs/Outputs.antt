@@ -32,7 +32,7 @@ IsReply answer output = (output ≡ Reply answer) ⊎ (output ≡ Reply unavaila
 -- what was said, as it is written
 abbrev pub IsWritten : outputs → Outgoing → Type 0
 IsWritten (said.Position at) output = output ≡ Position at
-IsWritten (said.Reply reply) output = IsReply (reply_of reply) output
+IsWritten (said.Reply reply) output = output ≡ Reply (reply_of reply)
 
 -- the number of bytes that were counted, and so many more
 abbrev pub counted : ℕ → ℕ → ℕ

@@ -1,5 +1,5 @@
 //! Laws of whole runs of a replica.
-ghost use Rattle.sm_follow.specs.Laws.{IsAPrefix, KeepsOrPromotes, RunsLeavePrefix};
+ghost use Rattle.sm_follow.specs.Laws.{CatchesUp, IsAPrefix, KeepsOrPromotes, RunsCatchUp, RunsLeavePrefix};
 
 use sm_disk::Disk;
 
@@ -15,4 +15,17 @@ pub fn a_replica_is_a_prefix()
 /// took, or behind a promotion that prefix as a base, which an account may be opened over.
 pub fn a_run_leaves_a_prefix<D: Disk>()
     ensures { RunsLeavePrefix D.Disk }
+{}
+
+/// A replica catches up. All frames of an account of the history, in order and with messages between them, bring a
+/// replica from its position, which is not past the account's end, to that end, where it is not promoted.
+pub fn a_replica_catches_up()
+    ensures { CatchesUp }
+{}
+
+/// A run catches up. Where frames of the history were read, and then all frames of an account from the position that
+/// was written last and is not past its end, with messages between them, a replica that goes on and was not promoted
+/// holds what the account holds.
+pub fn a_run_catches_up<D: Disk>()
+    ensures { RunsCatchUp D.Disk }
 {}

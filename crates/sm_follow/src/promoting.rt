@@ -6,10 +6,14 @@ ghost use Rattle.sm_base.specs.declared.limits.TheConstants.{JOURNAL_LIMIT};
 ghost use Rattle.sm_base.specs.declared.moment.TheConstants.{LAST_READING};
 ghost use Rattle.sm_forms.specs.Forms.{forms_of};
 ghost use Rattle.sm_session.specs.Replies.{Says};
+ghost use Rattle.sm_session.specs.declared.said.Said.TheVariants as replies;
 ghost use Rattle.sm_sound.specs.Bases.{IsSound};
 ghost use Rattle.sm_store.specs.BaseStores.{IsOpened, IsStopped};
 ghost use Rattle.sm_store.specs.Held.{Held};
 ghost use Rattle.sm_table.specs.Found.{found};
+ghost use Rattle.sm_follow.specs.declared.end.End.TheVariants as ends;
+ghost use Rattle.sm_follow.specs.declared.follower.Turned.TheVariants as turned;
+ghost use Rattle.sm_follow.specs.declared.output.Output.TheVariants as outputs;
 ghost use Rattle.sm_follow.specs.Disks.{ComesBy, IfOn, IsLater, IsSure, Stands, disk_in};
 ghost use Rattle.sm_follow.specs.Promotions.{AllowsBy, EndsRefused, PutsBase};
 ghost use Rattle.sm_follow.specs.InputTurns.{PromotesAs, State, StopsUnless, promoted_answer, stop_refusal, stopped_by};
@@ -128,17 +132,27 @@ fn promote<D: Disk>(
     ensures later { IsLater (D.faults (disk_in follower)) result }
 {
     let mut follower = follower;
-    let said = say_promoted(alloc, follower.replica.table(), id, moment);
     match follower.replica.promote(id, moment) {
-        Ok(base) => put_base(alloc, follower, &base, said),
+        // The reply's body is made first, so that want of memory for it leaves the disk as it was.
+        Ok(base) => match say_promoted(alloc, follower.replica.table(), id, moment) {
+            Said::Reply(status, body) => {
+                put_base(alloc, follower, &base, Said::Reply(status, body))
+            }
+            Said::Memory => end_lacking(follower),
+        },
         Err(PromoteRefused::NoSecret) => {
             let said = say_refusal(alloc, &Why::NoSecret);
             Turned::On(follower, Output::Reply(said))
         }
-        Err(PromoteRefused::Memory) => {
-            Turned::Ends(End::Memory, follower.close(), Output::Reply(Said::Memory))
-        }
+        Err(PromoteRefused::Memory) => end_lacking(follower),
     }
+}
+
+/// The run ends without memory for a promotion, before the disk was touched.
+fn end_lacking<D: Disk>(follower: Follower<D>) -> Turned<D>
+    ensures { result ≡ turned.Ends ends.Memory (disk_in follower) (outputs.Reply replies.Memory) }
+{
+    Turned::Ends(End::Memory, follower.close(), Output::Reply(Said::Memory))
 }
 
 /// The reply to a promotion: the ARN of the secret that the SecretId names at a moment.

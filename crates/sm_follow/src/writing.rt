@@ -1,12 +1,11 @@
 //! The writing of outputs.
-ghost use Rattle.std.specs.Prelude.{◌≡◌, ◌≤◌, ◌<◌, ◌^◌, IfOk, IfSome, length, List, ℕ};
+ghost use Rattle.std.specs.Prelude.{◌≡◌, ◌≤◌, ◌<◌, ◌^◌, IfOk, length, List, ℕ};
 ghost use Rattle.std.specs.Io.KnownBytes.{append_known};
 ghost use Rattle.sm_base.specs.Faults.{Rose};
 ghost use Rattle.sm_frames.specs.Outputs.{position_bytes, reply_bytes};
 ghost use Rattle.sm_frames.specs.declared.input.TheConstants as limits;
-ghost use Rattle.sm_reply.specs.Shown.{Answered};
 ghost use Rattle.sm_session.specs.Replies.{framed_answer, reply_of};
-ghost use Rattle.sm_follow.specs.Outputs.{IsReply, IsWritten, Outgoing, Puts, output_bytes};
+ghost use Rattle.sm_follow.specs.Outputs.{IsWritten, Outgoing, Puts, output_bytes};
 ghost use Rattle.sm_follow.specs.declared.output.Output.{Output as outputs};
 
 use crate::end::End;
@@ -67,36 +66,15 @@ fn encode_output(alloc: Global, output: &Output) -> Result<Bytes, NoMemory>
     }
 }
 
-/// The bytes of a reply, or of the one for want of memory where that is too long.
+/// The bytes of a reply. One that is too long for an output, which none comes near, is told as want of memory.
 fn encode_said(alloc: Global, said: &Said) -> Result<Bytes, NoMemory>
-    ensures { IfOk result (λ bytes. (written : Outgoing) × IsReply (reply_of said.now) written
-        × (bytes ≡ output_bytes written)) }
-{
-    match encode_short(alloc, said)? {
-        Some(bytes) => Ok(bytes),
-        None => encode_unavailable(alloc),
-    }
-}
-
-/// The bytes of the reply for want of memory.
-fn encode_unavailable(alloc: Global) -> Result<Bytes, NoMemory>
-    ensures { IfOk result (λ bytes. bytes ≡ reply_bytes (framed_answer (reply_of Said.Memory))) }
-{
-    match encode_short(alloc, &Said::Memory)? {
-        Some(bytes) => Ok(bytes),
-        None => Err(NoMemory),
-    }
-}
-
-/// The bytes of a reply, where it is not too long for an output.
-fn encode_short(alloc: Global, said: &Said) -> Result<Option<Bytes>, NoMemory>
-    ensures { IfOk result (λ found. IfSome found (λ bytes. bytes ≡ reply_bytes (framed_answer (reply_of said.now)))) }
+    ensures { IfOk result (λ bytes. bytes ≡ reply_bytes (framed_answer (reply_of said.now))) }
 {
     let framed = framed(alloc, said)?;
     if framed.len() > LIST_LIMIT as usize {
-        return Ok(None);
+        return Err(NoMemory);
     }
-    Ok(Some(encode_reply(alloc, framed.as_slice())?))
+    encode_reply(alloc, framed.as_slice())
 }
 
 /// The HTTP message of a reply.

@@ -13,9 +13,10 @@ use Rattle.sm_replica.specs.Replicas.{Replica}
 abbrev pub shows : Replica → SecretId → Moment → Bool
 shows replica id moment = is_shown replica.region (found replica.base.rows moment id)
 
--- It gives what the replica holds, which takes nothing more, exactly where it shows the secret. Else nothing changes.
+-- It gives what the replica holds, which takes nothing more, exactly where it shows the secret, save for want of
+-- memory. Else nothing changes.
 abbrev pub Promotes : Replica → SecretId → Moment → Result Base PromoteRefused → Replica → Type 0
 Promotes old id moment (Ok base) new = IsTrue (shows old id moment) × (base ≡ old.base)
     × (new ≡ record old { promoted = true })
 Promotes old id moment (Err NoSecret) new = (shows old id moment ≡ false) × (new ≡ old)
-Promotes old id moment (Err Memory) new = new ≡ old
+Promotes old id moment (Err Memory) new = IsTrue (shows old id moment) × (new ≡ old)

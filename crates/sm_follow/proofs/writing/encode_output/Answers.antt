@@ -2,7 +2,7 @@ use Rattle.std.proofs.Common.{◌≡◌, sym, subst}
 use Rattle.std.specs.Prelude.{IfOk}
 use Rattle.sm_follow.specs.declared.output.Output.{Output as outputs}
 use Rattle.sm_follow.specs.Outputs.{IsWritten, Outgoing, output_bytes}
-use Rattle.sm_follow.proofs.WritingLemmas.{position_encoded}
+use Rattle.sm_follow.proofs.WritingLemmas.{position_encoded, reply_encoded}
 use Rattle.sm_follow.proofs.writing.encode_output.Goals as goal
 
 pub returns-in-Position : goal.returns-in-Position
@@ -14,4 +14,5 @@ returns-in-Position c =
 pub returns-in-Reply : goal.returns-in-Reply
 returns-in-Reply c =
     subst (λ (o : outputs). IfOk c.encode_said.result (λ bytes. (written : Outgoing) × IsWritten o written
-    × (bytes ≡ output_bytes written))) (sym c.in-Reply.is) c.encode_said.ensures
+    × (bytes ≡ output_bytes written))) (sym c.in-Reply.is)
+    (reply_encoded c.in-Reply.said c.encode_said.result c.encode_said.ensures)
