@@ -329,9 +329,14 @@ def shut_listener(process, port):
     libc = ctypes.CDLL(None, use_errno=True)
     other = os.pidfd_open(process)
     for file in os.listdir(f"/proc/{process}/fd"):
-        if not os.readlink(f"/proc/{process}/fd/{file}").startswith("socket:"):
+        taken = libc.syscall(PIDFD_GETFD, other, int(file), 0)
+        # The server may have closed it since it was listed.
+        if taken < 0:
             continue
-        got = socket.socket(fileno=libc.syscall(PIDFD_GETFD, other, int(file), 0))
+        if not os.readlink(f"/proc/self/fd/{taken}").startswith("socket:"):
+            os.close(taken)
+            continue
+        got = socket.socket(fileno=taken)
         if got.getsockname()[1] == port and got.getsockopt(socket.SOL_SOCKET, socket.SO_ACCEPTCONN):
             got.shutdown(socket.SHUT_RD)
         got.close()
