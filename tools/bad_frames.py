@@ -17,10 +17,12 @@ import replica
 from replica import ENTRIES, ROWS, Frame
 
 REGION = "eu-west-1"
-# What stands for the reply that shows the secret, and for that which promotes, among outputs that are positions else.
-SHOWN, PROMOTED = "shown", "promoted"
+# What stands for the reply that shows the secret, for that which promotes, and for that which refuses a change, among
+# outputs that are positions else.
+SHOWN, PROMOTED, UNCHANGED = "shown", "promoted", "unchanged"
 VALUE = b'"SecretString":"two"'
 ARN = b'{"ARN":"arn:aws:secretsmanager:us-east-1:000000000000:secret:a-AAAAAA"}'
+READ_ONLY = b'{"Message":"replica is read-only","__type":"InvalidRequestException"}'
 # When the two entries were made, that come first.
 MADE = 1700000000
 PERSON = {"caller": "", "drawn": b"", "prunes": False, "by": ""}
@@ -51,6 +53,7 @@ PUT = body("PutSecretValue", ClientRequestToken="2" * 32, SecretId="a", SecretSt
 OTHER = body("CreateSecret", drawn=bytes(6), AddReplicaRegions=[REGION], ClientRequestToken="3" * 32, Name="a", SecretString="other")
 ASKED = forged.question("GetSecretValue", SecretId="a")
 CLOSING = ASKED.replace(b"\r\n", b"\r\nConnection: close\r\n", 1)
+CHANGED = forged.question("PutSecretValue", SecretId="a", SecretString="three")
 STOPPED = forged.question("StopReplicationToReplica", SecretId="a")
 
 
@@ -143,11 +146,13 @@ def spellings():
         "two messages in a frame": wrong(message_twice),
         "a message that is cut in a frame": wrong(half),
         "no message in a frame": wrong(message(b"")),
+        "the front of a message in a frame": wrong(message(b"GET")),
         "a message with a body that is too long": wrong(message(b"POST / HTTP/1.1\r\nContent-Length: 524289\r\n\r\n")),
         "an entry of format 1": wrong(spelled(2, nothing(edition=1))),
         "an entry of format 1 behind one of format 2": wrong(spelled(2, nothing(), nothing(edition=1))),
         "an entry of format 1 before the position": wrong(spelled(0, nothing(edition=1))),
         "an empty entry": wrong(spelled(2, b"")),
+        "an entry without an act": wrong(spelled(2, bytes([2, *bytes(28)]))),
         "an entry with a byte behind it": wrong(spelled(2, nothing() + b"\0")),
         "an entry that is cut": wrong(spelled(2, nothing()[:-1])),
         "rows in a frame of entries": wrong(spelled(2, *formats.spelled_base(flawed.sound()["nothing"], 2))),
@@ -181,6 +186,7 @@ def messages():
     fresh, base = spelled(2, nothing()), rows(flawed.base(last=MADE, count=7))
     return {
         "a message that closes a connection": answered((message(CLOSING), SHOWN), (fresh, 3)),
+        "a change": answered((message(CHANGED), UNCHANGED), (fresh, 3)),
         "frames behind a promotion": answered((message(STOPPED), PROMOTED), (fresh, 2), (base, 2), (FIRST, 2)),
         "a promotion twice": answered((message(STOPPED), PROMOTED), (message(ASKED), SHOWN), (message(STOPPED), PROMOTED)),
     }
@@ -202,4 +208,5 @@ def seen(output):
 
 
 def told(reply):
-    return SHOWN if VALUE in reply else PROMOTED if reply.endswith(ARN) else reply
+    ends = {ARN: PROMOTED, READ_ONLY: UNCHANGED}
+    return SHOWN if VALUE in reply else next((kind for end, kind in ends.items() if reply.endswith(end)), reply)

@@ -1,19 +1,30 @@
-//! Runs lists of calls over accounts on disks in memory, and says what came of each call: what random lists of calls
-//! are compared with. Standard input has the lists, each call or fault in a line, with an empty line behind each list:
+//! Runs lists of calls over accounts on disks in memory, and says what came of each call and what a crash leaves.
+//! Standard input has the lists, each word in a line, with an empty line behind each list:
 //!
+//!     hold COUNT DIGITS                       so many times these bytes stand in the first file, in hexadecimal digits
 //!     fail CALL                               the device call of this number, counted from 1, fails
 //!     from CALL                               and so does each one from this number on
+//!     answer yes|no|failed|value TEXT         the rotator's next answer
 //!     ask MOMENT FIRST OPERATION JSON         a request of the account's root, for which bytes from FIRST on are drawn
-//!     work MOMENT                             the next step of a rotation, by the local rotator
+//!     work MOMENT                             the next step of a rotation, by the rotator
 //!     report PLACE MOMENT                     the verdict of this number, counted from 0
 //!     due MOMENT FIRST                        the start of a due rotation
 //!     restart
+//!     show                                    all secrets at the end, and behind each crash
+//!     crash FILL                              what a crash at the end leaves is opened
 //!
-//! An outcome is written for each call, in a line, or `refused` where an opening failed and `damaged` where it found
-//! damage, and behind them the number of entries and an empty line.
+//! The local rotator does what no answer is given for. A crash replaces by its fill the bytes that were not synced:
+//! with 0 each file is as its last sync left it, with 1 as it reads. Device calls are those below the disk that
+//! gathers.
+//!
+//! An outcome is written for each call, in a line, and behind them the number of entries and of those before the base;
+//! or `refused` where an opening failed, and where it found damage its place. The secrets are shown as a frame of rows,
+//! in hexadecimal digits. The same is written behind each line `crash FILL`, and an empty line behind the list.
 #![tactic(auto)]
 
+mod listed;
 mod reading;
+mod rows;
 mod running;
 
 use crate::reading::Asked;

@@ -2,16 +2,20 @@
 use sm_base::{Bytes, NoMemory};
 use sm_drive::Call;
 use sm_json::{Operation, ReadRequest, request_of};
-use sm_model::{Moment, Request, need};
-use sm_model_fixtures::requests::root;
+use sm_model::{Answer, Moment, Person, Request, Text, Value, need};
 use std::alloc::Global;
 
-/// The calls of a list, and the device calls that fail.
+/// What the first file holds, the calls of a list, the device calls that fail, the answers of the rotator in order,
+/// whether the secrets are shown, and the fill of each crash.
 #[derive(Drop)]
 pub struct Asked {
+    pub held: Vec<u8>,
     pub calls: Vec<Call>,
     pub fails: Vec<u64>,
     pub from: Option<u64>,
+    pub answers: Vec<Answer>,
+    pub shows: bool,
+    pub crashes: Vec<u8>,
 }
 
 /// A word, and what is behind the space after it.
@@ -53,6 +57,15 @@ fn read(alloc: Global, name: &str, json: &str) -> Option<Request> {
     }
 }
 
+/// The account's root.
+fn root() -> Person {
+    Person {
+        key: Text::fixed(""),
+        arn: Text::fixed("arn:aws:iam::000000000000:root"),
+        full: true,
+    }
+}
+
 /// The request of the account's root, with so many bytes drawn as it needs.
 fn handle_of(alloc: Global, text: &str) -> Result<Option<Call>, NoMemory> {
     let (moment, text) = parted(text);
@@ -83,13 +96,34 @@ fn call_of(alloc: Global, word: &str, rest: &str) -> Result<Option<Call>, NoMemo
     }
 }
 
+/// The answer of a line, if it is one.
+fn answer_of(alloc: Global, text: &str) -> Result<Option<Answer>, NoMemory> {
+    let (word, rest) = parted(text);
+    if word == "yes" {
+        Ok(Some(Answer::Yes))
+    } else if word == "no" {
+        Ok(Some(Answer::No))
+    } else if word == "failed" {
+        Ok(Some(Answer::Failed))
+    } else if word == "value" {
+        let text = Text::new(String::from_str(alloc, rest)?);
+        Ok(Some(Answer::Value(Value::Text(text))))
+    } else {
+        Ok(None)
+    }
+}
+
 impl Asked {
     /// No calls, and none that fails. It takes no memory.
     pub fn new(alloc: Global) -> Asked {
         Asked {
+            held: Vec::new(alloc),
             calls: Vec::new(alloc),
             fails: Vec::new(alloc),
             from: None,
+            answers: Vec::new(alloc),
+            shows: false,
+            crashes: Vec::new(alloc),
         }
     }
 
@@ -100,6 +134,17 @@ impl Asked {
             self.fails.push(number(rest))?;
         } else if word == "from" {
             self.from = Some(number(rest));
+        } else if word == "show" {
+            self.shows = true;
+        } else if word == "crash" {
+            self.crashes.push((number(rest) % 256) as u8)?;
+        } else if word == "hold" {
+            self.hold(alloc, rest)?;
+        } else if word == "answer" {
+            match answer_of(alloc, rest)? {
+                Some(answer) => self.answers.push(answer)?,
+                None => {}
+            }
         } else {
             match call_of(alloc, word, rest)? {
                 Some(call) => self.calls.push(call)?,
@@ -107,5 +152,19 @@ impl Asked {
             }
         }
         Ok(())
+    }
+
+    /// Adds bytes to what the first file holds, so many times.
+    fn hold(&mut self, alloc: Global, text: &str) -> Result<(), NoMemory> {
+        let (count, digits) = parted(text);
+        match hex::decode(alloc, digits) {
+            Ok(bytes) => {
+                for _ in 0..number(count) {
+                    self.held.extend_from_slice(bytes.as_slice())?;
+                }
+                Ok(())
+            }
+            Err(_) => Ok(()),
+        }
     }
 }

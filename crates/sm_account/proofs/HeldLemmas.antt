@@ -5,8 +5,8 @@ use Rattle.sm_core.specs.Histories.{InTime, Legal, last_moment, replay}
 use Rattle.sm_model.specs.declared.entry.Entry.{Entry}
 use Rattle.sm_opening.specs.Lawful.{IsLawful, MayFollow, base_under, made_of}
 use Rattle.sm_record.specs.declared.base.Base.{Base}
-use Rattle.sm_replay.specs.Following.{after_all, after_entry}
-use Rattle.sm_replay.proofs.FollowLemmas.{after_count, after_joined, after_last, after_rows, come_more}
+use Rattle.sm_opening.specs.Following.{after_all, after_entry}
+use Rattle.sm_opening.proofs.FollowLemmas.{after_count, after_joined, after_last, after_rows, come_more}
 use Rattle.sm_store.specs.Held.{Held, with_entry}
 use Rattle.sm_account.specs.AccountState.{with_entries}
 

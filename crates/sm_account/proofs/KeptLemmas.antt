@@ -16,8 +16,8 @@ use Rattle.sm_core.specs.Effects.{effect}
 use Rattle.sm_core.specs.Histories.{LegalEntry}
 use Rattle.sm_disk.specs.declared.disk.Disk.{Ghosts}
 use Rattle.sm_opening.specs.Lawful.{IsLawful, MayFollow, MayFollowIf, base_under, made_of}
-use Rattle.sm_replay.specs.Following.{entries_limit}
-use Rattle.sm_replay.proofs.FollowLemmas.{one_comes}
+use Rattle.sm_opening.specs.Following.{entries_limit}
+use Rattle.sm_opening.proofs.FollowLemmas.{one_comes}
 use Rattle.sm_store.specs.BaseAppends.{SamePlace}
 use Rattle.sm_store.specs.BaseStores as stores
 use Rattle.sm_store.specs.Held.{Held, with_entry}

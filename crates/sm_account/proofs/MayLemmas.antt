@@ -16,7 +16,7 @@ use Rattle.sm_claims.proofs.ArnLemmas.{due_found, due_in}
 use Rattle.sm_claims.proofs.FreshLemmas.{fresh_attempt, fresh_job}
 use Rattle.sm_judge_rotations.specs.Reported.{MayReport, is_at_step}
 use Rattle.sm_rotator.specs.declared.work.Work.{Work}
-use Rattle.sm_sizes.specs.Spellable.{IsStep, is_small_answer}
+use Rattle.sm_encoded_size.specs.Spellable.{IsStep, is_small_answer}
 use Rattle.sm_table.specs.Found.{found_arn}
 use Rattle.sm_table.specs.Sound.{Sound}
 use Rattle.sm_table.proofs.SoundLaws.{found_arn_sound}

@@ -10,8 +10,8 @@ use Rattle.sm_core.specs.Vouching.{EachAllowed, Vouched}
 use Rattle.sm_core.proofs.VouchedLemmas.{act_vouched, legal_vouched}
 use Rattle.sm_opening.specs.Lawful.{IsLawful, MayFollowIf, base_under, made_of}
 use Rattle.sm_record.specs.declared.base.Base.{Base}
-use Rattle.sm_replay.proofs.FollowLemmas.{come_front}
-use Rattle.sm_replay.proofs.SoundLaws.{come_sound}
+use Rattle.sm_opening.proofs.FollowLemmas.{come_front}
+use Rattle.sm_opening.proofs.SoundLaws.{come_sound}
 use Rattle.sm_sound.specs.Bases.{IsSound}
 use Rattle.sm_account.specs.declared.account_state.AccountState.{AccountState}
 use Rattle.sm_account.specs.Allowed.{EntriesAllowed, IsAllowedAt, StayVouched}

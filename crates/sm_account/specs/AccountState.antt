@@ -14,7 +14,7 @@ use Rattle.sm_disk.specs.declared.disk.Disk.{Ghosts}
 use Rattle.sm_journal.specs.Records.{body_limit}
 use Rattle.sm_journal.specs.declared.format.Format.TheVariants.{Second}
 use Rattle.sm_opening.specs.Lawful.{base_under, IsLawful, MayFollowIf}
-use Rattle.sm_replay.specs.Following.{entries_limit}
+use Rattle.sm_opening.specs.Following.{entries_limit}
 use Rattle.sm_store.specs.BaseAppends.{IsReady}
 use Rattle.sm_store.specs.BaseStores as stores
 use Rattle.sm_store.specs.Held.{Held}

@@ -20,7 +20,7 @@ use Rattle.sm_judging.specs.declared.judged.Judged.TheVariants.{Accept, Refuse, 
 use Rattle.sm_core.specs.Effects.{entry_of}
 use Rattle.sm_core.specs.Histories.{later}
 use Rattle.sm_core.specs.Judging.{judgement_for}
-use Rattle.sm_replay.specs.Following.{entries_limit}
+use Rattle.sm_opening.specs.Following.{entries_limit}
 use Rattle.sm_account.specs.States.{State, size_of}
 
 -- a refusal, or a reply and the entry that is due

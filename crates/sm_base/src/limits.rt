@@ -1,6 +1,7 @@
 //! The limits of an account, of a request's members, of persons and of the server, each of which has its one name.
 //! AWS Secrets Manager User Guide, "AWS Secrets Manager quotas"; API Reference, the length constraints of request
 //! parameters.
+ghost use Rattle.std.specs.Prelude.{◌≡◌};
 
 // ---- the account
 
@@ -123,3 +124,53 @@ pub const CONNECTION_WORKERS_LIMIT: u32 = 64;
 
 /// How many rotation workers a server may have.
 pub const ROTATION_WORKERS_LIMIT: u32 = 16;
+
+// ---- the same in numbers
+
+/// The limits of an account, in numbers: a constant that changes is refused here.
+pub fn limits_of_accounts_are_as_stated()
+    ensures secrets { SECRETS_LIMIT ≡ 10000 }
+    ensures versions { VERSIONS_LIMIT ≡ 1000 }
+    ensures newest_kept { NEWEST_KEPT ≡ 100 }
+    ensures seconds_kept { SECONDS_KEPT ≡ 86400 }
+    ensures labels { LABELS_LIMIT ≡ 20 }
+    ensures tags { TAGS_LIMIT ≡ 50 }
+    ensures regions { REGIONS_LIMIT ≡ 20 }
+    ensures entries { ENTRIES_LIMIT ≡ 1000000 }
+    ensures journal { JOURNAL_LIMIT ≡ 536870912 }
+    ensures last_date { LAST_DATE ≡ 200086400000 }
+    ensures last_rotation_date { LAST_ROTATION_DATE ≡ 212622780800 }
+{}
+
+/// The limits of requests' members, in numbers.
+pub fn limits_of_members_are_as_stated()
+    ensures value { VALUE_LIMIT ≡ 65536 }
+    ensures description { DESCRIPTION_LIMIT ≡ 2048 }
+    ensures tag_key { TAG_KEY_LIMIT ≡ 128 }
+    ensures tag_value { TAG_VALUE_LIMIT ≡ 256 }
+    ensures policy { POLICY_LIMIT ≡ 20480 }
+    ensures shortest_window { SHORTEST_WINDOW ≡ 7 }
+    ensures longest_window { LONGEST_WINDOW ≡ 30 }
+    ensures default_window { DEFAULT_WINDOW ≡ 30 }
+    ensures page { PAGE_LIMIT ≡ 100 }
+    ensures batch { BATCH_LIMIT ≡ 20 }
+    ensures filters { FILTERS_LIMIT ≡ 10 }
+    ensures filter_values { FILTER_VALUES_LIMIT ≡ 10 }
+    ensures filter_value { FILTER_VALUE_LIMIT ≡ 512 }
+    ensures password { PASSWORD_LIMIT ≡ 4096 }
+    ensures password_length { PASSWORD_LENGTH ≡ 32 }
+    ensures excluded { EXCLUDED_LIMIT ≡ 4096 }
+    ensures region { REGION_LIMIT ≡ 32 }
+    ensures schedule { SCHEDULE_LIMIT ≡ 256 }
+{}
+
+/// The limits of rotations, persons and servers, in numbers.
+pub fn limits_of_rotations_and_servers_are_as_stated()
+    ensures attempts { ATTEMPTS_LIMIT ≡ 5 }
+    ensures days { DAYS_LIMIT ≡ 1000 }
+    ensures key { KEY_LIMIT ≡ 128 }
+    ensures caller { CALLER_LIMIT ≡ 256 }
+    ensures seats { SEATS_LIMIT ≡ 128 }
+    ensures connection_workers { CONNECTION_WORKERS_LIMIT ≡ 64 }
+    ensures rotation_workers { ROTATION_WORKERS_LIMIT ≡ 16 }
+{}

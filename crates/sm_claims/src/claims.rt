@@ -13,6 +13,11 @@ use sm_rotation::stepping::is_at;
 /// After how many seconds a claim ends.
 pub const CLAIM_SECONDS: u64 = 30;
 
+/// The number as it is stated, so that the constant stays it.
+pub fn claims_end_as_stated()
+    ensures { CLAIM_SECONDS ≡ 30 }
+{}
+
 /// A rotator behind an address is asked for a step no longer than the claim of the step stands.
 pub fn a_step_ends_before_its_claim()
     ensures { STEP_SECONDS < CLAIM_SECONDS }

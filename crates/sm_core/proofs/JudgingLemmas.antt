@@ -30,7 +30,7 @@ use Rattle.sm_judge_reads.proofs.DescribeSecretLemmas.{describe_refuses, describ
 use Rattle.sm_judge_reads.proofs.GetSecretValueLemmas.{get_refuses, get_reads, get_change}
 use Rattle.sm_judge_values.proofs.PutSecretValueLemmas.{put_refuses, put_repeats, put_change}
 use Rattle.sm_judge_values.proofs.UpdateSecretLemmas.{update_refuses, update_repeats, update_change}
-use Rattle.sm_judge_labels.proofs.UpdateSecretVersionStageLemmas.{move_refuses, move_changes, move_change}
+use Rattle.sm_judge_labels_and_regions.proofs.UpdateSecretVersionStageLemmas.{move_refuses, move_changes, move_change}
 use Rattle.sm_judge_lists_and_passwords.specs.BatchGetSecretValue.{value_question}
 use Rattle.sm_judge_lists_and_passwords.proofs.BatchGetSecretValueLemmas.{batch_refuses, batch_reads}
 use Rattle.sm_judge_lists_and_passwords.proofs.GetRandomPasswordLemmas.{password_refuses, password_reads}
@@ -40,9 +40,9 @@ use Rattle.sm_judge_policies.proofs.DeleteResourcePolicyLemmas.{delete_policy_re
 use Rattle.sm_judge_policies.proofs.GetResourcePolicyLemmas.{get_policy_refuses, get_policy_reads, get_policy_change}
 use Rattle.sm_judge_policies.proofs.PutResourcePolicyLemmas.{put_policy_refuses, put_policy_changes, put_policy_change}
 use Rattle.sm_judge_policies.proofs.ValidateResourcePolicyLemmas.{validate_refuses, validate_reads, validate_change}
-use Rattle.sm_regions.proofs.RemoveRegionsFromReplicationLemmas.{remove_refuses, remove_changes, remove_change}
-use Rattle.sm_regions.proofs.ReplicateSecretToRegionsLemmas.{replicate_refuses, replicate_changes, replicate_change}
-use Rattle.sm_regions.proofs.StopReplicationToReplicaLemmas.{stop_refuses, stop_reads, stop_change}
+use Rattle.sm_judge_labels_and_regions.proofs.RemoveRegionsFromReplicationLemmas.{remove_refuses, remove_changes, remove_change}
+use Rattle.sm_judge_labels_and_regions.proofs.ReplicateSecretToRegionsLemmas.{replicate_refuses, replicate_changes, replicate_change}
+use Rattle.sm_judge_labels_and_regions.proofs.StopReplicationToReplicaLemmas.{stop_refuses, stop_reads, stop_change}
 use Rattle.sm_judge_rotations.proofs.CancelRotateSecretLemmas.{cancel_refuses, cancel_changes, cancel_change}
 use Rattle.sm_judge_rotations.proofs.RotateSecretLemmas.{rotate_refuses, rotate_repeats, rotate_change}
 use Rattle.sm_judge_deletion_and_tags.specs.DeleteSecret.{delete_judgement, deletes_nobody}

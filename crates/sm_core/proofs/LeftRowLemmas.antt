@@ -34,10 +34,10 @@ use Rattle.sm_judge_values.specs.declared.put_secret_value.PutCall.{PutCall}
 use Rattle.sm_judge_values.specs.CreateSecret.{create_effect}
 use Rattle.sm_judge_values.specs.PutSecretValue.{put_call, put_into, put_effect_of}
 use Rattle.sm_judge_values.specs.UpdateSecret.{update_call, update_into}
-use Rattle.sm_judge_labels.specs.UpdateSecretVersionStage.{move_call, move_in}
+use Rattle.sm_judge_labels_and_regions.specs.UpdateSecretVersionStage.{move_call, move_in}
 use Rattle.sm_judge_policies.specs.Kept.{with_policy}
-use Rattle.sm_regions.specs.RemoveRegionsFromReplication.{unreplicated}
-use Rattle.sm_regions.specs.ReplicateSecretToRegions.{replicated}
+use Rattle.sm_judge_labels_and_regions.specs.RemoveRegionsFromReplication.{unreplicated}
+use Rattle.sm_judge_labels_and_regions.specs.ReplicateSecretToRegions.{replicated}
 use Rattle.sm_judge_rotations.specs.CancelRotateSecret.{cancelled}
 use Rattle.sm_judge_rotations.specs.Reported.{answered}
 use Rattle.sm_judge_rotations.specs.RotateSecret.{plan_of, token_to_start, rotates}

@@ -42,10 +42,10 @@ use Rattle.sm_judge_values.specs.CreateSecret.{create_call, empty_row, with_firs
 use Rattle.sm_judge_values.specs.NewValue.{token_of, judged_by}
 use Rattle.sm_judge_values.specs.PutSecretValue.{put_call, labels_placed, put_into, put_on, put_judgement_of, put_effect_of}
 use Rattle.sm_judge_values.specs.UpdateSecret.{update_call, redescribed, with_value, update_into, update_placed, update_accepted, update_repeated, update_on, update_judgement, update_effect}
-use Rattle.sm_judge_labels.specs.UpdateSecretVersionStage.{move_call, move_in}
+use Rattle.sm_judge_labels_and_regions.specs.UpdateSecretVersionStage.{move_call, move_in}
 use Rattle.sm_judge_policies.specs.Kept.{with_policy}
-use Rattle.sm_regions.specs.RemoveRegionsFromReplication.{unreplicated}
-use Rattle.sm_regions.specs.ReplicateSecretToRegions.{replicated}
+use Rattle.sm_judge_labels_and_regions.specs.RemoveRegionsFromReplication.{unreplicated}
+use Rattle.sm_judge_labels_and_regions.specs.ReplicateSecretToRegions.{replicated}
 use Rattle.sm_judge_rotations.specs.CancelRotateSecret.{cancelled}
 use Rattle.sm_judge_rotations.specs.declared.rotate_secret.Plan.{Plan}
 use Rattle.sm_judge_rotations.specs.Reported.{answered}

@@ -14,11 +14,11 @@ use Rattle.sm_judging.specs.Changes.{settled}
 use Rattle.sm_judge_values.specs.CreateSecret.{create_effect}
 use Rattle.sm_judge_values.specs.PutSecretValue.{put_effect}
 use Rattle.sm_judge_values.specs.UpdateSecret.{update_effect}
-use Rattle.sm_judge_labels.specs.UpdateSecretVersionStage.{move_effect}
+use Rattle.sm_judge_labels_and_regions.specs.UpdateSecretVersionStage.{move_effect}
 use Rattle.sm_judge_policies.specs.DeleteResourcePolicy.{delete_policy_effect}
 use Rattle.sm_judge_policies.specs.PutResourcePolicy.{put_policy_effect}
-use Rattle.sm_regions.specs.RemoveRegionsFromReplication.{remove_effect}
-use Rattle.sm_regions.specs.ReplicateSecretToRegions.{replicate_effect}
+use Rattle.sm_judge_labels_and_regions.specs.RemoveRegionsFromReplication.{remove_effect}
+use Rattle.sm_judge_labels_and_regions.specs.ReplicateSecretToRegions.{replicate_effect}
 use Rattle.sm_judge_rotations.specs.Begun.{begun_effect}
 use Rattle.sm_judge_rotations.specs.CancelRotateSecret.{cancel_effect}
 use Rattle.sm_judge_rotations.specs.Reported.{reported_effect}

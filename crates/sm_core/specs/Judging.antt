@@ -14,7 +14,7 @@ use Rattle.sm_judge_reads.specs.DescribeSecret.{describe_judgement, describe_ref
 use Rattle.sm_judge_reads.specs.GetSecretValue.{get_judgement, get_refusal}
 use Rattle.sm_judge_values.specs.PutSecretValue.{put_judgement, put_refusal, put_repeat}
 use Rattle.sm_judge_values.specs.UpdateSecret.{update_judgement, update_refusal, update_repeat}
-use Rattle.sm_judge_labels.specs.UpdateSecretVersionStage.{move_judgement, move_refusal}
+use Rattle.sm_judge_labels_and_regions.specs.UpdateSecretVersionStage.{move_judgement, move_refusal}
 use Rattle.sm_judge_lists_and_passwords.specs.BatchGetSecretValue.{value_question, no_question, batch_judgement, batch_refusal}
 use Rattle.sm_judge_lists_and_passwords.specs.GetRandomPassword.{password_judgement, password_refusal}
 use Rattle.sm_judge_lists_and_passwords.specs.ListSecretVersionIds.{versions_judgement, versions_refusal}
@@ -23,9 +23,9 @@ use Rattle.sm_judge_policies.specs.DeleteResourcePolicy.{delete_policy_judgement
 use Rattle.sm_judge_policies.specs.GetResourcePolicy.{get_policy_judgement, get_policy_refusal}
 use Rattle.sm_judge_policies.specs.PutResourcePolicy.{put_policy_judgement, put_policy_refusal}
 use Rattle.sm_judge_policies.specs.ValidateResourcePolicy.{validate_judgement, validate_refusal}
-use Rattle.sm_regions.specs.RemoveRegionsFromReplication.{remove_judgement, remove_refusal}
-use Rattle.sm_regions.specs.ReplicateSecretToRegions.{replicate_judgement, replicate_refusal}
-use Rattle.sm_regions.specs.StopReplicationToReplica.{stop_judgement, stop_refusal}
+use Rattle.sm_judge_labels_and_regions.specs.RemoveRegionsFromReplication.{remove_judgement, remove_refusal}
+use Rattle.sm_judge_labels_and_regions.specs.ReplicateSecretToRegions.{replicate_judgement, replicate_refusal}
+use Rattle.sm_judge_labels_and_regions.specs.StopReplicationToReplica.{stop_judgement, stop_refusal}
 use Rattle.sm_judge_rotations.specs.CancelRotateSecret.{cancel_judgement, cancel_refusal}
 use Rattle.sm_judge_rotations.specs.RotateSecret.{rotate_judgement, rotate_refusal, rotate_repeat}
 use Rattle.sm_judge_deletion_and_tags.specs.DeleteSecret.{delete_judgement, delete_refusal, deletes_nobody}

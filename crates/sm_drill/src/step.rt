@@ -11,6 +11,13 @@ pub const SECRETS: u64 = 2_000;
 /// The first message that asks for a value.
 pub const FIRST_READ: u64 = 8_000;
 
+/// The numbers as they are stated, so that the constants stay them.
+pub fn numbers_of_a_drill_are_as_stated()
+    ensures messages { MESSAGES ≡ 10000 }
+    ensures secrets { SECRETS ≡ 2000 }
+    ensures first_read { FIRST_READ ≡ 8000 }
+{}
+
 /// What a message asks for: that the secret of this number is made, given a value, or shown.
 #[derive(Clone, Copy, Debug, PartialEq, Eq)]
 pub enum Step {

@@ -19,10 +19,10 @@ use Rattle.sm_rotator.specs.declared.verdict.Verdict.{Verdict}
 use Rattle.sm_core.specs.Histories.{InTime}
 use Rattle.sm_core.specs.Vouching.{EachAllowed, LegalKeepsVouched}
 use Rattle.sm_core.proofs.VouchedLemmas.{legal_vouched}
-use Rattle.sm_replay.specs.Following.{entries_limit, MayCome}
-use Rattle.sm_replay.specs.Laws.{KeepsSound}
-use Rattle.sm_replay.proofs.FollowLemmas.{after_count, come_front, none_come}
-use Rattle.sm_replay.proofs.SoundLaws.{come_sound}
+use Rattle.sm_opening.specs.Following.{entries_limit, MayCome}
+use Rattle.sm_opening.specs.ReplayLaws.{KeepsSound}
+use Rattle.sm_opening.proofs.FollowLemmas.{after_count, come_front, none_come}
+use Rattle.sm_opening.proofs.SoundLaws.{come_sound}
 use Rattle.sm_sound.specs.Bases.{IsSound}
 use Rattle.sm_store.specs.BaseStores as stores
 use Rattle.sm_store.specs.Held.{Held}

@@ -9,8 +9,8 @@ use Rattle.sm_journal.specs.declared.answers.OpenRefused.TheVariants.{Damaged, F
 use Rattle.sm_journal.specs.declared.format.Format.{Format}
 use Rattle.sm_model.specs.declared.entry.Entry.{Entry}
 use Rattle.sm_record.specs.declared.edition.Edition.{Edition}
-use Rattle.sm_replay.specs.Following.{MayCome}
-use Rattle.sm_replay.proofs.FollowLemmas.{come_front, come_more}
+use Rattle.sm_opening.specs.Following.{MayCome}
+use Rattle.sm_opening.proofs.FollowLemmas.{come_front, come_more}
 use Rattle.sm_sound.specs.Bases.{IsSound}
 use Rattle.sm_store.specs.BaseFiles.{HoldsAs, active}
 use Rattle.sm_store.specs.BaseOpenings.{IsDamagedAt}

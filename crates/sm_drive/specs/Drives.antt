@@ -7,7 +7,7 @@ use Rattle.sm_disk.specs.declared.disk.Disk.{Ghosts as DiskGhosts}
 use Rattle.sm_model.specs.declared.entry.Entry.{Entry}
 use Rattle.sm_opening.specs.Lawful.{made_of}
 use Rattle.sm_record.specs.declared.base.Base.{Base}
-use Rattle.sm_replay.specs.Following.{after_all, MayCome}
+use Rattle.sm_opening.specs.Following.{after_all, MayCome}
 use Rattle.sm_rotation.specs.Vouched.{Replies}
 use Rattle.sm_rotator.specs.declared.rotator.Rotator.{Ghosts as RotatorGhosts}
 use Rattle.sm_sound.specs.Bases.{IsSound}

@@ -5,7 +5,7 @@ use Rattle.sm_base.specs.SecretId.{secret_id}
 use Rattle.sm_base.specs.declared.limits.TheConstants.{JOURNAL_LIMIT}
 use Rattle.sm_base.specs.declared.moment.Moment.{Moment}
 use Rattle.sm_disk.specs.declared.disk.Disk.{Ghosts}
-use Rattle.sm_frame.specs.declared.frame.Frame.{Frame}
+use Rattle.sm_frames.specs.declared.frame.Frame.{Frame}
 use Rattle.sm_frames.specs.declared.input.Input.{Input}
 use Rattle.sm_frames.specs.declared.input.Input.TheVariants as inputs
 use Rattle.sm_judging.specs.declared.judged.Judged.{Judged}

@@ -7,7 +7,7 @@ use Rattle.sm_disk.specs.declared.disk.Disk.{Ghosts}
 use Rattle.sm_frames.specs.declared.input.Input.{Input}
 use Rattle.sm_journal.specs.declared.format.Format.{Format}
 use Rattle.sm_principal.specs.declared.people.People.{People}
-use Rattle.sm_replay.specs.Following.{origin}
+use Rattle.sm_opening.specs.Following.{origin}
 use Rattle.sm_store.specs.BaseFiles.{HoldsAs}
 use Rattle.sm_store.specs.BaseOpenings.{ListsStay, ReadsActive}
 use Rattle.sm_store.specs.BaseStores.{IsOpened, disk_of, is_unsure, limit_of}

@@ -8,7 +8,7 @@ use Rattle.sm_base.specs.declared.moment.Moment.{Moment}
 use Rattle.sm_access.specs.Admission.{admission}
 use Rattle.sm_core.specs.Histories.{later}
 use Rattle.sm_forms.specs.Forms.{forms_of}
-use Rattle.sm_frame.specs.declared.frame.Frame.{Frame}
+use Rattle.sm_frames.specs.declared.frame.Frame.{Frame}
 use Rattle.sm_frames.specs.declared.input.Input.{Input}
 use Rattle.sm_frames.specs.declared.input.Input.TheVariants as inputs
 use Rattle.sm_http.specs.Messages.{IsMessage, Message}

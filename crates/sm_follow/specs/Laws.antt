@@ -1,7 +1,7 @@
 -- What holds of whole runs of a replica.
 use Rattle.std.specs.Prelude.{◌≡◌, ◌≤◌, ℕ, ◌+◌, Bool, true, false, List, [], ◌∷◌, ◌++◌, length}
 use Rattle.sm_disk.specs.declared.disk.Disk.{Ghosts}
-use Rattle.sm_frame.specs.declared.frame.Frame.{Frame}
+use Rattle.sm_frames.specs.declared.frame.Frame.{Frame}
 use Rattle.sm_frames.specs.declared.input.Input.{Input}
 use Rattle.sm_frames.specs.declared.input.Input.TheVariants as read
 use Rattle.sm_model.specs.declared.entry.Entry.{Entry}

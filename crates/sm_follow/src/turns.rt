@@ -1,7 +1,7 @@
 //! One input of a replica.
 ghost use Rattle.std.specs.Prelude.{◌≡◌, List, ℕ, []};
 ghost use Rattle.std.specs.Io.KnownBytes.{append_known};
-ghost use Rattle.sm_frame.specs.Spelled.{HasParts};
+ghost use Rattle.sm_frames.specs.Spelled.{HasParts};
 ghost use Rattle.sm_frames.specs.Frames.{IsFrame};
 ghost use Rattle.sm_frames.specs.declared.input.Input.TheVariants as inputs;
 ghost use Rattle.sm_follow.specs.declared.follower.Turned.TheVariants as turned;
@@ -14,8 +14,7 @@ use crate::answering::answer_message;
 use crate::follower::{Follower, Turned};
 use crate::output::Output;
 use sm_disk::Disk;
-use sm_frame::Frame;
-use sm_frames::Input;
+use sm_frames::{Frame, Input};
 use sm_io::Clock;
 use sm_json::Scratch;
 use sm_principal::People;

@@ -15,15 +15,15 @@ use Rattle.sm_record.specs.declared.edition.Edition.TheVariants.{Second}
 use Rattle.sm_record.specs.Snapshots.{snapshot, HasSnapshot}
 use Rattle.sm_record.specs.Spelling.{spelling, HasSpelling}
 use Rattle.sm_record.proofs.ReadingLemmas.{with_front}
-use Rattle.sm_frame.specs.declared.frame.Frame.TheVariants as frame
-use Rattle.sm_frame.specs.declared.frame.TheConstants.{FRAME_ENTRIES}
+use Rattle.sm_frames.specs.declared.frame.Frame.TheVariants as frame
+use Rattle.sm_frames.specs.declared.frame.TheConstants.{FRAME_ENTRIES}
 use Rattle.sm_frames.specs.declared.input.Input.{Input}
 use Rattle.sm_frames.specs.declared.input.Input.TheVariants as input
 use Rattle.sm_frames.specs.declared.input.TheConstants.{LIST_LIMIT}
 use Rattle.sm_frames.specs.declared.parts.FrameRefused.{FrameRefused}
 use Rattle.sm_frames.specs.declared.parts.FrameRefused.TheVariants.{NoFrame, Memory}
 use Rattle.sm_frames.specs.Decoding.{IsUnread, FailsAs, IsOneEntry, AreEntries, IsMade, IsDecoded}
-use Rattle.sm_frame.specs.Spelled.{AreSpelled}
+use Rattle.sm_frames.specs.Spelled.{AreSpelled}
 use Rattle.sm_frames.specs.Frames.{IsOneMessage, parcel_of, IsFrame}
 use Rattle.sm_frames.specs.Parcels.{Parcel, Entries, Rows, Message, parcel, parcel_in, listed_size, IsWithin}
 use Rattle.sm_frames.proofs.ParcelLaws.{parts_are, read_is_parcel, unread_is_none}

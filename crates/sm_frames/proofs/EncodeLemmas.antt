@@ -13,9 +13,9 @@ use Rattle.sm_record.specs.declared.base.Base.{Base}
 use Rattle.sm_record.specs.Snapshots.{snapshot, HasSnapshot, start_body, secret_bodies}
 use Rattle.sm_record.proofs.ReadingLemmas.{item_fits}
 use Rattle.sm_record.proofs.SnapshotLaws.{snapshot_bodies, snapshot_fits, secret_fits, more_bodies}
-use Rattle.sm_frame.specs.declared.frame.Frame.TheVariants as frame
-use Rattle.sm_frame.specs.declared.frame.TheConstants.{FRAME_ENTRIES}
-use Rattle.sm_frame.specs.Spelled.{AreSpelled}
+use Rattle.sm_frames.specs.declared.frame.Frame.TheVariants as frame
+use Rattle.sm_frames.specs.declared.frame.TheConstants.{FRAME_ENTRIES}
+use Rattle.sm_frames.specs.Spelled.{AreSpelled}
 use Rattle.sm_frames.specs.declared.encoding.EncodeRefused.{EncodeRefused}
 use Rattle.sm_frames.specs.declared.encoding.EncodeRefused.TheVariants.{TooLong, Memory}
 use Rattle.sm_frames.specs.Outputs.{IsEncoded, IfTooLong}

@@ -7,7 +7,7 @@ use Rattle.sm_record.specs.Fields.{count, long, octets, listed}
 use Rattle.sm_record.proofs.FieldLaws.{count_lawful, long_lawful}
 use Rattle.sm_frames.specs.declared.extent.Extent.{Extent}
 use Rattle.sm_frames.specs.declared.extent.Extent.TheVariants.{Whole, Over, Open}
-use Rattle.sm_frame.specs.declared.frame.TheConstants.{FRAME_ENTRIES}
+use Rattle.sm_frames.specs.declared.frame.TheConstants.{FRAME_ENTRIES}
 use Rattle.sm_frames.specs.declared.input.TheConstants.{LIST_LIMIT}
 use Rattle.sm_frames.specs.Extents.{further, then_extent, reach, octets_extent, items_extent, counted, list_extent, placed, any_count, body_extent, extent}
 use Rattle.sm_frames.specs.Laws.{Stays, StaysReached}

@@ -9,12 +9,12 @@ use Rattle.sm_record.proofs.SnapshotLaws.{spells_one_base}
 use Rattle.sm_record.proofs.SpellingLaws.{spells_one}
 use Rattle.sm_frames.specs.declared.extent.Extent.{Extent}
 use Rattle.sm_frames.specs.declared.extent.Extent.TheVariants.{Whole, Over}
-use Rattle.sm_frame.specs.declared.frame.Frame.{Frame as frames}
-use Rattle.sm_frame.specs.declared.frame.Frame.TheVariants as frame
+use Rattle.sm_frames.specs.declared.frame.Frame.{Frame as frames}
+use Rattle.sm_frames.specs.declared.frame.Frame.TheVariants as frame
 use Rattle.sm_frames.specs.declared.input.Input.{Input}
 use Rattle.sm_frames.specs.declared.input.Input.TheVariants as input
 use Rattle.sm_frames.specs.Extents.{extent}
-use Rattle.sm_frame.specs.Spelled.{AreSpelled}
+use Rattle.sm_frames.specs.Spelled.{AreSpelled}
 use Rattle.sm_frames.specs.Frames.{parcel_of, HasInputParts, frame_bytes}
 use Rattle.sm_frames.specs.Laws.{ReachesItsBytes, Stays, SpellsOneFrame, StaysBad}
 use Rattle.sm_frames.specs.Parcels.{Message}

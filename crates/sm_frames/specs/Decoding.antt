@@ -8,7 +8,7 @@ use Rattle.sm_frames.specs.declared.parts.FrameRefused.{FrameRefused}
 use Rattle.sm_frames.specs.declared.parts.FrameRefused.TheVariants.{NoFrame, Memory}
 use Rattle.sm_frames.specs.declared.parts.Parts.{Parts}
 use Rattle.sm_frames.specs.declared.parts.Parts.TheVariants as parts
-use Rattle.sm_frame.specs.Spelled.{AreSpelled}
+use Rattle.sm_frames.specs.Spelled.{AreSpelled}
 use Rattle.sm_frames.specs.Frames.{parcel_of, IsFrame, frame_bytes}
 use Rattle.sm_frames.specs.Parcels.{Parcel, Entries, Rows, Message}
 

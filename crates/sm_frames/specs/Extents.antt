@@ -3,7 +3,7 @@ use Rattle.std.specs.Prelude.{ℕ, zero, suc, ◌+◌, ◌-◌, ◌^◌, ◌==�
 use Rattle.sm_record.specs.Fields.{count, long}
 use Rattle.sm_frames.specs.declared.extent.Extent.{Extent}
 use Rattle.sm_frames.specs.declared.extent.Extent.TheVariants.{Whole, Over, Open}
-use Rattle.sm_frame.specs.declared.frame.TheConstants.{FRAME_ENTRIES}
+use Rattle.sm_frames.specs.declared.frame.TheConstants.{FRAME_ENTRIES}
 use Rattle.sm_frames.specs.declared.input.TheConstants.{LIST_LIMIT}
 
 -- so many bytes, and what reaches on behind them

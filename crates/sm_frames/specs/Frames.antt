@@ -5,11 +5,11 @@ use Rattle.sm_http.specs.Messages.{IsMessage}
 use Rattle.sm_record.specs.declared.edition.Edition.TheVariants.{Second}
 use Rattle.sm_record.specs.Snapshots.{snapshot}
 use Rattle.sm_record.specs.Spelling.{spelling}
-use Rattle.sm_frame.specs.declared.frame.Frame.{Frame as frames}
-use Rattle.sm_frame.specs.declared.frame.Frame.TheVariants as frame
+use Rattle.sm_frames.specs.declared.frame.Frame.{Frame as frames}
+use Rattle.sm_frames.specs.declared.frame.Frame.TheVariants as frame
 use Rattle.sm_frames.specs.declared.input.Input.{Input}
 use Rattle.sm_frames.specs.declared.input.Input.TheVariants as input
-use Rattle.sm_frame.specs.Spelled.{HasParts}
+use Rattle.sm_frames.specs.Spelled.{HasParts}
 use Rattle.sm_frames.specs.Parcels.{Parcel, Entries, Rows, Message, parcel, IsWithin}
 
 -- the parts of a frame: entries are spelled in the second format, and so are rows

@@ -1,3 +1,4 @@
+pub mod Spelled
 pub mod Extents
 pub mod Parcels
 pub mod Frames

@@ -3,7 +3,7 @@ use Rattle.std.specs.Prelude.{⊤, ◌≡◌, ℕ, List, ◌∷◌, Result, Ok, 
 use Rattle.sm_record.specs.Fields.{long, octets}
 use Rattle.sm_frames.specs.declared.encoding.EncodeRefused.{EncodeRefused}
 use Rattle.sm_frames.specs.declared.encoding.EncodeRefused.TheVariants.{TooLong, Memory}
-use Rattle.sm_frame.specs.declared.frame.Frame.{Frame}
+use Rattle.sm_frames.specs.declared.frame.Frame.{Frame}
 use Rattle.sm_frames.specs.declared.input.Input.TheVariants as input
 use Rattle.sm_frames.specs.Frames.{parts_of, IsFrame, frame_bytes}
 use Rattle.sm_frames.specs.Parcels.{IsWithin}

@@ -2,7 +2,7 @@
 use Rattle.std.specs.Prelude.{ℕ, ◌+◌, ◌^◌, ◌<◌, ◌≤◌, ◌==◌, if◌then◌else◌, List, [], ◌∷◌, length, Bool, Result, Ok, Err}
 use Rattle.sm_record.specs.Codec.{Codec, both, arm, no_arm, tagged}
 use Rattle.sm_record.specs.Fields.{long, octets, listed}
-use Rattle.sm_frame.specs.declared.frame.TheConstants.{FRAME_ENTRIES}
+use Rattle.sm_frames.specs.declared.frame.TheConstants.{FRAME_ENTRIES}
 use Rattle.sm_frames.specs.declared.input.TheConstants.{LIST_LIMIT}
 
 -- a position and the bodies of entries, or those of rows; or a message

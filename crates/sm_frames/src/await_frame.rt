@@ -8,8 +8,8 @@ ghost use Rattle.sm_frames.specs.Extents.{extent, behind_tag, octets_extent, ite
 ghost use Rattle.sm_frames.specs.Waiting.{IsAwaited, IfWhole, OnAwaitedEnd, OnAwaitedFailed, Waits};
 ghost use Rattle.sm_frames.specs.declared.input.TheConstants as limits;
 
+use crate::FRAME_ENTRIES;
 use crate::input::LIST_LIMIT;
-use sm_frame::FRAME_ENTRIES;
 use sm_http::{Ahead, More, await_bytes};
 use sm_io::Source;
 

@@ -5,7 +5,7 @@ ghost use Rattle.sm_record.specs.Rows as rows;
 ghost use Rattle.sm_record.specs.Snapshots.{snapshot, HasSnapshot, one_version, secret_bodies};
 ghost use Rattle.sm_record.specs.Spelling.{spelling};
 ghost use Rattle.sm_record.specs.declared.edition.Edition.TheVariants as editions;
-ghost use Rattle.sm_frame.specs.Spelled.{AreSpelled};
+ghost use Rattle.sm_frames.specs.Spelled.{AreSpelled};
 
 use sm_base::{Bytes, NoMemory};
 use sm_model::{Entry, SecretRow, SharedList, VersionRow};

@@ -1,10 +1,10 @@
 //! The images that a disk in memory gives for each fill, and a call that is told to fail.
 ghost use Rattle.std.specs.Prelude.{◌<◌};
 
-use crate::rows::compare;
-use sm_disk::{Disk, DiskFailed, QuietDisk};
+use crate::shown::{Shown, show_content};
+use sm_base::{Bytes, Fails, NoMemory};
+use sm_disk::{Disk, DiskFailed, MemoryDisk, QuietDisk};
 use sm_memory_fixtures::fails::fails_of;
-use sm_memory_fixtures::shown::{Shown, new_disk, show_crashes, write};
 use std::alloc::Global;
 use std::test::Fail;
 
@@ -84,6 +84,23 @@ const ROWS: [Row; 8] = [
     },
 ];
 
+/// A disk whose file 0 holds `abcdef` and file 1 `xyz`.
+fn new_disk(alloc: Global, fails: Fails) -> Result<MemoryDisk, NoMemory> {
+    let journal_0 = Bytes::from_slice(alloc, b"abcdef")?;
+    let journal_1 = Bytes::from_slice(alloc, b"xyz")?;
+    MemoryDisk::new(alloc, journal_0, journal_1, Bytes::empty(alloc), fails)
+}
+
+/// Writes where the place is within the file.
+fn write<D: Disk>(disk: &mut D, file: u8, at: u64, piece: &[u8]) -> Result<(), DiskFailed>
+    requires { file < 3 }
+{
+    if disk.length(file)? < at {
+        return Ok(());
+    }
+    disk.write_at(file, at, piece)
+}
+
 /// Cuts where the end is within the file.
 fn cut<D: Disk>(disk: &mut D, file: u8, end: u64) -> Result<(), DiskFailed>
     requires { file < 3 }
@@ -114,21 +131,37 @@ fn faults<D: Disk>(disk: &mut D, steps: &[Step]) -> u8 {
     b'0' + faults % 10
 }
 
-/// Shows the faults of a row, and what its crashes leave.
-fn show_row(alloc: Global, row: &Row, shown: &mut Shown) -> Result<(), Fail> {
+/// Shows what a crash with this fill leaves of the two files.
+fn show_crash(
+    alloc: Global,
+    disk: &MemoryDisk,
+    fill: u8,
+    shown: &mut Shown,
+) -> Result<(), NoMemory> {
+    let mut left = disk.crash(fill)?;
+    for file in 0..2u8 {
+        shown.push(b' ');
+        show_content(alloc, &mut left, file, shown);
+    }
+    Ok(())
+}
+
+/// What comes of a row: the faults, and what its crashes leave.
+fn shown(alloc: Global, row: &Row) -> Result<Shown, NoMemory> {
     let mut disk = new_disk(alloc, fails_of(alloc, row.fails, None)?)?;
-    shown.push(faults(&mut disk, row.steps))?;
-    show_crashes(alloc, &disk, shown)
+    let mut shown = Shown::new(alloc);
+    shown.push(faults(&mut disk, row.steps));
+    for fill in [0, 1, 7] {
+        show_crash(alloc, &disk, fill, &mut shown)?;
+    }
+    Ok(shown)
 }
 
 #[test]
 fn crashes_leave_what_the_fills_say(rt: HostRuntime) -> Result<(), Fail> {
     for row in &ROWS {
-        let mut shown = Vec::new(rt.alloc());
-        show_row(rt.alloc(), row, &mut shown)?;
-        compare(&rt, row.name, shown.as_slice(), row.wanted);
+        shown(rt.alloc(), row)?.compare(&rt, row.name, row.wanted);
     }
-    let faults = faults(&mut QuietDisk, ROWS[0].steps);
-    compare(&rt, "a quiet disk", &[faults], b"0");
+    assert_eq!(rt; faults(&mut QuietDisk, ROWS[0].steps), b'0');
     Ok(())
 }

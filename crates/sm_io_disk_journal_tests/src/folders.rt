@@ -1,7 +1,8 @@
 //! A disk over a folder of the system.
-use crate::rows::compare;
+ghost use Rattle.std.specs.Prelude.{◌<◌};
+
+use crate::shown::{Shown, show_content};
 use sm_disk::{Disk, DiskFailed, FileDisk, FolderRefused};
-use sm_memory_fixtures::shown::{Shown, show_content};
 use std::alloc::{AllocError, Global};
 use std::fs;
 use std::os::unix::fs::{MetadataExt, symlink};
@@ -83,11 +84,6 @@ fn new_folder(rt: &HostRuntime) -> Result<PathBuf<Global>, Fail> {
     Err("no folder could be made".into())
 }
 
-fn show<T, E>(outcome: &Result<T, E>, shown: &mut Shown) -> Result<(), Fail> {
-    shown.push(if outcome.is_ok() { b'.' } else { b'!' })?;
-    Ok(())
-}
-
 /// Writes and cuts file 0 and file 2, and syncs both.
 fn write_files(disk: &mut FileDisk) -> Result<(), DiskFailed> {
     disk.write_at(0, 0, b"abcdef")?;
@@ -106,23 +102,21 @@ fn fill(rt: &HostRuntime, folder: &str) -> Result<(), Fail> {
 }
 
 /// What the files hold, and whether more is read than one of them holds.
-fn show_files(alloc: Global, disk: &mut FileDisk, shown: &mut Shown) -> Result<(), Fail> {
-    show_content(alloc, disk, 0, shown)?;
+fn show_files(alloc: Global, disk: &mut FileDisk, shown: &mut Shown) {
+    show_content(alloc, disk, 0, shown);
     for file in 1..3u8 {
-        shown.push(b' ')?;
-        show_content(alloc, disk, file, shown)?;
+        shown.push(b' ');
+        show_content(alloc, disk, file, shown);
     }
-    show(&disk.read(0, 4, &mut [0u8; 2]), shown)
+    shown.push_well(disk.read(0, 4, &mut [0u8; 2]).is_ok());
 }
 
 /// What a filled folder holds.
 fn show_filled(rt: &HostRuntime, folder: &str, shown: &mut Shown) -> Result<(), Fail> {
     fill(rt, folder)?;
-    show_files(
-        rt.alloc(),
-        &mut FileDisk::open(rt, rt.alloc(), folder)?,
-        shown,
-    )
+    let mut disk = FileDisk::open(rt, rt.alloc(), folder)?;
+    show_files(rt.alloc(), &mut disk, shown);
+    Ok(())
 }
 
 /// The path of a file of the folder.
@@ -130,96 +124,86 @@ fn path_of(alloc: Global, folder: &str, name: &str) -> Result<String, AllocError
     format!(in alloc; "{folder}/{name}")
 }
 
-/// The mode of a file of the folder.
-fn mode_of(rt: &HostRuntime, folder: &str, name: &str) -> Result<u32, Fail> {
+/// The last nine bits of the mode of a file of the folder, in octal digits.
+fn mode_of(rt: &HostRuntime, folder: &str, name: &str) -> Result<String, Fail> {
     let path = path_of(rt.alloc(), folder, name)?;
-    Ok(fs::metadata(rt, path.as_str())?.mode() % 512)
-}
-
-/// The last nine bits of a mode, in octal digits.
-fn show_mode(alloc: Global, mode: u32, shown: &mut Shown) -> Result<(), Fail> {
-    let text = format!(in alloc; "{mode:o} ")?;
-    shown.extend_from_slice(text.as_bytes())?;
-    Ok(())
+    let mode = fs::metadata(rt, path.as_str())?.mode() % 512;
+    Ok(format!(in rt.alloc(); "{mode:o} ")?)
 }
 
 fn show_modes(rt: &HostRuntime, folder: &str, shown: &mut Shown) -> Result<(), Fail> {
     fill(rt, folder)?;
     for name in &NAMES {
-        show_mode(rt.alloc(), mode_of(rt, folder, name)?, shown)?;
+        shown.add(mode_of(rt, folder, name)?.as_str().as_bytes());
     }
     Ok(())
 }
 
-fn show_opened(opened: &Result<FileDisk, FolderRefused>, shown: &mut Shown) -> Result<(), Fail> {
-    let text = match opened {
+fn opened(opened: &Result<FileDisk, FolderRefused>) -> &'static str {
+    match opened {
         Ok(_) => ".",
         Err(FolderRefused::Taken) => "taken",
         Err(FolderRefused::Failed(_)) => "!",
-    };
-    shown.extend_from_slice(text.as_bytes())?;
-    Ok(())
+    }
 }
 
 /// What comes of an opening.
-fn show_opening(rt: &HostRuntime, folder: &str, shown: &mut Shown) -> Result<(), Fail> {
-    show_opened(&FileDisk::open(rt, rt.alloc(), folder), shown)
+fn show_opening(rt: &HostRuntime, folder: &str, shown: &mut Shown) {
+    shown.add(opened(&FileDisk::open(rt, rt.alloc(), folder)).as_bytes());
 }
 
-fn open_twice(rt: &HostRuntime, folder: &str, shown: &mut Shown) -> Result<(), Fail> {
+/// What comes of an opening, and of another one while the first stands.
+fn show_both(rt: &HostRuntime, folder: &str, shown: &mut Shown) {
     let first = FileDisk::open(rt, rt.alloc(), folder);
-    show_opened(&first, shown)?;
-    show_opening(rt, folder, shown)
+    shown.add(opened(&first).as_bytes());
+    show_opening(rt, folder, shown);
 }
 
-fn show_lengths(disk: &mut FileDisk, shown: &mut Shown) -> Result<(), Fail> {
-    shown.push(b' ')?;
+fn show_lengths(disk: &mut FileDisk, shown: &mut Shown) {
+    shown.push(b' ');
     for file in 0..3u8 {
-        show(&disk.length(file), shown)?;
+        shown.push_well(disk.length(file).is_ok());
     }
-    Ok(())
-}
-
-/// What comes of a sync of each file.
-fn show_syncs(disk: &mut FileDisk, shown: &mut Shown) -> Result<(), Fail> {
-    for file in 0..3u8 {
-        show(&disk.sync(file), shown)?;
-    }
-    Ok(())
 }
 
 /// What comes of a write, a cut, the syncs and the lengths.
-fn show_faults(disk: &mut FileDisk, file: u8, shown: &mut Shown) -> Result<(), Fail> {
-    show(&disk.write_at(file, 0, b"a"), shown)?;
-    show(&disk.cut(file, 0), shown)?;
-    show_syncs(disk, shown)?;
-    show_lengths(disk, shown)
-}
-
-/// What comes of a folder with a link to `/dev/full`.
-fn use_full(rt: &HostRuntime, folder: &str, file: u8, shown: &mut Shown) -> Result<(), Fail> {
-    let mut disk = FileDisk::open(rt, rt.alloc(), folder)?;
-    show_faults(&mut disk, file, shown)
-}
-
-/// The lengths in a folder that is opened again.
-fn show_opened_lengths(rt: &HostRuntime, folder: &str, shown: &mut Shown) -> Result<(), Fail> {
-    let mut disk = FileDisk::open(rt, rt.alloc(), folder)?;
-    show_lengths(&mut disk, shown)
+fn show_faults(disk: &mut FileDisk, file: u8, shown: &mut Shown)
+    requires { file < 3 }
+{
+    shown.push_well(disk.write_at(file, 0, b"a").is_ok());
+    shown.push_well(disk.cut(file, 0).is_ok());
+    for synced in 0..3u8 {
+        shown.push_well(disk.sync(synced).is_ok());
+    }
+    show_lengths(disk, shown);
 }
 
 /// Makes a file of the folder a link to `/dev/full`.
-fn link_full(rt: &HostRuntime, folder: &str, name: &str) -> Result<(), Fail> {
+fn link_full(rt: &HostRuntime, folder: &str, file: u8) -> Result<(), Fail> {
+    let name = NAMES.get(file as usize).copied().unwrap_or("root");
     let link = path_of(rt.alloc(), folder, name)?;
     symlink(rt, "/dev/full", link.as_str())?;
     Ok(())
 }
 
-fn show_full(rt: &HostRuntime, folder: &str, file: u8, shown: &mut Shown) -> Result<(), Fail> {
-    let name = NAMES.get(file as usize).copied().unwrap_or("root");
-    link_full(rt, folder, name)?;
+/// What comes of a folder with a link to `/dev/full`.
+fn use_full(rt: &HostRuntime, folder: &str, file: u8, shown: &mut Shown) -> Result<(), Fail>
+    requires { file < 3 }
+{
+    let mut disk = FileDisk::open(rt, rt.alloc(), folder)?;
+    show_faults(&mut disk, file, shown);
+    Ok(())
+}
+
+/// The same, and the lengths in the folder when it is opened again.
+fn show_full(rt: &HostRuntime, folder: &str, file: u8, shown: &mut Shown) -> Result<(), Fail>
+    requires { file < 3 }
+{
+    link_full(rt, folder, file)?;
     use_full(rt, folder, file, shown)?;
-    show_opened_lengths(rt, folder, shown)
+    let mut disk = FileDisk::open(rt, rt.alloc(), folder)?;
+    show_lengths(&mut disk, shown);
+    Ok(())
 }
 
 fn show_case(rt: &HostRuntime, folder: &str, case: Case, shown: &mut Shown) -> Result<(), Fail> {
@@ -227,16 +211,19 @@ fn show_case(rt: &HostRuntime, folder: &str, case: Case, shown: &mut Shown) -> R
         Case::Filled => show_filled(rt, folder, shown),
         Case::Modes => show_modes(rt, folder, shown),
         Case::Twice => {
-            open_twice(rt, folder, shown)?;
-            show_opening(rt, folder, shown)
+            show_both(rt, folder, shown);
+            show_opening(rt, folder, shown);
+            Ok(())
         }
-        Case::Full(file) => show_full(rt, folder, file, shown),
+        Case::Full(file) if file < 3 => show_full(rt, folder, file, shown),
+        Case::Full(_) => Ok(()),
     }
 }
 
-fn show_row(rt: &HostRuntime, case: Case) -> Result<Shown, Fail> {
+/// What comes of a case in a new folder, which is removed then.
+fn shown_of(rt: &HostRuntime, case: Case) -> Result<Shown, Fail> {
     let folder = new_folder(rt)?;
-    let mut shown = Vec::new(rt.alloc());
+    let mut shown = Shown::new(rt.alloc());
     let tried = show_case(rt, folder.as_str(), case, &mut shown);
     let removed = fs::remove_dir_all(rt, folder.as_str());
     tried?;
@@ -247,8 +234,7 @@ fn show_row(rt: &HostRuntime, case: Case) -> Result<Shown, Fail> {
 #[test]
 fn a_folder_is_a_disk(rt: HostRuntime) -> Result<(), Fail> {
     for row in &ROWS {
-        let came = show_row(&rt, row.case)?;
-        compare(&rt, row.name, came.as_slice(), row.wanted);
+        shown_of(&rt, row.case)?.compare(&rt, row.name, row.wanted);
     }
     Ok(())
 }

@@ -1,6 +1,6 @@
 //! Sources, sinks, words and clocks.
 use crate::fakes::{FlakyReader, FlakyWriter, SetClock, Sevens};
-use crate::rows::compare;
+use crate::shown::Shown;
 use sm_base::moment::LAST_READING;
 use sm_base::{Bytes, Fails, List, Moment, NoMemory};
 use sm_io::{
@@ -9,7 +9,6 @@ use sm_io::{
     Wrote, put_all, read_to,
 };
 use sm_memory_fixtures::fails::fails_of;
-use sm_memory_fixtures::shown::Shown;
 use std::alloc::Global;
 use std::fs;
 use std::sync::atomic::AtomicU64;
@@ -140,70 +139,61 @@ pub fn second(alloc: Global) -> Result<Fails, NoMemory> {
     fails_of(alloc, &[2], None)
 }
 
-pub fn read<S: Source>(
-    alloc: Global,
-    source: &mut S,
-    limit: usize,
-    shown: &mut Shown,
-) -> Result<(), Fail> {
+/// Two reads of a source.
+pub fn read<S: Source>(alloc: Global, source: &mut S, limit: usize, shown: &mut Shown) {
     for _ in 0..2 {
         let read = read_to(alloc, source, limit);
-        shown.extend_from_slice(read.bytes.as_slice())?;
+        shown.add(read.bytes.as_slice());
         shown.push(match read.end {
             ReadEnd::End => b'.',
             ReadEnd::Full => b'|',
             ReadEnd::Failed => b'!',
             ReadEnd::Memory => b'?',
-        })?;
+        });
     }
-    Ok(())
 }
 
 fn digit(count: u64) -> u8 {
     b'0' + (count % 10) as u8
 }
 
-fn put<K: Sink>(sink: &mut K, shown: &mut Shown) -> Result<(), Fail> {
+/// Puts two pieces into a sink.
+fn put<K: Sink>(sink: &mut K, shown: &mut Shown) {
     for piece in ["abcdefgh", "de"] {
         shown.push(match put_all(sink, piece.as_bytes()) {
             Wrote::Ok => b'.',
             Wrote::Fault(count) => digit(count),
-        })?;
+        });
     }
-    Ok(())
 }
 
-pub fn put_once<K: Sink>(sink: &mut K, shown: &mut Shown) -> Result<(), Fail> {
+/// Five puts of a piece.
+pub fn put_once<K: Sink>(sink: &mut K, shown: &mut Shown) {
     for _ in 0..5 {
         shown.push(match sink.put(b"xyz") {
             Gave::Put(count) => digit(count as u64),
             Gave::Failed => b'!',
-        })?;
+        });
     }
-    Ok(())
 }
 
-fn draw<W: Words>(words: &mut W, times: u8, shown: &mut Shown) -> Result<(), Fail> {
+fn draw<W: Words>(words: &mut W, times: u8, shown: &mut Shown) {
     for _ in 0..times {
         match words.draw(3) {
-            Drew::Bytes(bytes) => shown.extend_from_slice(bytes.as_slice())?,
-            Drew::Failed => shown.push(b'!')?,
-            Drew::Memory => shown.push(b'?')?,
+            Drew::Bytes(bytes) => shown.add(bytes.as_slice()),
+            Drew::Failed => shown.push(b'!'),
+            Drew::Memory => shown.push(b'?'),
         }
     }
-    Ok(())
 }
 
 /// A `.` for each half of a long draw that has another byte than 0.
-fn draw_long<W: Words>(words: &mut W, shown: &mut Shown) -> Result<(), Fail> {
+fn draw_long<W: Words>(words: &mut W, shown: &mut Shown) {
     if let Drew::Bytes(bytes) = words.draw(600) {
         for half in bytes.as_slice().chunks(300) {
-            if half.iter().any(|byte| *byte != 0) {
-                shown.push(b'.')?;
-            }
+            shown.push_well(half.iter().any(|byte| *byte != 0));
         }
     }
-    Ok(())
 }
 
 /// The last of three readings.
@@ -214,9 +204,8 @@ fn reading<C: Clock>(clock: &mut C) -> u64 {
     clock.now().0
 }
 
-fn show_reading<C: Clock>(clock: &mut C, shown: &mut Shown) -> Result<(), Fail> {
-    shown.extend_from_slice(&reading(clock).to_be_bytes())?;
-    Ok(())
+fn show_reading<C: Clock>(clock: &mut C, shown: &mut Shown) {
+    shown.add(&reading(clock).to_be_bytes());
 }
 
 /// A value that may cross threads.
@@ -224,132 +213,122 @@ fn sendable<T: Send>(value: T) -> T {
     value
 }
 
+fn memory_source(alloc: Global) -> Result<MemorySource, NoMemory> {
+    let fails = second(alloc)?;
+    Ok(MemorySource::new(Bytes::from_slice(alloc, b"abcdefghij")?, 4, fails))
+}
+
 fn show_source(rt: &HostRuntime, case: Case, shown: &mut Shown) -> Result<(), Fail> {
     let alloc = rt.alloc();
     match case {
         Case::MemorySource(limit) => {
-            let bytes = Bytes::from_slice(alloc, b"abcdefghij")?;
-            let source = MemorySource::new(bytes, 4, second(alloc)?);
-            read(alloc, &mut sendable(source), limit, shown)
+            read(alloc, &mut sendable(memory_source(alloc)?), limit, shown);
         }
         Case::ZeroFile => {
             let source = StreamSource::new(fs::open(rt, "/dev/zero")?);
-            read(alloc, &mut sendable(source), 3, shown)
+            read(alloc, &mut sendable(source), 3, shown);
         }
         _ => {
             let source = StreamSource::new(FlakyReader { calls: 0 });
-            read(alloc, &mut sendable(source), 100, shown)
+            read(alloc, &mut sendable(source), 100, shown);
         }
     }
-}
-
-/// Two puts to a sink in memory, and what it took.
-fn put_and_show(sink: &mut MemorySink, shown: &mut Shown) -> Result<(), Fail> {
-    put(sink, shown)?;
-    shown.extend_from_slice(sink.taken().as_slice())?;
     Ok(())
 }
 
-/// A sink in memory with a step of 3, whose second call fails.
+/// A sink in memory with a step of 3, whose second call fails: two puts, and what it took.
 fn show_memory_sink(alloc: Global, shown: &mut Shown) -> Result<(), Fail> {
-    let fails = second(alloc)?;
-    put_and_show(&mut sendable(MemorySink::new(alloc, 3, fails)), shown)
+    let mut sink = sendable(MemorySink::new(alloc, 3, second(alloc)?));
+    put(&mut sink, shown);
+    shown.add(sink.taken().as_slice());
+    Ok(())
 }
 
 /// Two puts to a file.
 fn show_file_sink(rt: &HostRuntime, path: &str, shown: &mut Shown) -> Result<(), Fail> {
     let file = fs::create(rt, path)?;
-    put(&mut sendable(StreamSink::new(file)), shown)
+    put(&mut sendable(StreamSink::new(file)), shown);
+    Ok(())
 }
 
 fn show_sink(rt: &HostRuntime, case: Case, shown: &mut Shown) -> Result<(), Fail> {
     match case {
         Case::MemorySink => show_memory_sink(rt.alloc(), shown),
-        Case::QuietSink => put(&mut sendable(QuietSink), shown),
         Case::FullFile => show_file_sink(rt, "/dev/full", shown),
         Case::NullFile => show_file_sink(rt, "/dev/null", shown),
-        _ => put_once(
-            &mut sendable(StreamSink::new(FlakyWriter { calls: 0 })),
-            shown,
-        ),
+        Case::QuietSink => Ok(put(&mut sendable(QuietSink), shown)),
+        _ => {
+            let sink = StreamSink::new(FlakyWriter { calls: 0 });
+            Ok(put_once(&mut sendable(sink), shown))
+        }
     }
+}
+
+fn list_words(alloc: Global) -> Result<ListWords, NoMemory> {
+    let fails = second(alloc)?;
+    Ok(ListWords::new(alloc, Bytes::from_slice(alloc, b"abcdef")?, fails))
 }
 
 fn show_words(rt: &HostRuntime, case: Case, shown: &mut Shown) -> Result<(), Fail> {
     let alloc = rt.alloc();
     match case {
-        Case::CountWords => draw(
-            &mut sendable(CountWords::new(alloc, 254, second(alloc)?)),
-            3,
-            shown,
-        ),
-        Case::ListWords => {
-            let bytes = Bytes::from_slice(alloc, b"abcdef")?;
-            draw(
-                &mut sendable(ListWords::new(alloc, bytes, second(alloc)?)),
-                4,
-                shown,
-            )
+        Case::CountWords => {
+            let words = CountWords::new(alloc, 254, second(alloc)?);
+            draw(&mut sendable(words), 3, shown);
         }
+        Case::ListWords => draw(&mut sendable(list_words(alloc)?), 4, shown),
         Case::Sevens(failing) => {
             let calls = AtomicU64::new(0);
-            draw(
-                &mut sendable(SystemRandom::new(alloc, Sevens { calls, failing })),
-                2,
-                shown,
-            )
+            let words = SystemRandom::new(alloc, Sevens { calls, failing });
+            draw(&mut sendable(words), 2, shown);
         }
         _ => draw_long(&mut sendable(SystemRandom::new(alloc, rt)), shown),
     }
+    Ok(())
+}
+
+fn list_clock(alloc: Global) -> Result<ListClock, NoMemory> {
+    let moments = Vec::from_slice(alloc, &[Moment(3), Moment(9)])?;
+    Ok(ListClock::new(List::new(moments)))
 }
 
 fn show_clock(rt: &HostRuntime, case: Case, shown: &mut Shown) -> Result<(), Fail> {
     let alloc = rt.alloc();
     match case {
         Case::FixedClock => show_reading(&mut sendable(FixedClock::new(Moment(5))), shown),
-        Case::ListClock => {
-            let moments = List::new(Vec::from_slice(alloc, &[Moment(3), Moment(9)])?);
-            show_reading(&mut sendable(ListClock::new(moments)), shown)
-        }
+        Case::ListClock => show_reading(&mut sendable(list_clock(alloc)?), shown),
         Case::EmptyClock => show_reading(&mut sendable(ListClock::new(List::empty(alloc))), shown),
-        Case::SetClock(seconds) => show_reading(
-            &mut sendable(SystemClock::new(SetClock { seconds })),
-            shown,
-        ),
-        _ => {
-            if reading(&mut sendable(SystemClock::new(rt))) > 1_577_836_800 {
-                shown.push(b'.')?;
-            }
-            Ok(())
+        Case::SetClock(seconds) => {
+            let clock = SystemClock::new(SetClock { seconds });
+            show_reading(&mut sendable(clock), shown);
         }
+        _ => shown.push_well(reading(&mut sendable(SystemClock::new(rt))) > 1_577_836_800),
     }
+    Ok(())
 }
 
-fn show_row(rt: &HostRuntime, case: Case) -> Result<Shown, Fail> {
-    let mut shown = Vec::new(rt.alloc());
+fn show_case(rt: &HostRuntime, case: Case, shown: &mut Shown) -> Result<(), Fail> {
     match case {
-        Case::MemorySource(_) | Case::StreamSource | Case::ZeroFile => {
-            show_source(rt, case, &mut shown)?
-        }
+        Case::MemorySource(_) | Case::StreamSource | Case::ZeroFile => show_source(rt, case, shown),
         Case::MemorySink | Case::QuietSink | Case::StreamSink | Case::FullFile | Case::NullFile =>
-            show_sink(rt, case, &mut shown)?,
+            show_sink(rt, case, shown),
         Case::CountWords | Case::ListWords | Case::Sevens(_) | Case::SystemRandom => {
-            show_words(rt, case, &mut shown)?
+            show_words(rt, case, shown)
         }
         Case::FixedClock
         | Case::ListClock
         | Case::EmptyClock
         | Case::SetClock(_)
-        | Case::SystemClock => show_clock(rt, case, &mut shown)?,
+        | Case::SystemClock => show_clock(rt, case, shown),
     }
-    Ok(shown)
 }
 
 #[test]
 fn each_form_does_what_it_says(rt: HostRuntime) -> Result<(), Fail> {
     for (name, case, wanted) in &ROWS {
-        let came = show_row(&rt, *case)?;
-        compare(&rt, name, came.as_slice(), wanted);
+        let mut shown = Shown::new(rt.alloc());
+        show_case(&rt, *case, &mut shown)?;
+        shown.compare(&rt, name, wanted);
     }
     Ok(())
 }

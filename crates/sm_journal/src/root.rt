@@ -12,6 +12,11 @@ use sm_disk::{Disk, DiskFailed};
 /// The file that names another.
 pub const ROOT: u8 = 2;
 
+/// The number as it is stated, so that the constant stays it.
+pub fn root_is_as_stated()
+    ensures { ROOT ≡ 2 }
+{}
+
 /// The root's first byte, or 0 where it has none. The root is synced first.
 fn first_byte<D: Disk>(disk: &mut D) -> Result<u8, DiskFailed>
     ensures byte { IfOk result (λ byte. (s : Image) → (D.sight disk.old).reads s → get_or (s ROOT) 0 0 ≡ byte) }

@@ -3,8 +3,8 @@
 #![tactic(auto)]
 
 mod body;
-pub mod fields;
-pub mod kinds;
+mod fields;
+mod kinds;
 pub mod laws;
 pub mod name;
 mod number;

@@ -124,7 +124,7 @@ fn refused(fault: Fault) -> ReadRequest
 
 /// The request of an operation by an object, or the first of its members that is missing, of another type or left out
 /// by name, in ascending byte order of their names.
-pub fn asked(alloc: Global, operation: Operation, object: &Value) -> ReadRequest
+fn asked(alloc: Global, operation: Operation, object: &Value) -> ReadRequest
     ensures { OrMemory (told result) (asked operation (view object.now)) }
 {
     match request_in(alloc, operation, object) {

@@ -17,6 +17,11 @@ use std::alloc::Global;
 /// How many random bytes make a token.
 pub const TOKEN_BYTES: usize = 16;
 
+/// The number as it is stated, so that the constant stays it.
+pub fn bytes_of_a_token_are_as_stated()
+    ensures { TOKEN_BYTES ≡ 16 }
+{}
+
 /// The change that the start of a rotation makes in the secret with exactly this ARN, where it is due for the token of
 /// the random bytes.
 pub fn judge_begun(

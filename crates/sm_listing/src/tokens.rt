@@ -13,6 +13,12 @@ pub const SECRETS: char = 's';
 /// The letter of a token of versions.
 pub const VERSIONS: char = 'v';
 
+/// The letters as they are stated: s and v.
+pub fn letters_of_tokens_are_as_stated()
+    ensures secrets { SECRETS ≡ 115 }
+    ensures versions { VERSIONS ≡ 118 }
+{}
+
 /// The most bytes of a token.
 const TOKEN_LIMIT: usize = 21;
 

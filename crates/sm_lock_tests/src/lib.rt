@@ -1,13 +1,16 @@
-//! The lock's calls through their bound, over a value that is a list of numbers and a running total.
+//! The lock's calls through their bound, over a value that is a list of numbers and a running total. All of it is for
+//! tests, so that it is proved once.
 #![tactic(auto)]
 
-pub mod calls;
-pub mod notes;
-pub mod rounds;
-pub mod tally;
+#[cfg(test)]
+mod calls;
+#[cfg(test)]
+mod notes;
+#[cfg(test)]
+mod rounds;
+#[cfg(test)]
+mod tally;
 #[cfg(test)]
 mod tests;
-pub mod threads;
-
-pub use calls::Adds;
-pub use tally::Tally;
+#[cfg(test)]
+mod threads;

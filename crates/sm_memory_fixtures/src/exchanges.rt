@@ -28,10 +28,6 @@ pub const APP_CREATED: &str =
     "{\"ARN\":\"arn:aws:secretsmanager:us-east-1:000000000000:secret:db/app-ABCDEF\",\"Name\":\"db/app\",\
         \"VersionId\":\"11111111-1111-4111-8111-111111111111\"}";
 
-/// The reply that names that secret alone.
-pub const APP_NAMED: &str =
-    r#"{"ARN":"arn:aws:secretsmanager:us-east-1:000000000000:secret:db/app-ABCDEF","Name":"db/app"}"#;
-
 /// Another value of that secret, and the reply to it.
 pub const PUT_B: &str =
     r#"{"SecretId":"db/app","SecretString":"b","ClientRequestToken":"22222222-2222-4222-8222-222222222222"}"#;
@@ -53,88 +49,14 @@ pub const SECOND_VALUE: &str =
         \"Name\":\"db/app\",\"SecretString\":\"b\",\"VersionId\":\"22222222-2222-4222-8222-222222222222\",\
         \"VersionStages\":[\"AWSCURRENT\"]}";
 
-/// The reply to its deletion in seven days, and what is refused until then.
-pub const APP_DELETED: &str =
-    "{\"ARN\":\"arn:aws:secretsmanager:us-east-1:000000000000:secret:db/app-ABCDEF\",\"DeletionDate\":1700604800,\
-        \"Name\":\"db/app\"}";
-
-pub const SCHEDULED: &str =
-    r#"{"Message":"secret is scheduled for deletion at 1700604800","__type":"InvalidRequestException"}"#;
-
 /// Refusals.
 pub const NOT_FOUND: &str =
     r#"{"Message":"secret not found","__type":"ResourceNotFoundException"}"#;
-
-pub const NO_OPERATION: &str =
-    r#"{"Message":"unknown operation","__type":"UnknownOperationException"}"#;
-
-pub const NO_OBJECT: &str =
-    r#"{"Message":"body is not a JSON object","__type":"SerializationException"}"#;
 
 pub const DISK_FAULT: &str = r#"{"Message":"disk fault","__type":"InternalServiceError"}"#;
 
 pub const RANDOM_FAULT: &str =
     r#"{"Message":"random source fault","__type":"InternalServiceError"}"#;
-
-/// The status line and the body of a reply.
-pub type Reply = (&'static str, &'static str);
-
-/// Replies to messages that ask for nothing, are none, or have no body of their operation.
-pub const UNKNOWN: Reply = (BAD, NO_OPERATION);
-
-pub const HEAD_TOO_LONG: Reply = (
-    BAD,
-    r#"{"Message":"http: head too long","__type":"SerializationException"}"#,
-);
-
-pub const HEAD: Reply = (
-    BAD,
-    r#"{"Message":"http: head","__type":"SerializationException"}"#,
-);
-
-pub const LENGTH: Reply = (
-    BAD,
-    r#"{"Message":"http: length","__type":"SerializationException"}"#,
-);
-
-pub const CHUNKED: Reply = (
-    BAD,
-    r#"{"Message":"http: chunked","__type":"SerializationException"}"#,
-);
-
-pub const NOT_JSON: Reply = (BAD, NO_OBJECT);
-
-pub const NO_LIMIT: Reply = (
-    BAD,
-    r#"{"Message":"MaxResults is missing or of another type","__type":"SerializationException"}"#,
-);
-
-/// Replies to members that are outside their forms.
-pub const LIMIT_FORM: Reply = (
-    BAD,
-    r#"{"Message":"MaxResults is not in its form","__type":"InvalidParameterException"}"#,
-);
-
-pub const ID_FORM: Reply = (
-    BAD,
-    r#"{"Message":"SecretId is not in its form","__type":"InvalidParameterException"}"#,
-);
-
-pub const TOKEN_FORM: Reply = (
-    BAD,
-    r#"{"Message":"ClientRequestToken is not in its form","__type":"InvalidParameterException"}"#,
-);
-
-pub const NEXT_FORM: Reply = (
-    BAD,
-    r#"{"Message":"NextToken is not in its form","__type":"InvalidNextTokenException"}"#,
-);
-
-/// The secret `n` is made without a value.
-pub const N_CREATED: Reply = (
-    OK,
-    r#"{"ARN":"arn:aws:secretsmanager:us-east-1:000000000000:secret:n-ABCDEF","Name":"n"}"#,
-);
 
 /// The creation of that secret, and the put of its other value, each made or met by a fault of the disk.
 pub const APP_MADE: Exchange = (CREATE, APP, OK, APP_CREATED);

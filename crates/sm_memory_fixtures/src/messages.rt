@@ -32,22 +32,3 @@ pub fn add_reply(
     output.extend_from_slice(reply.as_bytes())?;
     Ok(())
 }
-
-/// A text, and how often it stands.
-pub type Part = (&'static str, usize);
-
-/// Adds parts, each as often as it stands.
-pub fn add_parts(bytes: &mut Vec<u8>, parts: &[Part]) -> Result<(), NoMemory> {
-    for (text, times) in parts {
-        add_times(bytes, text, *times)?;
-    }
-    Ok(())
-}
-
-/// Adds a text so many times.
-fn add_times(bytes: &mut Vec<u8>, text: &str, times: usize) -> Result<(), NoMemory> {
-    for _ in 0..times {
-        bytes.extend_from_slice(text.as_bytes())?;
-    }
-    Ok(())
-}

@@ -10,7 +10,10 @@ use std::alloc::Global;
 
 impl Copied for VersionedSecret {
     fn copy(&self, alloc: Global) -> Result<VersionedSecret, NoMemory> {
-        let (arn, name, version_id) = copy_three(alloc, &self.arn, &self.name, &self.version_id)?;
+        let Ok((arn, name, version_id)) = copy_three(alloc, &self.arn, &self.name, &self.version_id)
+        else {
+            return Err(NoMemory);
+        };
         Ok(VersionedSecret {
             arn,
             name,
@@ -30,12 +33,16 @@ impl Copied for ReplicationStatus {
 
 impl Copied for CreatedSecret {
     fn copy(&self, alloc: Global) -> Result<CreatedSecret, NoMemory> {
-        let (arn, name) = copy_two(alloc, &self.arn, &self.name)?;
-        let (replication_status, version_id) = copy_two(
+        let Ok((arn, name)) = copy_two(alloc, &self.arn, &self.name) else {
+            return Err(NoMemory);
+        };
+        let Ok((replication_status, version_id)) = copy_two(
             alloc,
             &self.replication_status,
             &self.version_id,
-        )?;
+        ) else {
+            return Err(NoMemory);
+        };
         Ok(CreatedSecret {
             arn,
             name,
@@ -73,12 +80,14 @@ impl Copied for NamedSecret {
 
 impl Copied for BatchError {
     fn copy(&self, alloc: Global) -> Result<BatchError, NoMemory> {
-        let (error_code, message, secret_id) = copy_three(
+        let Ok((error_code, message, secret_id)) = copy_three(
             alloc,
             &self.error_code,
             &self.message,
             &self.secret_id,
-        )?;
+        ) else {
+            return Err(NoMemory);
+        };
         Ok(BatchError {
             error_code,
             message,
@@ -89,18 +98,22 @@ impl Copied for BatchError {
 
 impl Copied for GotSecret {
     fn copy(&self, alloc: Global) -> Result<GotSecret, NoMemory> {
-        let (arn, name, secret_binary) = copy_three(
+        let Ok((arn, name, secret_binary)) = copy_three(
             alloc,
             &self.arn,
             &self.name,
             &self.secret_binary,
-        )?;
-        let (secret_string, version_id, version_stages) = copy_three(
+        ) else {
+            return Err(NoMemory);
+        };
+        let Ok((secret_string, version_id, version_stages)) = copy_three(
             alloc,
             &self.secret_string,
             &self.version_id,
             &self.version_stages,
-        )?;
+        ) else {
+            return Err(NoMemory);
+        };
         Ok(GotSecret {
             arn,
             created_date: self.created_date,
@@ -115,12 +128,14 @@ impl Copied for GotSecret {
 
 impl Copied for SecretBatch {
     fn copy(&self, alloc: Global) -> Result<SecretBatch, NoMemory> {
-        let (errors, next_token, secret_values) = copy_three(
+        let Ok((errors, next_token, secret_values)) = copy_three(
             alloc,
             &self.errors,
             &self.next_token,
             &self.secret_values,
-        )?;
+        ) else {
+            return Err(NoMemory);
+        };
         Ok(SecretBatch {
             errors,
             next_token,
@@ -159,24 +174,30 @@ impl Copied for Staged {
 
 impl Copied for Described {
     fn copy(&self, alloc: Global) -> Result<Described, NoMemory> {
-        let (arn, description, kms_key_id) = copy_three(
+        let Ok((arn, description, kms_key_id)) = copy_three(
             alloc,
             &self.arn,
             &self.description,
             &self.kms_key_id,
-        )?;
-        let (name, rotation_lambda_arn, rotation_rules) = copy_three(
+        ) else {
+            return Err(NoMemory);
+        };
+        let Ok((name, rotation_lambda_arn, rotation_rules)) = copy_three(
             alloc,
             &self.name,
             &self.rotation_lambda_arn,
             &self.rotation_rules,
-        )?;
-        let (replication_status, tags, version_ids_to_stages) = copy_three(
+        ) else {
+            return Err(NoMemory);
+        };
+        let Ok((replication_status, tags, version_ids_to_stages)) = copy_three(
             alloc,
             &self.replication_status,
             &self.tags,
             &self.version_ids_to_stages,
-        )?;
+        ) else {
+            return Err(NoMemory);
+        };
         Ok(Described {
             arn,
             created_date: self.created_date,
@@ -207,12 +228,14 @@ impl Copied for RandomPassword {
 
 impl Copied for PolicyOfSecret {
     fn copy(&self, alloc: Global) -> Result<PolicyOfSecret, NoMemory> {
-        let (arn, name, resource_policy) = copy_three(
+        let Ok((arn, name, resource_policy)) = copy_three(
             alloc,
             &self.arn,
             &self.name,
             &self.resource_policy,
-        )?;
+        ) else {
+            return Err(NoMemory);
+        };
         Ok(PolicyOfSecret {
             arn,
             name,
@@ -242,8 +265,12 @@ impl Copied for VersionItem {
 
 impl Copied for VersionPage {
     fn copy(&self, alloc: Global) -> Result<VersionPage, NoMemory> {
-        let (arn, name) = copy_two(alloc, &self.arn, &self.name)?;
-        let (next_token, versions) = copy_two(alloc, &self.next_token, &self.versions)?;
+        let Ok((arn, name)) = copy_two(alloc, &self.arn, &self.name) else {
+            return Err(NoMemory);
+        };
+        let Ok((next_token, versions)) = copy_two(alloc, &self.next_token, &self.versions) else {
+            return Err(NoMemory);
+        };
         Ok(VersionPage {
             arn,
             name,
@@ -255,8 +282,16 @@ impl Copied for VersionPage {
 
 impl Copied for PutValue {
     fn copy(&self, alloc: Global) -> Result<PutValue, NoMemory> {
-        let (arn, name) = copy_two(alloc, &self.arn, &self.name)?;
-        let (version_id, version_stages) = copy_two(alloc, &self.version_id, &self.version_stages)?;
+        let Ok((arn, name)) = copy_two(alloc, &self.arn, &self.name) else {
+            return Err(NoMemory);
+        };
+        let Ok((version_id, version_stages)) = copy_two(
+            alloc,
+            &self.version_id,
+            &self.version_stages,
+        ) else {
+            return Err(NoMemory);
+        };
         Ok(PutValue {
             arn,
             name,
@@ -287,43 +322,134 @@ impl Copied for PolicyValidation {
 impl Copied for Reply {
     fn copy(&self, alloc: Global) -> Result<Reply, NoMemory> {
         match self {
-            Reply::BatchGetSecretValue(reply) => Ok(Reply::BatchGetSecretValue(reply.copy(alloc)?)),
-            Reply::CancelRotateSecret(reply) => Ok(Reply::CancelRotateSecret(reply.copy(alloc)?)),
-            Reply::CreateSecret(reply) => Ok(Reply::CreateSecret(reply.copy(alloc)?)),
-            Reply::DeleteResourcePolicy(reply) => Ok(Reply::DeleteResourcePolicy(reply.copy(
-                alloc,
-            )?)),
-            Reply::DeleteSecret(reply) => Ok(Reply::DeleteSecret(reply.copy(alloc)?)),
-            Reply::DescribeSecret(reply) => Ok(Reply::DescribeSecret(reply.copy(alloc)?)),
-            Reply::GetRandomPassword(reply) => Ok(Reply::GetRandomPassword(reply.copy(alloc)?)),
-            Reply::GetResourcePolicy(reply) => Ok(Reply::GetResourcePolicy(reply.copy(alloc)?)),
-            Reply::GetSecretValue(reply) => Ok(Reply::GetSecretValue(reply.copy(alloc)?)),
-            Reply::ListSecretVersionIds(reply) => Ok(Reply::ListSecretVersionIds(reply.copy(
-                alloc,
-            )?)),
-            Reply::ListSecrets(reply) => Ok(Reply::ListSecrets(reply.copy(alloc)?)),
-            Reply::PutResourcePolicy(reply) => Ok(Reply::PutResourcePolicy(reply.copy(alloc)?)),
-            Reply::PutSecretValue(reply) => Ok(Reply::PutSecretValue(reply.copy(alloc)?)),
-            Reply::RemoveRegionsFromReplication(reply) => Ok(Reply::RemoveRegionsFromReplication(
-                reply.copy(alloc)?,
-            )),
-            Reply::ReplicateSecretToRegions(reply) => Ok(Reply::ReplicateSecretToRegions(reply.copy(
-                alloc,
-            )?)),
-            Reply::RestoreSecret(reply) => Ok(Reply::RestoreSecret(reply.copy(alloc)?)),
-            Reply::RotateSecret(reply) => Ok(Reply::RotateSecret(reply.copy(alloc)?)),
-            Reply::StopReplicationToReplica(reply) => Ok(Reply::StopReplicationToReplica(reply.copy(
-                alloc,
-            )?)),
+            Reply::BatchGetSecretValue(reply) => {
+                let Ok(copy) = reply.copy(alloc) else {
+                    return Err(NoMemory);
+                };
+                Ok(Reply::BatchGetSecretValue(copy))
+            }
+            Reply::CancelRotateSecret(reply) => {
+                let Ok(copy) = reply.copy(alloc) else {
+                    return Err(NoMemory);
+                };
+                Ok(Reply::CancelRotateSecret(copy))
+            }
+            Reply::CreateSecret(reply) => {
+                let Ok(copy) = reply.copy(alloc) else {
+                    return Err(NoMemory);
+                };
+                Ok(Reply::CreateSecret(copy))
+            }
+            Reply::DeleteResourcePolicy(reply) => {
+                let Ok(copy) = reply.copy(alloc) else {
+                    return Err(NoMemory);
+                };
+                Ok(Reply::DeleteResourcePolicy(copy))
+            }
+            Reply::DeleteSecret(reply) => {
+                let Ok(copy) = reply.copy(alloc) else {
+                    return Err(NoMemory);
+                };
+                Ok(Reply::DeleteSecret(copy))
+            }
+            Reply::DescribeSecret(reply) => {
+                let Ok(copy) = reply.copy(alloc) else {
+                    return Err(NoMemory);
+                };
+                Ok(Reply::DescribeSecret(copy))
+            }
+            Reply::GetRandomPassword(reply) => {
+                let Ok(copy) = reply.copy(alloc) else {
+                    return Err(NoMemory);
+                };
+                Ok(Reply::GetRandomPassword(copy))
+            }
+            Reply::GetResourcePolicy(reply) => {
+                let Ok(copy) = reply.copy(alloc) else {
+                    return Err(NoMemory);
+                };
+                Ok(Reply::GetResourcePolicy(copy))
+            }
+            Reply::GetSecretValue(reply) => {
+                let Ok(copy) = reply.copy(alloc) else {
+                    return Err(NoMemory);
+                };
+                Ok(Reply::GetSecretValue(copy))
+            }
+            Reply::ListSecretVersionIds(reply) => {
+                let Ok(copy) = reply.copy(alloc) else {
+                    return Err(NoMemory);
+                };
+                Ok(Reply::ListSecretVersionIds(copy))
+            }
+            Reply::ListSecrets(reply) => {
+                let Ok(copy) = reply.copy(alloc) else {
+                    return Err(NoMemory);
+                };
+                Ok(Reply::ListSecrets(copy))
+            }
+            Reply::PutResourcePolicy(reply) => {
+                let Ok(copy) = reply.copy(alloc) else {
+                    return Err(NoMemory);
+                };
+                Ok(Reply::PutResourcePolicy(copy))
+            }
+            Reply::PutSecretValue(reply) => {
+                let Ok(copy) = reply.copy(alloc) else {
+                    return Err(NoMemory);
+                };
+                Ok(Reply::PutSecretValue(copy))
+            }
+            Reply::RemoveRegionsFromReplication(reply) => {
+                let Ok(copy) = reply.copy(alloc) else {
+                    return Err(NoMemory);
+                };
+                Ok(Reply::RemoveRegionsFromReplication(copy))
+            }
+            Reply::ReplicateSecretToRegions(reply) => {
+                let Ok(copy) = reply.copy(alloc) else {
+                    return Err(NoMemory);
+                };
+                Ok(Reply::ReplicateSecretToRegions(copy))
+            }
+            Reply::RestoreSecret(reply) => {
+                let Ok(copy) = reply.copy(alloc) else {
+                    return Err(NoMemory);
+                };
+                Ok(Reply::RestoreSecret(copy))
+            }
+            Reply::RotateSecret(reply) => {
+                let Ok(copy) = reply.copy(alloc) else {
+                    return Err(NoMemory);
+                };
+                Ok(Reply::RotateSecret(copy))
+            }
+            Reply::StopReplicationToReplica(reply) => {
+                let Ok(copy) = reply.copy(alloc) else {
+                    return Err(NoMemory);
+                };
+                Ok(Reply::StopReplicationToReplica(copy))
+            }
             Reply::TagResource => Ok(Reply::TagResource),
             Reply::UntagResource => Ok(Reply::UntagResource),
-            Reply::UpdateSecret(reply) => Ok(Reply::UpdateSecret(reply.copy(alloc)?)),
-            Reply::UpdateSecretVersionStage(reply) => Ok(Reply::UpdateSecretVersionStage(reply.copy(
-                alloc,
-            )?)),
-            Reply::ValidateResourcePolicy(reply) => Ok(Reply::ValidateResourcePolicy(reply.copy(
-                alloc,
-            )?)),
+            Reply::UpdateSecret(reply) => {
+                let Ok(copy) = reply.copy(alloc) else {
+                    return Err(NoMemory);
+                };
+                Ok(Reply::UpdateSecret(copy))
+            }
+            Reply::UpdateSecretVersionStage(reply) => {
+                let Ok(copy) = reply.copy(alloc) else {
+                    return Err(NoMemory);
+                };
+                Ok(Reply::UpdateSecretVersionStage(copy))
+            }
+            Reply::ValidateResourcePolicy(reply) => {
+                let Ok(copy) = reply.copy(alloc) else {
+                    return Err(NoMemory);
+                };
+                Ok(Reply::ValidateResourcePolicy(copy))
+            }
         }
     }
 }

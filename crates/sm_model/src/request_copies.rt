@@ -45,12 +45,14 @@ impl Copied for RegionsOfSecret {
 
 impl Copied for BatchGetSecretValue {
     fn copy(&self, alloc: Global) -> Result<BatchGetSecretValue, NoMemory> {
-        let (filters, next_token, secret_id_list) = copy_three(
+        let Ok((filters, next_token, secret_id_list)) = copy_three(
             alloc,
             &self.filters,
             &self.next_token,
             &self.secret_id_list,
-        )?;
+        ) else {
+            return Err(NoMemory);
+        };
         Ok(BatchGetSecretValue {
             filters,
             max_results: self.max_results,
@@ -62,19 +64,25 @@ impl Copied for BatchGetSecretValue {
 
 impl Copied for CreateSecret {
     fn copy(&self, alloc: Global) -> Result<CreateSecret, NoMemory> {
-        let (client_request_token, description, kms_key_id) = copy_three(
+        let Ok((client_request_token, description, kms_key_id)) = copy_three(
             alloc,
             &self.client_request_token,
             &self.description,
             &self.kms_key_id,
-        )?;
-        let (regions, name, secret_binary) = copy_three(
+        ) else {
+            return Err(NoMemory);
+        };
+        let Ok((regions, name, secret_binary)) = copy_three(
             alloc,
             &self.regions,
             &self.name,
             &self.secret_binary,
-        )?;
-        let (secret_string, tags) = copy_two(alloc, &self.secret_string, &self.tags)?;
+        ) else {
+            return Err(NoMemory);
+        };
+        let Ok((secret_string, tags)) = copy_two(alloc, &self.secret_string, &self.tags) else {
+            return Err(NoMemory);
+        };
         Ok(CreateSecret {
             regions,
             client_request_token,
@@ -115,12 +123,14 @@ impl Copied for GetRandomPassword {
 
 impl Copied for GetSecretValue {
     fn copy(&self, alloc: Global) -> Result<GetSecretValue, NoMemory> {
-        let (secret_id, version_id, version_stage) = copy_three(
+        let Ok((secret_id, version_id, version_stage)) = copy_three(
             alloc,
             &self.secret_id,
             &self.version_id,
             &self.version_stage,
-        )?;
+        ) else {
+            return Err(NoMemory);
+        };
         Ok(GetSecretValue {
             secret_id,
             version_id,
@@ -142,12 +152,14 @@ impl Copied for ListSecretVersionIds {
 
 impl Copied for ListSecrets {
     fn copy(&self, alloc: Global) -> Result<ListSecrets, NoMemory> {
-        let (filters, next_token, sort_order) = copy_three(
+        let Ok((filters, next_token, sort_order)) = copy_three(
             alloc,
             &self.filters,
             &self.next_token,
             &self.sort_order,
-        )?;
+        ) else {
+            return Err(NoMemory);
+        };
         Ok(ListSecrets {
             filters,
             include_planned_deletion: self.include_planned_deletion,
@@ -170,17 +182,21 @@ impl Copied for PutResourcePolicy {
 
 impl Copied for PutSecretValue {
     fn copy(&self, alloc: Global) -> Result<PutSecretValue, NoMemory> {
-        let (client_request_token, secret_binary, secret_id) = copy_three(
+        let Ok((client_request_token, secret_binary, secret_id)) = copy_three(
             alloc,
             &self.client_request_token,
             &self.secret_binary,
             &self.secret_id,
-        )?;
-        let (secret_string, version_stages) = copy_two(
+        ) else {
+            return Err(NoMemory);
+        };
+        let Ok((secret_string, version_stages)) = copy_two(
             alloc,
             &self.secret_string,
             &self.version_stages,
-        )?;
+        ) else {
+            return Err(NoMemory);
+        };
         Ok(PutSecretValue {
             client_request_token,
             secret_binary,
@@ -193,12 +209,17 @@ impl Copied for PutSecretValue {
 
 impl Copied for RotateSecret {
     fn copy(&self, alloc: Global) -> Result<RotateSecret, NoMemory> {
-        let (client_request_token, rotation_lambda_arn) = copy_two(
+        let Ok((client_request_token, rotation_lambda_arn)) = copy_two(
             alloc,
             &self.client_request_token,
             &self.rotation_lambda_arn,
-        )?;
-        let (rotation_rules, secret_id) = copy_two(alloc, &self.rotation_rules, &self.secret_id)?;
+        ) else {
+            return Err(NoMemory);
+        };
+        let Ok((rotation_rules, secret_id)) = copy_two(alloc, &self.rotation_rules, &self.secret_id)
+        else {
+            return Err(NoMemory);
+        };
         Ok(RotateSecret {
             client_request_token,
             rotate_immediately: self.rotate_immediately,
@@ -229,18 +250,22 @@ impl Copied for UntagResource {
 
 impl Copied for UpdateSecret {
     fn copy(&self, alloc: Global) -> Result<UpdateSecret, NoMemory> {
-        let (client_request_token, description, kms_key_id) = copy_three(
+        let Ok((client_request_token, description, kms_key_id)) = copy_three(
             alloc,
             &self.client_request_token,
             &self.description,
             &self.kms_key_id,
-        )?;
-        let (secret_binary, secret_id, secret_string) = copy_three(
+        ) else {
+            return Err(NoMemory);
+        };
+        let Ok((secret_binary, secret_id, secret_string)) = copy_three(
             alloc,
             &self.secret_binary,
             &self.secret_id,
             &self.secret_string,
-        )?;
+        ) else {
+            return Err(NoMemory);
+        };
         Ok(UpdateSecret {
             client_request_token,
             description,
@@ -254,12 +279,17 @@ impl Copied for UpdateSecret {
 
 impl Copied for UpdateSecretVersionStage {
     fn copy(&self, alloc: Global) -> Result<UpdateSecretVersionStage, NoMemory> {
-        let (move_to_version_id, remove_from_version_id) = copy_two(
+        let Ok((move_to_version_id, remove_from_version_id)) = copy_two(
             alloc,
             &self.move_to_version_id,
             &self.remove_from_version_id,
-        )?;
-        let (secret_id, version_stage) = copy_two(alloc, &self.secret_id, &self.version_stage)?;
+        ) else {
+            return Err(NoMemory);
+        };
+        let Ok((secret_id, version_stage)) = copy_two(alloc, &self.secret_id, &self.version_stage)
+        else {
+            return Err(NoMemory);
+        };
         Ok(UpdateSecretVersionStage {
             move_to_version_id,
             remove_from_version_id,
@@ -281,53 +311,144 @@ impl Copied for ValidateResourcePolicy {
 impl Copied for Request {
     fn copy(&self, alloc: Global) -> Result<Request, NoMemory> {
         match self {
-            Request::BatchGetSecretValue(request) => Ok(Request::BatchGetSecretValue(request.copy(
-                alloc,
-            )?)),
-            Request::CancelRotateSecret(request) => Ok(Request::CancelRotateSecret(request.copy(
-                alloc,
-            )?)),
-            Request::CreateSecret(request) => Ok(Request::CreateSecret(request.copy(alloc)?)),
-            Request::DeleteResourcePolicy(request) => Ok(Request::DeleteResourcePolicy(request.copy(
-                alloc,
-            )?)),
-            Request::DeleteSecret(request) => Ok(Request::DeleteSecret(request.copy(alloc)?)),
-            Request::DescribeSecret(request) => Ok(Request::DescribeSecret(request.copy(alloc)?)),
-            Request::GetRandomPassword(request) => Ok(Request::GetRandomPassword(request.copy(
-                alloc,
-            )?)),
-            Request::GetResourcePolicy(request) => Ok(Request::GetResourcePolicy(request.copy(
-                alloc,
-            )?)),
-            Request::GetSecretValue(request) => Ok(Request::GetSecretValue(request.copy(alloc)?)),
-            Request::ListSecretVersionIds(request) => Ok(Request::ListSecretVersionIds(request.copy(
-                alloc,
-            )?)),
-            Request::ListSecrets(request) => Ok(Request::ListSecrets(request.copy(alloc)?)),
-            Request::PutResourcePolicy(request) => Ok(Request::PutResourcePolicy(request.copy(
-                alloc,
-            )?)),
-            Request::PutSecretValue(request) => Ok(Request::PutSecretValue(request.copy(alloc)?)),
-            Request::RemoveRegionsFromReplication(request) => Ok(
-                Request::RemoveRegionsFromReplication(request.copy(alloc)?),
-            ),
-            Request::ReplicateSecretToRegions(request) => Ok(Request::ReplicateSecretToRegions(
-                request.copy(alloc)?,
-            )),
-            Request::RestoreSecret(request) => Ok(Request::RestoreSecret(request.copy(alloc)?)),
-            Request::RotateSecret(request) => Ok(Request::RotateSecret(request.copy(alloc)?)),
-            Request::StopReplicationToReplica(request) => Ok(Request::StopReplicationToReplica(
-                request.copy(alloc)?,
-            )),
-            Request::TagResource(request) => Ok(Request::TagResource(request.copy(alloc)?)),
-            Request::UntagResource(request) => Ok(Request::UntagResource(request.copy(alloc)?)),
-            Request::UpdateSecret(request) => Ok(Request::UpdateSecret(request.copy(alloc)?)),
-            Request::UpdateSecretVersionStage(request) => Ok(Request::UpdateSecretVersionStage(
-                request.copy(alloc)?,
-            )),
-            Request::ValidateResourcePolicy(request) => Ok(Request::ValidateResourcePolicy(
-                request.copy(alloc)?,
-            )),
+            Request::BatchGetSecretValue(request) => {
+                let Ok(copy) = request.copy(alloc) else {
+                    return Err(NoMemory);
+                };
+                Ok(Request::BatchGetSecretValue(copy))
+            }
+            Request::CancelRotateSecret(request) => {
+                let Ok(copy) = request.copy(alloc) else {
+                    return Err(NoMemory);
+                };
+                Ok(Request::CancelRotateSecret(copy))
+            }
+            Request::CreateSecret(request) => {
+                let Ok(copy) = request.copy(alloc) else {
+                    return Err(NoMemory);
+                };
+                Ok(Request::CreateSecret(copy))
+            }
+            Request::DeleteResourcePolicy(request) => {
+                let Ok(copy) = request.copy(alloc) else {
+                    return Err(NoMemory);
+                };
+                Ok(Request::DeleteResourcePolicy(copy))
+            }
+            Request::DeleteSecret(request) => {
+                let Ok(copy) = request.copy(alloc) else {
+                    return Err(NoMemory);
+                };
+                Ok(Request::DeleteSecret(copy))
+            }
+            Request::DescribeSecret(request) => {
+                let Ok(copy) = request.copy(alloc) else {
+                    return Err(NoMemory);
+                };
+                Ok(Request::DescribeSecret(copy))
+            }
+            Request::GetRandomPassword(request) => {
+                let Ok(copy) = request.copy(alloc) else {
+                    return Err(NoMemory);
+                };
+                Ok(Request::GetRandomPassword(copy))
+            }
+            Request::GetResourcePolicy(request) => {
+                let Ok(copy) = request.copy(alloc) else {
+                    return Err(NoMemory);
+                };
+                Ok(Request::GetResourcePolicy(copy))
+            }
+            Request::GetSecretValue(request) => {
+                let Ok(copy) = request.copy(alloc) else {
+                    return Err(NoMemory);
+                };
+                Ok(Request::GetSecretValue(copy))
+            }
+            Request::ListSecretVersionIds(request) => {
+                let Ok(copy) = request.copy(alloc) else {
+                    return Err(NoMemory);
+                };
+                Ok(Request::ListSecretVersionIds(copy))
+            }
+            Request::ListSecrets(request) => {
+                let Ok(copy) = request.copy(alloc) else {
+                    return Err(NoMemory);
+                };
+                Ok(Request::ListSecrets(copy))
+            }
+            Request::PutResourcePolicy(request) => {
+                let Ok(copy) = request.copy(alloc) else {
+                    return Err(NoMemory);
+                };
+                Ok(Request::PutResourcePolicy(copy))
+            }
+            Request::PutSecretValue(request) => {
+                let Ok(copy) = request.copy(alloc) else {
+                    return Err(NoMemory);
+                };
+                Ok(Request::PutSecretValue(copy))
+            }
+            Request::RemoveRegionsFromReplication(request) => {
+                let Ok(copy) = request.copy(alloc) else {
+                    return Err(NoMemory);
+                };
+                Ok(Request::RemoveRegionsFromReplication(copy))
+            }
+            Request::ReplicateSecretToRegions(request) => {
+                let Ok(copy) = request.copy(alloc) else {
+                    return Err(NoMemory);
+                };
+                Ok(Request::ReplicateSecretToRegions(copy))
+            }
+            Request::RestoreSecret(request) => {
+                let Ok(copy) = request.copy(alloc) else {
+                    return Err(NoMemory);
+                };
+                Ok(Request::RestoreSecret(copy))
+            }
+            Request::RotateSecret(request) => {
+                let Ok(copy) = request.copy(alloc) else {
+                    return Err(NoMemory);
+                };
+                Ok(Request::RotateSecret(copy))
+            }
+            Request::StopReplicationToReplica(request) => {
+                let Ok(copy) = request.copy(alloc) else {
+                    return Err(NoMemory);
+                };
+                Ok(Request::StopReplicationToReplica(copy))
+            }
+            Request::TagResource(request) => {
+                let Ok(copy) = request.copy(alloc) else {
+                    return Err(NoMemory);
+                };
+                Ok(Request::TagResource(copy))
+            }
+            Request::UntagResource(request) => {
+                let Ok(copy) = request.copy(alloc) else {
+                    return Err(NoMemory);
+                };
+                Ok(Request::UntagResource(copy))
+            }
+            Request::UpdateSecret(request) => {
+                let Ok(copy) = request.copy(alloc) else {
+                    return Err(NoMemory);
+                };
+                Ok(Request::UpdateSecret(copy))
+            }
+            Request::UpdateSecretVersionStage(request) => {
+                let Ok(copy) = request.copy(alloc) else {
+                    return Err(NoMemory);
+                };
+                Ok(Request::UpdateSecretVersionStage(copy))
+            }
+            Request::ValidateResourcePolicy(request) => {
+                let Ok(copy) = request.copy(alloc) else {
+                    return Err(NoMemory);
+                };
+                Ok(Request::ValidateResourcePolicy(copy))
+            }
         }
     }
 }

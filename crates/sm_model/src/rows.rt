@@ -193,10 +193,25 @@ impl Copied for Rotation {
 
 impl Copied for SecretRow {
     fn copy(&self, alloc: Global) -> Result<SecretRow, NoMemory> {
-        let (arn, name, description) = copy_three(alloc, &self.arn, &self.name, &self.description)?;
-        let (kms, tags, versions) = copy_three(alloc, &self.kms, &self.tags, &self.versions)?;
-        let (labels, rotation) = copy_two(alloc, &self.labels, &self.rotation)?;
-        let (policy, regions, job) = copy_three(alloc, &self.policy, &self.regions, &self.job)?;
+        let Ok((arn, name, description)) = copy_three(
+            alloc,
+            &self.arn,
+            &self.name,
+            &self.description,
+        ) else {
+            return Err(NoMemory);
+        };
+        let Ok((kms, tags, versions)) = copy_three(alloc, &self.kms, &self.tags, &self.versions)
+        else {
+            return Err(NoMemory);
+        };
+        let Ok((labels, rotation)) = copy_two(alloc, &self.labels, &self.rotation) else {
+            return Err(NoMemory);
+        };
+        let Ok((policy, regions, job)) = copy_three(alloc, &self.policy, &self.regions, &self.job)
+        else {
+            return Err(NoMemory);
+        };
         Ok(SecretRow {
             serial: self.serial,
             arn,

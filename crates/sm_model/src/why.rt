@@ -124,23 +124,68 @@ impl Drop for Why {
 impl Copied for Why {
     fn copy(&self, alloc: Global) -> Result<Why, NoMemory> {
         match self {
-            Why::Form(member) => Ok(Why::Form(member.copy(alloc)?)),
-            Why::Left(member) => Ok(Why::Left(member.copy(alloc)?)),
-            Why::HeldBy(holder) => Ok(Why::HeldBy(holder.copy(alloc)?)),
+            Why::Form(member) => {
+                let Ok(copy) = member.copy(alloc) else {
+                    return Err(NoMemory);
+                };
+                Ok(Why::Form(copy))
+            }
+            Why::Left(member) => {
+                let Ok(copy) = member.copy(alloc) else {
+                    return Err(NoMemory);
+                };
+                Ok(Why::Left(copy))
+            }
+            Why::HeldBy(holder) => {
+                let Ok(copy) = holder.copy(alloc) else {
+                    return Err(NoMemory);
+                };
+                Ok(Why::HeldBy(copy))
+            }
             Why::KeepsCurrent => Ok(Why::KeepsCurrent),
-            Why::Empty(id) => Ok(Why::Empty(id.copy(alloc)?)),
+            Why::Empty(id) => {
+                let Ok(copy) = id.copy(alloc) else {
+                    return Err(NoMemory);
+                };
+                Ok(Why::Empty(copy))
+            }
             Why::Scheduled(deletion) => Ok(Why::Scheduled(*deletion)),
             Why::Differ => Ok(Why::Differ),
-            Why::Pending(id) => Ok(Why::Pending(id.copy(alloc)?)),
+            Why::Pending(id) => {
+                let Ok(copy) = id.copy(alloc) else {
+                    return Err(NoMemory);
+                };
+                Ok(Why::Pending(copy))
+            }
             Why::NoCurrent => Ok(Why::NoCurrent),
             Why::NotReplica => Ok(Why::NotReplica),
             Why::ReadOnly => Ok(Why::ReadOnly),
             Why::NoSecret => Ok(Why::NoSecret),
             Why::NoVersion => Ok(Why::NoVersion),
-            Why::NotThere(id) => Ok(Why::NotThere(id.copy(alloc)?)),
-            Why::SecretExists(name) => Ok(Why::SecretExists(name.copy(alloc)?)),
-            Why::OtherValue(id) => Ok(Why::OtherValue(id.copy(alloc)?)),
-            Why::VersionExists(id) => Ok(Why::VersionExists(id.copy(alloc)?)),
+            Why::NotThere(id) => {
+                let Ok(copy) = id.copy(alloc) else {
+                    return Err(NoMemory);
+                };
+                Ok(Why::NotThere(copy))
+            }
+            Why::SecretExists(name) => {
+                let Ok(copy) = name.copy(alloc) else {
+                    return Err(NoMemory);
+                };
+                Ok(Why::SecretExists(copy))
+            }
+            Why::OtherValue(id) => {
+                let Ok(copy) = id.copy(alloc) else {
+                    return Err(NoMemory);
+                };
+                Ok(Why::OtherValue(copy))
+            }
+            Why::VersionExists(id) => {
+                let Ok(copy) = id.copy(alloc) else {
+                    return Err(NoMemory);
+                };
+                Ok(Why::VersionExists(copy))
+            }
             Why::Limit(most, what) => Ok(Why::Limit(*most, *what)),
             Why::Malformed(statement, member) => {
                 Ok(Why::Malformed(*statement, member.copy(alloc)?))
@@ -149,11 +194,21 @@ impl Copied for Why {
             Why::BadToken => Ok(Why::BadToken),
             Why::Denied(statement) => Ok(Why::Denied(*statement)),
             Why::NoCredential => Ok(Why::NoCredential),
-            Why::UnknownKey(key) => Ok(Why::UnknownKey(key.copy(alloc)?)),
+            Why::UnknownKey(key) => {
+                let Ok(copy) = key.copy(alloc) else {
+                    return Err(NoMemory);
+                };
+                Ok(Why::UnknownKey(copy))
+            }
             Why::BadSignature(part) => Ok(Why::BadSignature(*part)),
             Why::UnknownOperation => Ok(Why::UnknownOperation),
             Why::NotJson => Ok(Why::NotJson),
-            Why::BadMember(member) => Ok(Why::BadMember(member.copy(alloc)?)),
+            Why::BadMember(member) => {
+                let Ok(copy) = member.copy(alloc) else {
+                    return Err(NoMemory);
+                };
+                Ok(Why::BadMember(copy))
+            }
             Why::Http(kind) => Ok(Why::Http(*kind)),
             Why::DiskFault => Ok(Why::DiskFault),
             Why::RandomFault => Ok(Why::RandomFault),

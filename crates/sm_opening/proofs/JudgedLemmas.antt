@@ -3,8 +3,8 @@ use Rattle.std.proofs.Common.{◌≡◌, ℕ, List, inl, inr, sym, ap, subst, �
 use Rattle.sm_model.specs.declared.entry.Entry.{Entry}
 use Rattle.sm_record.specs.declared.base.Base.{Base}
 use Rattle.sm_record.specs.declared.edition.Edition.{Edition}
-use Rattle.sm_replay.specs.Following.{after_all, MayCome, StopsAfter, StopsAt}
-use Rattle.sm_replay.specs.declared.replay_state.Stopped.{Stopped}
+use Rattle.sm_opening.specs.Following.{after_all, MayCome, StopsAfter, StopsAt}
+use Rattle.sm_opening.specs.declared.replay_state.Stopped.{Stopped}
 use Rattle.sm_sound.specs.Bases.{IsSound}
 use Rattle.sm_store.specs.Held.{Held, AreEntries}
 use Rattle.sm_opening.proofs.PlaceLemmas.{spelled_in_time}

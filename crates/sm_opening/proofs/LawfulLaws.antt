@@ -2,8 +2,8 @@
 use Rattle.std.proofs.Common.{◌≡◌, ℕ, Bool, true, false, cond, length, Option, Some, None, IfSome, refl, sym, subst, arith}
 use Rattle.sm_journal.specs.declared.format.Format.{Format}
 use Rattle.sm_record.specs.declared.base.Base.{Base}
-use Rattle.sm_replay.proofs.FollowLemmas.{after_more, after_count, none_come}
-use Rattle.sm_replay.proofs.SoundLaws.{come_sound}
+use Rattle.sm_opening.proofs.FollowLemmas.{after_more, after_count, none_come}
+use Rattle.sm_opening.proofs.SoundLaws.{come_sound}
 use Rattle.sm_store.specs.Held.{Held, only}
 use Rattle.sm_opening.specs.Lawful.{base_under, made_of, IsLawful, MadeOnly, MakesOneMore, StaysLawful}
 use Rattle.sm_opening.specs.Replacing.{is_replaced, new_base, taken_with, taken_of}

@@ -1,3 +1,5 @@
+pub mod FollowLemmas
+pub mod SoundLaws
 pub mod KeepingLaws
 pub mod LawfulLaws
 pub mod PlaceLemmas

@@ -2,7 +2,7 @@
 use Rattle.std.proofs.Common.{◌≡◌, ◌⊎◌, inl, inr, ⊎_elim, ℕ, ◌+◌, ◌^◌, ◌<◌, ◌≤◌, List, [], map, length, Option, Some, None, IfSome, refl, sym, ap, subst, ◌∙◌, append-nil, arith}
 use Rattle.std.specs.Prelude.{IfErr, Result, Ok, Err}
 use Rattle.sm_base.proofs.FaultCounts.{rose_within}
-use Rattle.sm_bodies.specs.Files.{file_size}
+use Rattle.sm_encoded_size.specs.Files.{file_size}
 use Rattle.sm_disk.specs.AllFiles.{LeavesBy}
 use Rattle.sm_disk.specs.Sight.{Image}
 use Rattle.sm_disk.specs.declared.disk.Disk.{Ghosts}

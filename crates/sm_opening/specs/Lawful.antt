@@ -3,7 +3,7 @@ use Rattle.std.specs.Prelude.{◌≡◌, [], ◌∷◌, Option, Some, None, IfSo
 use Rattle.sm_core.specs.Histories.{InTime}
 use Rattle.sm_model.specs.declared.entry.Entry.{Entry}
 use Rattle.sm_record.specs.declared.base.Base.{Base}
-use Rattle.sm_replay.specs.Following.{origin, after_entry, after_all, MayCome}
+use Rattle.sm_opening.specs.Following.{origin, after_entry, after_all, MayCome}
 use Rattle.sm_sound.specs.Bases.{IsSound}
 use Rattle.sm_store.specs.Held.{Held, only, with_entry}
 

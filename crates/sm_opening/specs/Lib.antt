@@ -1,3 +1,5 @@
+pub mod Following
+pub mod ReplayLaws
 pub mod Lawful
 pub mod Keeping
 pub mod Replacing

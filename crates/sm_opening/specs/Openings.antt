@@ -1,7 +1,7 @@
 -- What an opening finds on a disk and takes of it, and why there is none.
 use Rattle.std.specs.Prelude.{◌≡◌, ◌⊎◌, ℕ, ◌≤◌, Some}
 use Rattle.sm_base.specs.Faults.{Rose}
-use Rattle.sm_bodies.specs.Files.{file_size}
+use Rattle.sm_encoded_size.specs.Files.{file_size}
 use Rattle.sm_disk.specs.Sight.{Sight}
 use Rattle.sm_disk.specs.declared.disk.Disk.{Ghosts}
 use Rattle.sm_journal.specs.Records.{Short}

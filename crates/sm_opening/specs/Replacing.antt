@@ -1,6 +1,6 @@
 -- When an opening puts a base in the place of what it found.
 use Rattle.std.specs.Prelude.{ℕ, ◌+◌, Bool, true, ◌&&◌, nat_le, nat_lt, length, if◌then◌else◌, Option, Some, None}
-use Rattle.sm_bodies.specs.Files.{file_size}
+use Rattle.sm_encoded_size.specs.Files.{file_size}
 use Rattle.sm_journal.specs.Records.{size}
 use Rattle.sm_journal.specs.declared.format.Format.{Format}
 use Rattle.sm_journal.specs.declared.format.Format.TheVariants.{First, Second}

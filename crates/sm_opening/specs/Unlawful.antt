@@ -5,7 +5,7 @@ use Rattle.sm_journal.specs.Records.{place_behind}
 use Rattle.sm_journal.specs.declared.format.Format.{Format}
 use Rattle.sm_record.specs.declared.base.Base.{Base}
 use Rattle.sm_record.specs.declared.edition.Edition.{Edition}
-use Rattle.sm_replay.specs.Following.{StopsAfter}
+use Rattle.sm_opening.specs.Following.{StopsAfter}
 use Rattle.sm_sound.specs.Bases.{IsSound}
 use Rattle.sm_store.specs.BaseFiles.{HoldsAs}
 use Rattle.sm_store.specs.BaseOpenings.{ReadsActive, ListsStay}

@@ -3,7 +3,7 @@ ghost use Rattle.std.specs.Prelude.{◌≡◌, ◌≤◌, ◌<◌, ◌^◌, ◌+
 ghost use Rattle.sm_journal.specs.Records.{size, record_size, place_behind};
 ghost use Rattle.sm_record.specs.Snapshots.{snapshot, secret_bodies};
 ghost use Rattle.sm_record.specs.Spelling.{spelling, HasSpelling};
-ghost use Rattle.sm_replay.specs.Following.{StopsAt};
+ghost use Rattle.sm_opening.specs.Following.{StopsAt};
 ghost use Rattle.sm_sound.specs.Bases.{IsSound};
 ghost use Rattle.sm_store.specs.BaseOpenings.{held_of};
 ghost use Rattle.sm_store.specs.Held.{base_bodies, bodies_in, AreEntries, IsSpelledIn};
@@ -11,10 +11,10 @@ ghost use Rattle.sm_opening.specs.Lawful.{base_under, made_of, IsLawful};
 ghost use Rattle.sm_opening.specs.declared.lawful.Unlawful.TheVariants as whys;
 ghost use Rattle.sm_opening.specs.Unlawful.{IsUnsoundBase, IsUnlawful, IsToldBehind, OnDamaged};
 
+use crate::{ReplayState, Stopped};
 use sm_journal::{HEADER_SIZE, record_size};
 use sm_model::{Bytes, Entry, NoMemory, SecretRow};
 use sm_record::{Base, Edition, encode, encode_first};
-use sm_replay::{ReplayState, Stopped};
 use sm_sound::is_sound;
 use sm_store::{Damage, Loaded};
 use std::alloc::Global;

@@ -7,7 +7,10 @@ pub mod laws;
 pub mod opened;
 mod opening;
 mod replacing;
+pub mod replay_laws;
+pub mod replay_state;
 
 pub use opened::{Opened, Taken, base_under};
 pub use opening::open;
+pub use replay_state::{Refusal, ReplayState, Stopped};
 pub use sm_store::{Damage, OpenRefused};

@@ -2,10 +2,10 @@
 ghost use Rattle.std.specs.Prelude.{◌≡◌};
 ghost use Rattle.sm_opening.specs.Lawful.{base_under};
 
+use crate::ReplayState;
 use sm_disk::Disk;
 use sm_model::{Entry, List, Moment, Rows};
 use sm_record::Base;
-use sm_replay::ReplayState;
 use sm_store::BaseStore;
 use std::alloc::Global;
 use std::marker::Model;

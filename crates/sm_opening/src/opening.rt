@@ -10,6 +10,7 @@ ghost use Rattle.sm_opening.specs.Lawful.{made_of, IsLawful};
 ghost use Rattle.sm_opening.specs.Openings.{Opens, TakesOver, IsUntaken, IsRefused};
 ghost use Rattle.sm_opening.specs.Unlawful.{IsUnlawful, OnDamaged};
 
+use crate::ReplayState;
 use crate::lawful::{Unlawful, lawful};
 use crate::opened::{Opened, Taken};
 use crate::replacing::{new_base, replace};
@@ -17,7 +18,6 @@ use sm_disk::Disk;
 use sm_journal::Format;
 use sm_model::NoMemory;
 use sm_record::Edition;
-use sm_replay::ReplayState;
 use sm_store::{BaseStore, Loaded, OpenRefused};
 use std::alloc::Global;
 

@@ -10,13 +10,13 @@ ghost use Rattle.sm_opening.specs.Lawful.{made_of};
 ghost use Rattle.sm_opening.specs.Openings.{Replaces};
 ghost use Rattle.sm_opening.specs.Replacing as replacing;
 
+use crate::ReplayState;
 use crate::opened::{Opened, Taken};
-use sm_bodies::{file_size, note_spelled};
 use sm_disk::Disk;
+use sm_encoded_size::{file_size, note_spelled};
 use sm_journal::Format;
 use sm_model::{List, NoMemory};
 use sm_record::Base;
-use sm_replay::ReplayState;
 use sm_store::{BaseStore, OpenRefused};
 use std::alloc::Global;
 

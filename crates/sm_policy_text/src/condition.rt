@@ -6,31 +6,35 @@ ghost use Rattle.serde_json.specs.View.{view, members_view};
 ghost use Rattle.sm_policy_text.specs.Kinds.{all_members, operator_named, tag_key_named, key_named, members_if};
 ghost use Rattle.sm_policy_text.specs.Reads.{IsRead};
 
+use crate::kinds::{ListReader, TextReader};
 use crate::policy::{Block, Condition, Key, Operator, Test};
-use crate::read::{Part, Read};
+use crate::read::{Read, Reader};
 use serde_json::{Map, Value};
 use sm_base::text::same_text;
 use sm_base::{List, Text};
 use std::alloc::Global;
 
-/// A part of a policy that is a member of an object by its name and its value.
-trait Named: Drop {
+/// How a part of a policy that is a member of an object is read, by its name and its value.
+trait MemberReader {
+    /// What is read.
+    type Part: Drop;
+
     /// The part that a member is.
-    ghost reads: { List ℕ → Data → Option Self };
+    ghost reads: { List ℕ → Data → Option Self.Part };
 
     /// Reads the member.
-    fn read(alloc: Global, name: &str, value: &Value) -> Read<Self>
+    fn read(alloc: Global, name: &str, value: &Value) -> Read<Self::Part>
         ensures { IsRead result (reads name.now (view value.now)) };
 }
 
 /// The members of an object, if each is such a part.
 #[tactic(auto, using(crate::proofs::MemberLemmas::members_more, crate::proofs::MemberLemmas::members_bad, crate::proofs::MemberLemmas::members_all))]
-fn all_members<T: Named>(alloc: Global, members: &Map<String, Value>) -> Read<List<T>>
-    ensures { IsRead result (all_members T.reads (members_view members.now.entries)) }
+fn all_members<R: MemberReader>(alloc: Global, members: &Map<String, Value>) -> Read<List<R::Part>>
+    ensures { IsRead result (all_members R.reads (members_view members.now.entries)) }
 {
     let mut parts = List::empty(alloc);
     for (key, value) in members.iter() {
-        match T::read(alloc, key.as_str(), value) {
+        match R::read(alloc, key.as_str(), value) {
             Read::Is(part) => match parts.push(part) {
                 Ok(_) => {}
                 Err(_) => return Read::Memory,
@@ -93,7 +97,12 @@ fn operator_named(name: &[u8]) -> Option<Operator>
     }
 }
 
-impl Named for Test {
+/// Reads a key with its values.
+struct TestReader;
+
+impl MemberReader for TestReader {
+    type Part = Test;
+
     ghost use Rattle.sm_policy_text.specs.Kinds.{key_test};
 
     ghost reads = { key_test };
@@ -105,7 +114,7 @@ impl Named for Test {
             Read::Not => return Read::Not,
             Read::Memory => return Read::Memory,
         };
-        match <List<Text> as Part>::read(alloc, value) {
+        match ListReader::<TextReader>::read(alloc, value) {
             Read::Is(values) => Read::Is(Test { key, values }),
             Read::Not => Read::Not,
             Read::Memory => Read::Memory,
@@ -114,16 +123,21 @@ impl Named for Test {
 }
 
 /// The parts that an object's members are.
-fn members_if<T: Named>(alloc: Global, value: &Value) -> Read<List<T>>
-    ensures { IsRead result (members_if T.reads (as_object (view value.now))) }
+fn members_if<R: MemberReader>(alloc: Global, value: &Value) -> Read<List<R::Part>>
+    ensures { IsRead result (members_if R.reads (as_object (view value.now))) }
 {
     match value.as_object() {
-        Some(members) => all_members(alloc, members),
+        Some(members) => all_members::<R>(alloc, members),
         None => Read::Not,
     }
 }
 
-impl Named for Block {
+/// Reads an operator with its tests.
+struct BlockReader;
+
+impl MemberReader for BlockReader {
+    type Part = Block;
+
     ghost use Rattle.sm_policy_text.specs.Kinds.{block};
 
     ghost reads = { block };
@@ -133,7 +147,7 @@ impl Named for Block {
         let Some(operator) = operator_named(name.as_bytes()) else {
             return Read::Not;
         };
-        match members_if(alloc, value) {
+        match members_if::<TestReader>(alloc, value) {
             Read::Is(tests) => Read::Is(Block { operator, tests }),
             Read::Not => Read::Not,
             Read::Memory => Read::Memory,
@@ -141,14 +155,19 @@ impl Named for Block {
     }
 }
 
-impl Part for Condition {
+/// Reads a condition.
+pub(crate) struct ConditionReader;
+
+impl Reader for ConditionReader {
+    type Part = Condition;
+
     ghost use Rattle.sm_policy_text.specs.Kinds.{condition};
 
     ghost reads = { condition };
 
     #[tactic(auto, unfolding(crate::specs::Kinds::condition))]
     fn read(alloc: Global, value: &Value) -> Read<Condition> {
-        match members_if(alloc, value) {
+        match members_if::<BlockReader>(alloc, value) {
             Read::Is(blocks) => Read::Is(Condition(blocks)),
             Read::Not => Read::Not,
             Read::Memory => Read::Memory,

@@ -9,7 +9,8 @@ ghost use Rattle.sm_policy_text.specs.Kinds.{is_text, is_version, condition, con
 ghost use Rattle.sm_policy_text.specs.Members.{may, must, is_read, first, unknown_of, fault_of, given};
 ghost use Rattle.sm_policy_text.specs.Reads.{Passes, Reads};
 
-use crate::kinds::is_version;
+use crate::condition::ConditionReader;
+use crate::kinds::{EffectReader, ListReader, PatternReader, PrincipalsReader, is_version};
 use crate::member::Member;
 use crate::policy::{Condition, Policy, Statement};
 use crate::read::{Fault, at, member_of, only, optional, optional_text, required};
@@ -87,7 +88,7 @@ fn condition_in(alloc: Global, object: &Value) -> Result<Condition, Fault>
     ensures { Reads result (fault_of (may Member.Condition (is_read condition)) (view object.now))
         (unwrap_or (given condition Member.Condition (view object.now)) (condition_with [])) }
 {
-    let condition = optional::<Condition>(alloc, object, Member::Condition)?;
+    let condition = optional::<ConditionReader>(alloc, object, Member::Condition)?;
     Ok(condition.unwrap_or(Condition(List::empty(alloc))))
 }
 
@@ -98,10 +99,10 @@ fn statement_in(alloc: Global, object: &Value) -> Result<Statement, Fault>
 {
     statement_form(alloc, object)?;
     Ok(Statement {
-        effect: required(alloc, object, Member::Effect)?,
-        principals: required(alloc, object, Member::Principal)?,
-        actions: required(alloc, object, Member::Action)?,
-        resources: required(alloc, object, Member::Resource)?,
+        effect: required::<EffectReader>(alloc, object, Member::Effect)?,
+        principals: required::<PrincipalsReader>(alloc, object, Member::Principal)?,
+        actions: required::<ListReader<PatternReader>>(alloc, object, Member::Action)?,
+        resources: required::<ListReader<PatternReader>>(alloc, object, Member::Resource)?,
         condition: condition_in(alloc, object)?,
     })
 }

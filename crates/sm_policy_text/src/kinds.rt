@@ -9,12 +9,13 @@ ghost use Rattle.sm_policy_text.specs.Kinds.{is_version_text, is_version, effect
 ghost use Rattle.sm_policy_text.specs.Reads.{IsRead};
 
 use crate::policy::{Effect, Pattern, Principal, Principals};
-use crate::read::{Part, Read};
+use crate::read::{Read, Reader};
 use serde_json::Value;
 use sm_base::person_arn::is_person_arn;
 use sm_base::text::same_text;
 use sm_base::{List, Text};
 use std::alloc::Global;
+use std::marker::PhantomData;
 
 #[tactic(auto, unfolding(crate::specs::Kinds::is_version_text))]
 fn is_version_text(text: &[u8]) -> bool
@@ -47,7 +48,12 @@ fn effect_named(text: &[u8]) -> Option<Effect>
     }
 }
 
-impl Part for Effect {
+/// Reads an effect.
+pub(crate) struct EffectReader;
+
+impl Reader for EffectReader {
+    type Part = Effect;
+
     ghost use Rattle.sm_policy_text.specs.Kinds.{effect};
 
     ghost reads = { effect };
@@ -93,7 +99,12 @@ fn kept(alloc: Global, text: &str) -> Read<Text>
     }
 }
 
-impl Part for Text {
+/// Reads a text.
+pub(crate) struct TextReader;
+
+impl Reader for TextReader {
+    type Part = Text;
+
     ghost use Rattle.sm_policy_text.specs.Kinds.{text};
 
     ghost reads = { text };
@@ -107,7 +118,12 @@ impl Part for Text {
     }
 }
 
-impl Part for Principal {
+/// Reads a principal.
+pub(crate) struct PrincipalReader;
+
+impl Reader for PrincipalReader {
+    type Part = Principal;
+
     ghost use Rattle.sm_policy_text.specs.Kinds.{principal};
 
     ghost reads = { principal };
@@ -128,7 +144,12 @@ impl Part for Principal {
     }
 }
 
-impl Part for Pattern {
+/// Reads a pattern.
+pub(crate) struct PatternReader;
+
+impl Reader for PatternReader {
+    type Part = Pattern;
+
     ghost use Rattle.sm_policy_text.specs.Kinds.{pattern};
 
     ghost reads = { pattern };
@@ -162,12 +183,12 @@ pub(crate) fn alone<T: Drop>(alloc: Global, part: T) -> Read<List<T>>
 
 /// The items of a list, if each is such a part.
 #[tactic(auto, using(crate::proofs::ItemLemmas::items_more, crate::proofs::ItemLemmas::items_bad, crate::proofs::ItemLemmas::items_all))]
-fn all_items<T: Part>(alloc: Global, items: &[Value]) -> Read<List<T>>
-    ensures { IsRead result (all_items T.reads (items_view items.now)) }
+fn all_items<R: Reader>(alloc: Global, items: &[Value]) -> Read<List<R::Part>>
+    ensures { IsRead result (all_items R.reads (items_view items.now)) }
 {
     let mut parts = List::empty(alloc);
     for item in items {
-        match T::read(alloc, item) {
+        match R::read(alloc, item) {
             Read::Is(part) => match parts.push(part) {
                 Ok(_) => {}
                 Err(_) => return Read::Memory,
@@ -181,26 +202,33 @@ fn all_items<T: Part>(alloc: Global, items: &[Value]) -> Read<List<T>>
 
 /// The items of a list of at least one.
 #[tactic(auto, using(crate::proofs::ItemLemmas::no_item, crate::proofs::ItemLemmas::item_there))]
-fn some_items<T: Part>(alloc: Global, items: &[Value]) -> Read<List<T>>
-    ensures { IsRead result (some_items T.reads (items_view items.now)) }
+fn some_items<R: Reader>(alloc: Global, items: &[Value]) -> Read<List<R::Part>>
+    ensures { IsRead result (some_items R.reads (items_view items.now)) }
 {
     if items.is_empty() {
         Read::Not
     } else {
-        all_items(alloc, items)
+        all_items::<R>(alloc, items)
     }
 }
 
-impl<T: Part> Part for List<T> {
+/// Reads one part, or a list of at least one.
+pub(crate) struct ListReader<R> {
+    of: PhantomData<R>,
+}
+
+impl<R: Reader> Reader for ListReader<R> {
+    type Part = List<R::Part>;
+
     ghost use Rattle.sm_policy_text.specs.Kinds.{one_or_more};
 
-    ghost reads = { one_or_more T.reads };
+    ghost reads = { one_or_more R.reads };
 
     #[tactic(auto, unfolding(crate::specs::Kinds::one_or_more))]
-    fn read(alloc: Global, value: &Value) -> Read<List<T>> {
+    fn read(alloc: Global, value: &Value) -> Read<List<R::Part>> {
         match value.as_array() {
-            Some(items) => some_items(alloc, items.as_slice()),
-            None => match T::read(alloc, value) {
+            Some(items) => some_items::<R>(alloc, items.as_slice()),
+            None => match R::read(alloc, value) {
                 Read::Is(part) => alone(alloc, part),
                 Read::Not => Read::Not,
                 Read::Memory => Read::Memory,
@@ -235,7 +263,12 @@ fn aws_of(value: &Value) -> Option<&Value>
     }
 }
 
-impl Part for Principals {
+/// Reads whom a statement is about.
+pub(crate) struct PrincipalsReader;
+
+impl Reader for PrincipalsReader {
+    type Part = Principals;
+
     ghost use Rattle.sm_policy_text.specs.Kinds.{principals};
 
     ghost reads = { principals };
@@ -251,7 +284,7 @@ impl Part for Principals {
                 }
             }
             None => match aws_of(value) {
-                Some(listed) => match <List<Principal> as Part>::read(alloc, listed) {
+                Some(listed) => match ListReader::<PrincipalReader>::read(alloc, listed) {
                     Read::Is(list) => Read::Is(Principals(list)),
                     Read::Not => Read::Not,
                     Read::Memory => Read::Memory,

@@ -28,13 +28,19 @@ pub enum Read<T> {
     Memory,
 }
 
-/// A part of a policy that is one JSON value.
-pub trait Part: Drop {
+/// How a part of a policy that is one JSON value is read.
+///
+/// Types private to this crate implement it, and not the parts themselves: an implementation for a public type would be
+/// in this crate's interface, and each crate above would load serde_json with it.
+pub(crate) trait Reader {
+    /// What is read.
+    type Part: Drop;
+
     /// The part that a value is.
-    ghost reads: { Data → Option Self };
+    ghost reads: { Data → Option Self.Part };
 
     /// Reads the value.
-    fn read(alloc: Global, value: &Value) -> Read<Self>
+    fn read(alloc: Global, value: &Value) -> Read<Self::Part>
         ensures { IsRead result (reads (view value.now)) };
 }
 
@@ -55,12 +61,16 @@ pub(crate) fn member_of(json: &Value, name: Member) -> Option<&Value>
 
 /// A member that must be there.
 #[tactic(auto, unfolding(crate::specs::Members::must, crate::specs::Members::given, crate::specs::Members::fault_of))]
-pub(crate) fn required<T: Part>(alloc: Global, json: &Value, name: Member) -> Result<T, Fault>
-    ensures { Needs result (fault_of (must name (is_read T.reads)) (view json.now))
-        (given T.reads name (view json.now)) }
+pub(crate) fn required<R: Reader>(
+    alloc: Global,
+    json: &Value,
+    name: Member,
+) -> Result<R::Part, Fault>
+    ensures { Needs result (fault_of (must name (is_read R.reads)) (view json.now))
+        (given R.reads name (view json.now)) }
 {
     match member_of(json, name) {
-        Some(value) => match T::read(alloc, value) {
+        Some(value) => match R::read(alloc, value) {
             Read::Is(part) => Ok(part),
             Read::Not => Err(at(name)),
             Read::Memory => Err(Fault::Memory),
@@ -71,16 +81,16 @@ pub(crate) fn required<T: Part>(alloc: Global, json: &Value, name: Member) -> Re
 
 /// A member that need not be there.
 #[tactic(auto, unfolding(crate::specs::Members::may, crate::specs::Members::given, crate::specs::Members::fault_of))]
-pub(crate) fn optional<T: Part>(
+pub(crate) fn optional<R: Reader>(
     alloc: Global,
     json: &Value,
     name: Member,
-) -> Result<Option<T>, Fault>
-    ensures { Reads result (fault_of (may name (is_read T.reads)) (view json.now))
-        (given T.reads name (view json.now)) }
+) -> Result<Option<R::Part>, Fault>
+    ensures { Reads result (fault_of (may name (is_read R.reads)) (view json.now))
+        (given R.reads name (view json.now)) }
 {
     match member_of(json, name) {
-        Some(value) => match T::read(alloc, value) {
+        Some(value) => match R::read(alloc, value) {
             Read::Is(part) => Ok(Some(part)),
             Read::Not => Err(at(name)),
             Read::Memory => Err(Fault::Memory),

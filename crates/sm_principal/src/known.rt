@@ -12,6 +12,11 @@ use std::marker::Model;
 /// The greatest length of a secret, in bytes.
 pub const SECRET_LIMIT: usize = 128;
 
+/// The number as it is stated, so that the constant stays it.
+pub fn length_of_a_secret_is_as_stated()
+    ensures { SECRET_LIMIT ≡ 128 }
+{}
+
 /// A person, whose ARN has at most 154 bytes, and the secret by which that person signs, where there is one (AWS
 /// General Reference, "AWS security credentials": the access key id is the person's key). The secret is no part of the
 /// person, so that no reply, no refusal and no line of a log can have it.

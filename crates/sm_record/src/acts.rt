@@ -1,5 +1,5 @@
 //! Acts: a tag byte, and what the act has.
-ghost use Rattle.std.specs.Prelude.{◌≡◌, ◌++◌, ◌∷◌, ◌<◌, IsTrue, OnOk};
+ghost use Rattle.std.specs.Prelude.{◌≡◌, ◌++◌, ◌∷◌, ◌<◌, IsTrue};
 ghost use Rattle.sm_record.specs.Codec.{flag_of, tag_of, flagged_tag, with_flag};
 ghost use Rattle.sm_record.specs.Editions.{is_second};
 ghost use Rattle.sm_record.specs.Entries.{done, act_arms, asked_arms, before_of, spell_request, spell_act, fits_request, fits_act, may_begin, may_report, report};
@@ -8,9 +8,10 @@ ghost use Rattle.sm_record.specs.Reading.{Gives};
 use crate::edition::Edition;
 use crate::field::{Field, made_at, made_of};
 use crate::head::{Before, before_act};
+use crate::out::Out;
 use crate::single::byte_at;
 use crate::unread::Unread;
-use sm_model::{Act, Answer, Arn, At, Entry, NoMemory, Request};
+use sm_model::{Act, Answer, Arn, At, Entry, Request};
 use std::alloc::Global;
 
 /// What stands behind the head of an entry: whether it prunes, and its act.
@@ -222,14 +223,9 @@ fn request_fits(edition: Edition, request: &Request) -> bool
 
 /// Writes the act of a request that changes something.
 #[tactic(auto, using(std::proofs::lemmas::List::append_assoc))]
-fn put_request(
-    edition: Edition,
-    out: &mut Vec<u8>,
-    prunes: bool,
-    request: &Request,
-) -> Result<(), NoMemory>
+fn put_request(edition: Edition, out: &mut Out, prunes: bool, request: &Request)
     requires { IsTrue (fits_request edition request.now) }
-    ensures { OnOk result (out.new.items ≡ out.old.items ++ with_flag prunes (spell_request edition request.now)) }
+    ensures { out.new ≡ out.old ++ with_flag prunes (spell_request edition request.now) }
 {
     match request {
         Request::CreateSecret(request) => put_arm(edition, out, prunes, 1, request),
@@ -262,21 +258,13 @@ fn put_request(
 
 /// Writes a tag and what stands behind it.
 #[tactic(auto, using(std::proofs::lemmas::List::append_assoc))]
-fn put_arm<A: Field>(
-    edition: Edition,
-    out: &mut Vec<u8>,
-    prunes: bool,
-    tag: u8,
-    thing: &A,
-) -> Result<(), NoMemory>
+fn put_arm<A: Field>(edition: Edition, out: &mut Out, prunes: bool, tag: u8, thing: &A)
     requires tag { tag < 128 }
     requires fits { IsTrue ((A.codec edition).fits thing.now) }
-    ensures { OnOk result (out.new.items
-        ≡ out.old.items ++ (flagged_tag prunes tag ∷ (A.codec edition).spell thing.now)) }
+    ensures { out.new ≡ out.old ++ (flagged_tag prunes tag ∷ (A.codec edition).spell thing.now) }
 {
-    out.push(flagged_tag(prunes, tag))?;
-    thing.put(edition, out)?;
-    Ok(())
+    out.push(flagged_tag(prunes, tag));
+    thing.put(edition, out);
 }
 
 /// Whether the act of an entry has a spelling behind its head.
@@ -297,36 +285,27 @@ pub fn act_fits(edition: Edition, entry: &Entry) -> bool
 
 /// Writes the act of an entry, and whether the entry prunes.
 #[tactic(auto, using(std::proofs::lemmas::Bool::and_parts))]
-pub fn put_act(edition: Edition, out: &mut Vec<u8>, entry: &Entry) -> Result<(), NoMemory>
+pub fn put_act(edition: Edition, out: &mut Out, entry: &Entry)
     requires { IsTrue (fits_act edition (before_of entry.now.caller entry.now.by entry.now.drawn) entry.now.act) }
-    ensures { OnOk result (out.new.items
-        ≡ out.old.items ++ with_flag entry.now.prunes (spell_act edition entry.now.act)) }
+    ensures { out.new ≡ out.old ++ with_flag entry.now.prunes (spell_act edition entry.now.act) }
 {
     match &entry.act {
         Act::Asked(request) => put_request(edition, out, entry.prunes, request),
         Act::Begun(arn) => put_arm(edition, out, entry.prunes, 13, arn),
         Act::Reported(arn, at, answer) => {
-            out.push(flagged_tag(entry.prunes, 14))?;
-            put_report(edition, out, arn, at, answer)?;
-            Ok(())
+            out.push(flagged_tag(entry.prunes, 14));
+            put_report(edition, out, arn, at, answer);
         }
     }
 }
 
 /// Writes what was reported of a rotation.
 #[tactic(auto, using(std::proofs::lemmas::List::append_assoc, std::proofs::lemmas::Bool::and_parts), unfolding(crate::specs::Entries::report))]
-fn put_report(
-    edition: Edition,
-    out: &mut Vec<u8>,
-    arn: &Arn,
-    at: &At,
-    answer: &Answer,
-) -> Result<(), NoMemory>
+fn put_report(edition: Edition, out: &mut Out, arn: &Arn, at: &At, answer: &Answer)
     requires { IsTrue (report.fits (arn.now, (at.now, answer.now))) }
-    ensures { OnOk result (out.new.items ≡ out.old.items ++ report.spell (arn.now, (at.now, answer.now))) }
+    ensures { out.new ≡ out.old ++ report.spell (arn.now, (at.now, answer.now)) }
 {
-    arn.put(edition, out)?;
-    at.put(edition, out)?;
-    answer.put(edition, out)?;
-    Ok(())
+    arn.put(edition, out);
+    at.put(edition, out);
+    answer.put(edition, out);
 }

@@ -5,8 +5,9 @@ use crate::acts::{act_fits, done_at, put_act};
 use crate::edition::Edition;
 use crate::field::Field;
 use crate::head::{before_act, head_at, head_fits, put_head};
+use crate::out::Out;
 use crate::unread::Unread;
-use sm_model::{Entry, NoMemory};
+use sm_model::Entry;
 use std::alloc::Global;
 
 impl Field for Entry {
@@ -26,9 +27,8 @@ impl Field for Entry {
     }
 
     #[tactic(auto, using(std::proofs::lemmas::List::append_assoc, std::proofs::lemmas::Bool::and_parts), unfolding(crate::specs::Entries::entry, crate::specs::Entries::done, crate::specs::Entries::act))]
-    fn put(&self, edition: Edition, out: &mut Vec<u8>) -> Result<(), NoMemory> {
-        put_head(edition, out, self)?;
-        put_act(edition, out, self)?;
-        Ok(())
+    fn put(&self, edition: Edition, out: &mut Out) {
+        put_head(edition, out, self);
+        put_act(edition, out, self);
     }
 }

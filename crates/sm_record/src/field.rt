@@ -1,12 +1,12 @@
 //! What is spelled inside of an entry.
-ghost use Rattle.std.specs.Prelude.{◌≡◌, ◌++◌, IsTrue, OnOk};
+ghost use Rattle.std.specs.Prelude.{◌≡◌, ◌++◌, IsTrue};
 ghost use Rattle.sm_record.specs.Codec.{Codec};
 ghost use Rattle.sm_record.specs.declared.edition.Edition.{Edition};
 ghost use Rattle.sm_record.specs.Reading.{Gives, Makes, IsMade};
 
 use crate::edition::Edition;
+use crate::out::Out;
 use crate::unread::Unread;
-use sm_model::NoMemory;
 use std::alloc::Global;
 
 /// What has a spelling.
@@ -23,9 +23,9 @@ pub trait Field: Drop {
         ensures { Gives (λ x. (x.0, x.1.now)) result ((codec edition).read bytes.now) };
 
     /// Writes its spelling at the end.
-    fn put(&self, edition: Edition, out: &mut Vec<u8>) -> Result<(), NoMemory>
+    fn put(&self, edition: Edition, out: &mut Out)
         requires { IsTrue ((codec edition).fits self.now) }
-        ensures { OnOk result (out.new.items ≡ out.old.items ++ (codec edition).spell self.now) };
+        ensures { out.new ≡ out.old ++ (codec edition).spell self.now };
 }
 
 /// What is made of what was read, and the bytes behind it.

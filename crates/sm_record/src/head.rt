@@ -1,15 +1,16 @@
 //! The heads of entries: all that stands before the act.
-ghost use Rattle.std.specs.Prelude.{◌≡◌, ◌++◌, IsTrue, OnOk};
+ghost use Rattle.std.specs.Prelude.{◌≡◌, ◌++◌, IsTrue};
 ghost use Rattle.sm_record.specs.Editions.{mark};
 ghost use Rattle.sm_record.specs.Entries.{head, head_of, before_of};
 ghost use Rattle.sm_record.specs.Reading.{Gives};
 
 use crate::edition::Edition;
 use crate::field::Field;
+use crate::out::Out;
 use crate::since::{put_since, since_fits, since_then};
 use crate::single::byte_at;
 use crate::unread::Unread;
-use sm_model::{Act, Bytes, Entry, Moment, NoMemory, Text};
+use sm_model::{Act, Bytes, Entry, Moment, Text};
 use std::alloc::Global;
 
 /// What stands before the act of an entry.
@@ -103,14 +104,13 @@ fn mark_at(edition: Edition, bytes: &[u8]) -> Result<&[u8], Unread>
 
 /// Writes the mark of a format.
 #[tactic(auto, unfolding(crate::specs::Editions::mark))]
-fn put_mark(edition: Edition, out: &mut Vec<u8>) -> Result<(), NoMemory>
-    ensures { OnOk result (out.new.items ≡ out.old.items ++ (mark edition).spell tt) }
+fn put_mark(edition: Edition, out: &mut Out)
+    ensures { out.new ≡ out.old ++ (mark edition).spell tt }
 {
     match edition {
-        Edition::First => Ok(()),
+        Edition::First => {}
         Edition::Second => {
-            out.push(2)?;
-            Ok(())
+            out.push(2);
         }
     }
 }
@@ -147,14 +147,13 @@ pub fn head_fits(edition: Edition, entry: &Entry) -> bool
 
 /// Writes the head of an entry.
 #[tactic(auto, using(std::proofs::lemmas::List::append_assoc, std::proofs::lemmas::Bool::and_parts), unfolding(crate::specs::Entries::head))]
-pub fn put_head(edition: Edition, out: &mut Vec<u8>, entry: &Entry) -> Result<(), NoMemory>
+pub fn put_head(edition: Edition, out: &mut Out, entry: &Entry)
     requires { IsTrue ((head edition).fits (head_of entry.now)) }
-    ensures { OnOk result (out.new.items ≡ out.old.items ++ (head edition).spell (head_of entry.now)) }
+    ensures { out.new ≡ out.old ++ (head edition).spell (head_of entry.now) }
 {
-    put_mark(edition, out)?;
-    entry.moment.put(edition, out)?;
-    entry.caller.put(edition, out)?;
-    put_since(edition, out, &entry.by)?;
-    entry.drawn.put(edition, out)?;
-    Ok(())
+    put_mark(edition, out);
+    entry.moment.put(edition, out);
+    entry.caller.put(edition, out);
+    put_since(edition, out, &entry.by);
+    entry.drawn.put(edition, out);
 }

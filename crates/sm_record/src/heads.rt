@@ -1,16 +1,17 @@
 //! Secrets without their versions, and what stands before all secrets, as fields.
-ghost use Rattle.std.specs.Prelude.{◌≡◌, ◌++◌, IsTrue, OnOk};
+ghost use Rattle.std.specs.Prelude.{◌≡◌, ◌++◌, IsTrue};
 ghost use Rattle.sm_record.specs.Reading.{Gives};
 ghost use Rattle.sm_record.specs.Rows.{named, described, counted, ruled, row_tail, row_head, start, named_of, described_of, counted_of, ruled_of, head_of_row};
 
 use crate::edition::Edition;
 use crate::field::Field;
 use crate::narrow::Date;
+use crate::out::Out;
 use crate::row_fields::{date_of, moment_of, put_sign, sign_at};
 use crate::row_parts::{Counted, Described, Named, RowHead, Ruled, Start};
 use crate::since::{put_since, since_then};
 use crate::unread::Unread;
-use sm_model::{Arn, Job, KeptPolicy, List, Name, NoMemory, Pair, Rotation, SecretRow, Tag, Text};
+use sm_model::{Arn, Job, KeptPolicy, List, Name, Pair, Rotation, SecretRow, Tag, Text};
 use std::alloc::Global;
 
 /// What a secret is called, and when it was made and changed.
@@ -35,9 +36,9 @@ fn named_at(alloc: Global, edition: Edition, bytes: &[u8]) -> Result<(Named, &[u
 }
 
 #[tactic(auto, using(std::proofs::lemmas::List::append_assoc, std::proofs::lemmas::Bool::and_parts), unfolding(crate::specs::Rows::named))]
-fn put_named(edition: Edition, out: &mut Vec<u8>, row: &SecretRow) -> Result<(), NoMemory>
+fn put_named(edition: Edition, out: &mut Out, row: &SecretRow)
     requires { IsTrue (named.fits (named_of row.now)) }
-    ensures { OnOk result (out.new.items ≡ out.old.items ++ named.spell (named_of row.now)) }
+    ensures { out.new ≡ out.old ++ named.spell (named_of row.now) }
 {
     let created = Date {
         moment: row.created,
@@ -45,12 +46,11 @@ fn put_named(edition: Edition, out: &mut Vec<u8>, row: &SecretRow) -> Result<(),
     let changed = Date {
         moment: row.changed,
     };
-    row.serial.put(edition, out)?;
-    row.arn.put(edition, out)?;
-    row.name.put(edition, out)?;
-    created.put(edition, out)?;
-    changed.put(edition, out)?;
-    Ok(())
+    row.serial.put(edition, out);
+    row.arn.put(edition, out);
+    row.name.put(edition, out);
+    created.put(edition, out);
+    changed.put(edition, out);
 }
 
 /// What a secret's owner says of it.
@@ -73,14 +73,13 @@ fn described_at(alloc: Global, edition: Edition, bytes: &[u8]) -> Result<(Descri
 }
 
 #[tactic(auto, using(std::proofs::lemmas::List::append_assoc, std::proofs::lemmas::Bool::and_parts), unfolding(crate::specs::Rows::described))]
-fn put_described(edition: Edition, out: &mut Vec<u8>, row: &SecretRow) -> Result<(), NoMemory>
+fn put_described(edition: Edition, out: &mut Out, row: &SecretRow)
     requires { IsTrue (described.fits (described_of row.now)) }
-    ensures { OnOk result (out.new.items ≡ out.old.items ++ described.spell (described_of row.now)) }
+    ensures { out.new ≡ out.old ++ described.spell (described_of row.now) }
 {
-    row.description.put(edition, out)?;
-    row.kms.put(edition, out)?;
-    row.tags.put(edition, out)?;
-    Ok(())
+    row.description.put(edition, out);
+    row.kms.put(edition, out);
+    row.tags.put(edition, out);
 }
 
 /// How many versions follow, and what is said of them.
@@ -104,16 +103,15 @@ fn counted_at(alloc: Global, edition: Edition, bytes: &[u8]) -> Result<(Counted,
 }
 
 #[tactic(auto, using(std::proofs::lemmas::List::append_assoc, std::proofs::lemmas::Bool::and_parts), unfolding(crate::specs::Rows::counted))]
-fn put_counted(edition: Edition, out: &mut Vec<u8>, row: &SecretRow) -> Result<(), NoMemory>
+fn put_counted(edition: Edition, out: &mut Out, row: &SecretRow)
     requires { IsTrue (counted.fits (counted_of row.now)) }
-    ensures { OnOk result (out.new.items ≡ out.old.items ++ counted.spell (counted_of row.now)) }
+    ensures { out.new ≡ out.old ++ counted.spell (counted_of row.now) }
 {
     let versions = row.versions.len() as u64;
-    versions.put(edition, out)?;
-    row.next_version.put(edition, out)?;
-    row.labels.put(edition, out)?;
-    date_of(row.deletion).put(edition, out)?;
-    Ok(())
+    versions.put(edition, out);
+    row.next_version.put(edition, out);
+    row.labels.put(edition, out);
+    date_of(row.deletion).put(edition, out);
 }
 
 /// Who may ask for a secret, where it is, and what is under way.
@@ -134,14 +132,13 @@ fn ruled_at(alloc: Global, edition: Edition, bytes: &[u8]) -> Result<(Ruled, &[u
 }
 
 #[tactic(auto, using(std::proofs::lemmas::List::append_assoc, std::proofs::lemmas::Bool::and_parts), unfolding(crate::specs::Rows::ruled))]
-fn put_ruled(edition: Edition, out: &mut Vec<u8>, row: &SecretRow) -> Result<(), NoMemory>
+fn put_ruled(edition: Edition, out: &mut Out, row: &SecretRow)
     requires { IsTrue ((ruled edition).fits (ruled_of row.now)) }
-    ensures { OnOk result (out.new.items ≡ out.old.items ++ (ruled edition).spell (ruled_of row.now)) }
+    ensures { out.new ≡ out.old ++ (ruled edition).spell (ruled_of row.now) }
 {
-    row.policy.put(edition, out)?;
-    put_since(edition, out, &row.regions)?;
-    row.job.put(edition, out)?;
-    Ok(())
+    row.policy.put(edition, out);
+    put_since(edition, out, &row.regions);
+    row.job.put(edition, out);
 }
 
 /// What is said of a secret behind its description, one thing behind another.
@@ -159,15 +156,13 @@ fn row_tail_at(alloc: Global, edition: Edition, bytes: &[u8]) -> Result<(RowTail
 
 /// Writes what is said of a secret behind its description.
 #[tactic(auto, using(std::proofs::lemmas::List::append_assoc, std::proofs::lemmas::Bool::and_parts))]
-fn put_row_tail(edition: Edition, out: &mut Vec<u8>, row: &SecretRow) -> Result<(), NoMemory>
+fn put_row_tail(edition: Edition, out: &mut Out, row: &SecretRow)
     requires { IsTrue ((row_tail edition).fits (counted_of row.now, (row.now.rotation, ruled_of row.now))) }
-    ensures { OnOk result (out.new.items ≡ out.old.items
-        ++ (row_tail edition).spell (counted_of row.now, (row.now.rotation, ruled_of row.now))) }
+    ensures { out.new ≡ out.old ++ (row_tail edition).spell (counted_of row.now, (row.now.rotation, ruled_of row.now)) }
 {
-    put_counted(edition, out, row)?;
-    row.rotation.put(edition, out)?;
-    put_ruled(edition, out, row)?;
-    Ok(())
+    put_counted(edition, out, row);
+    row.rotation.put(edition, out);
+    put_ruled(edition, out, row);
 }
 
 /// A secret without its versions.
@@ -197,15 +192,14 @@ pub fn row_head_at(
 
 /// Writes a secret without its versions.
 #[tactic(auto, using(std::proofs::lemmas::List::append_assoc, std::proofs::lemmas::Bool::and_parts), unfolding(crate::specs::Rows::row_head))]
-pub fn put_row_head(edition: Edition, out: &mut Vec<u8>, row: &SecretRow) -> Result<(), NoMemory>
+pub fn put_row_head(edition: Edition, out: &mut Out, row: &SecretRow)
     requires { IsTrue ((row_head edition).fits (head_of_row row.now)) }
-    ensures { OnOk result (out.new.items ≡ out.old.items ++ (row_head edition).spell (head_of_row row.now)) }
+    ensures { out.new ≡ out.old ++ (row_head edition).spell (head_of_row row.now) }
 {
-    put_sign(242, out)?;
-    put_named(edition, out, row)?;
-    put_described(edition, out, row)?;
-    put_row_tail(edition, out, row)?;
-    Ok(())
+    put_sign(242, out);
+    put_named(edition, out, row);
+    put_described(edition, out, row);
+    put_row_tail(edition, out, row);
 }
 
 /// What stands before all secrets.
@@ -230,15 +224,14 @@ pub fn start_at(alloc: Global, edition: Edition, bytes: &[u8]) -> Result<(Start,
 
 /// Writes what stands before all secrets.
 #[tactic(auto, using(std::proofs::lemmas::List::append_assoc, std::proofs::lemmas::Bool::and_parts), unfolding(crate::specs::Rows::start))]
-pub fn put_start(edition: Edition, out: &mut Vec<u8>, first: Start) -> Result<(), NoMemory>
+pub fn put_start(edition: Edition, out: &mut Out, first: Start)
     requires { IsTrue (start.fits first) }
-    ensures { OnOk result (out.new.items ≡ out.old.items ++ start.spell first) }
+    ensures { out.new ≡ out.old ++ start.spell first }
 {
     let last = Date { moment: first.last };
-    put_sign(241, out)?;
-    first.next.put(edition, out)?;
-    last.put(edition, out)?;
-    first.entries.put(edition, out)?;
-    first.secrets.put(edition, out)?;
-    Ok(())
+    put_sign(241, out);
+    first.next.put(edition, out);
+    last.put(edition, out);
+    first.entries.put(edition, out);
+    first.secrets.put(edition, out);
 }

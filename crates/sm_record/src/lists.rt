@@ -1,5 +1,5 @@
 //! One thing behind another, options and lists.
-ghost use Rattle.std.specs.Prelude.{◌≡◌, ◌++◌, IsTrue, OnOk, flat_map};
+ghost use Rattle.std.specs.Prelude.{◌≡◌, ◌++◌, IsTrue, flat_map};
 ghost use Rattle.std.specs.List.{list_all};
 ghost use Rattle.sm_record.specs.Codec.{both, optional, read_items};
 ghost use Rattle.sm_record.specs.Fields.{listed};
@@ -8,9 +8,10 @@ ghost use Rattle.sm_record.specs.Reading.{Gives};
 use crate::edition::Edition;
 use crate::field::Field;
 use crate::numbers::{count_at, count_fits, put_count};
+use crate::out::Out;
 use crate::single::byte_at;
 use crate::unread::Unread;
-use sm_model::{List, NoMemory};
+use sm_model::List;
 use std::alloc::Global;
 
 impl<A: Field, B: Field> Field for (A, B) {
@@ -31,10 +32,9 @@ impl<A: Field, B: Field> Field for (A, B) {
     }
 
     #[tactic(auto, using(std::proofs::lemmas::List::append_assoc, std::proofs::lemmas::Bool::and_parts))]
-    fn put(&self, edition: Edition, out: &mut Vec<u8>) -> Result<(), NoMemory> {
-        self.0.put(edition, out)?;
-        self.1.put(edition, out)?;
-        Ok(())
+    fn put(&self, edition: Edition, out: &mut Out) {
+        self.0.put(edition, out);
+        self.1.put(edition, out);
     }
 }
 
@@ -67,16 +67,14 @@ impl<A: Field> Field for Option<A> {
     }
 
     #[tactic(auto, using(std::proofs::lemmas::List::append_assoc), unfolding(crate::specs::Codec::optional))]
-    fn put(&self, edition: Edition, out: &mut Vec<u8>) -> Result<(), NoMemory> {
+    fn put(&self, edition: Edition, out: &mut Out) {
         match self {
             None => {
-                out.push(0)?;
-                Ok(())
+                out.push(0);
             }
             Some(thing) => {
-                out.push(1)?;
-                thing.put(edition, out)?;
-                Ok(())
+                out.push(1);
+                thing.put(edition, out);
             }
         }
     }
@@ -107,14 +105,13 @@ fn items_fit<A: Field>(edition: Edition, items: &[A]) -> bool
     items.iter().all(|item| item.fits(edition))
 }
 
-fn put_items<A: Field>(edition: Edition, out: &mut Vec<u8>, items: &[A]) -> Result<(), NoMemory>
+fn put_items<A: Field>(edition: Edition, out: &mut Out, items: &[A])
     requires { IsTrue (list_all (A.codec edition).fits items.now) }
-    ensures { OnOk result (out.new.items ≡ out.old.items ++ flat_map (A.codec edition).spell items.now) }
+    ensures { out.new ≡ out.old ++ flat_map (A.codec edition).spell items.now }
 {
     for item in items {
-        item.put(edition, out)?;
+        item.put(edition, out);
     }
-    Ok(())
 }
 
 impl<A: Field> Field for List<A> {
@@ -137,9 +134,8 @@ impl<A: Field> Field for List<A> {
     }
 
     #[tactic(auto, using(std::proofs::lemmas::List::append_assoc, std::proofs::lemmas::Bool::and_parts), unfolding(crate::specs::Fields::listed))]
-    fn put(&self, edition: Edition, out: &mut Vec<u8>) -> Result<(), NoMemory> {
-        put_count(out, self.len())?;
-        put_items(edition, out, self.as_slice())?;
-        Ok(())
+    fn put(&self, edition: Edition, out: &mut Out) {
+        put_count(out, self.len());
+        put_items(edition, out, self.as_slice());
     }
 }

@@ -5,10 +5,11 @@ ghost use Rattle.sm_record.specs.Rows.{date, octet, days, name, label};
 use crate::edition::Edition;
 use crate::field::Field;
 use crate::numbers::{long_at, put_long};
+use crate::out::Out;
 use crate::single::byte_at;
 use crate::texts::{octets_at, octets_fit, put_octets};
 use crate::unread::Unread;
-use sm_model::{Label, Moment, Name, NoMemory, ReadRefused};
+use sm_model::{Label, Moment, Name, ReadRefused};
 use std::alloc::Global;
 use std::marker::Model;
 
@@ -79,9 +80,8 @@ impl Field for Date {
     }
 
     #[tactic(auto, unfolding(crate::specs::Rows::date))]
-    fn put(&self, _edition: Edition, out: &mut Vec<u8>) -> Result<(), NoMemory> {
-        put_long(out, self.moment.0)?;
-        Ok(())
+    fn put(&self, _edition: Edition, out: &mut Out) {
+        put_long(out, self.moment.0);
     }
 }
 
@@ -100,7 +100,7 @@ impl Field for u64 {
     }
 
     #[tactic(auto)]
-    fn put(&self, _edition: Edition, out: &mut Vec<u8>) -> Result<(), NoMemory> {
+    fn put(&self, _edition: Edition, out: &mut Out) {
         put_long(out, *self)
     }
 }
@@ -129,9 +129,8 @@ impl Field for Octet {
     }
 
     #[tactic(auto, using(crate::proofs::RowLemmas::octet_is_byte), unfolding(crate::specs::Rows::octet))]
-    fn put(&self, _edition: Edition, out: &mut Vec<u8>) -> Result<(), NoMemory> {
-        out.push(self.number as u8)?;
-        Ok(())
+    fn put(&self, _edition: Edition, out: &mut Out) {
+        out.push(self.number as u8);
     }
 }
 
@@ -164,9 +163,8 @@ impl Field for Days {
     }
 
     #[tactic(auto, unfolding(crate::specs::Rows::days))]
-    fn put(&self, _edition: Edition, out: &mut Vec<u8>) -> Result<(), NoMemory> {
-        put_long(out, u64::from(self.number))?;
-        Ok(())
+    fn put(&self, _edition: Edition, out: &mut Out) {
+        put_long(out, u64::from(self.number));
     }
 }
 
@@ -189,9 +187,8 @@ impl Field for Name {
     }
 
     #[tactic(auto, unfolding(crate::specs::Rows::name))]
-    fn put(&self, _edition: Edition, out: &mut Vec<u8>) -> Result<(), NoMemory> {
-        put_octets(out, self.as_text().as_bytes())?;
-        Ok(())
+    fn put(&self, _edition: Edition, out: &mut Out) {
+        put_octets(out, self.as_text().as_bytes());
     }
 }
 
@@ -218,8 +215,7 @@ impl Field for Label {
     }
 
     #[tactic(auto, unfolding(crate::specs::Rows::label))]
-    fn put(&self, _edition: Edition, out: &mut Vec<u8>) -> Result<(), NoMemory> {
-        put_octets(out, self.as_text().as_bytes())?;
-        Ok(())
+    fn put(&self, _edition: Edition, out: &mut Out) {
+        put_octets(out, self.as_text().as_bytes());
     }
 }

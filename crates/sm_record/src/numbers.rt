@@ -1,13 +1,14 @@
 //! Numbers, big end first.
-ghost use Rattle.std.specs.Prelude.{◌≡◌, ◌++◌, IsTrue, OnOk};
+ghost use Rattle.std.specs.Prelude.{◌≡◌, ◌++◌, IsTrue};
 ghost use Rattle.sm_record.specs.Fields.{count, long, signed, moment};
 ghost use Rattle.sm_record.specs.Reading.{Gives};
 
 use crate::edition::Edition;
 use crate::field::Field;
+use crate::out::Out;
 use crate::unread::Unread;
 use sm_base::moment::LAST_READING;
-use sm_model::{Moment, NoMemory};
+use sm_model::Moment;
 use std::alloc::Global;
 
 /// A length or a count.
@@ -48,22 +49,20 @@ pub fn count_fits(number: usize) -> bool
 
 /// Writes a length or a count.
 #[tactic(auto, unfolding(crate::specs::Fields::count))]
-pub fn put_count(out: &mut Vec<u8>, number: usize) -> Result<(), NoMemory>
+pub fn put_count(out: &mut Out, number: usize)
     requires { IsTrue (count.fits number) }
-    ensures { OnOk result (out.new.items ≡ out.old.items ++ count.spell number) }
+    ensures { out.new ≡ out.old ++ count.spell number }
 {
     let number = number as u32;
-    out.extend_from_slice(&number.to_be_bytes())?;
-    Ok(())
+    out.extend(&number.to_be_bytes());
 }
 
 /// Writes eight bytes.
 #[tactic(auto, unfolding(crate::specs::Fields::long))]
-pub fn put_long(out: &mut Vec<u8>, number: u64) -> Result<(), NoMemory>
-    ensures { OnOk result (out.new.items ≡ out.old.items ++ long.spell number) }
+pub fn put_long(out: &mut Out, number: u64)
+    ensures { out.new ≡ out.old ++ long.spell number }
 {
-    out.extend_from_slice(&number.to_be_bytes())?;
-    Ok(())
+    out.extend(&number.to_be_bytes());
 }
 
 impl Field for i64 {
@@ -82,9 +81,8 @@ impl Field for i64 {
     }
 
     #[tactic(auto, unfolding(crate::specs::Fields::signed))]
-    fn put(&self, _edition: Edition, out: &mut Vec<u8>) -> Result<(), NoMemory> {
-        put_long(out, self.cast_unsigned())?;
-        Ok(())
+    fn put(&self, _edition: Edition, out: &mut Out) {
+        put_long(out, self.cast_unsigned());
     }
 }
 
@@ -111,8 +109,7 @@ impl Field for Moment {
     }
 
     #[tactic(auto, unfolding(crate::specs::Fields::moment))]
-    fn put(&self, _edition: Edition, out: &mut Vec<u8>) -> Result<(), NoMemory> {
-        put_long(out, self.0)?;
-        Ok(())
+    fn put(&self, _edition: Edition, out: &mut Out) {
+        put_long(out, self.0);
     }
 }

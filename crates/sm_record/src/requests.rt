@@ -1,13 +1,14 @@
 //! What an entry keeps of a request: its members in ascending order of their names.
-ghost use Rattle.std.specs.Prelude.{◌≡◌, ◌++◌, IsTrue, OnOk};
+ghost use Rattle.std.specs.Prelude.{◌≡◌, ◌++◌, IsTrue};
 ghost use Rattle.sm_record.specs.Requests.{of_secret, create_secret, delete_secret, named_value, put_resource_policy, put_secret_value, regions_of_secret, rotate_secret, tag_resource, untag_resource, update_secret, update_secret_version_stage};
 
 use crate::edition::Edition;
 use crate::field::Field;
+use crate::out::Out;
 use crate::since::{put_since, since_fits, since_then};
 use crate::unread::Unread;
 use sm_model::{
-    Bytes, CreateSecret, DeleteSecret, List, NoMemory, OfSecret, PutResourcePolicy, PutSecretValue,
+    Bytes, CreateSecret, DeleteSecret, List, OfSecret, PutResourcePolicy, PutSecretValue,
     RegionsOfSecret, RotateSecret, Rules, Tag, TagResource, Text, UntagResource, UpdateSecret,
     UpdateSecretVersionStage,
 };
@@ -32,9 +33,8 @@ impl Field for OfSecret {
     }
 
     #[tactic(auto, unfolding(crate::specs::Requests::of_secret))]
-    fn put(&self, edition: Edition, out: &mut Vec<u8>) -> Result<(), NoMemory> {
-        self.secret_id.put(edition, out)?;
-        Ok(())
+    fn put(&self, edition: Edition, out: &mut Out) {
+        self.secret_id.put(edition, out);
     }
 }
 
@@ -94,33 +94,27 @@ impl Field for CreateSecret {
     }
 
     #[tactic(auto, using(std::proofs::lemmas::List::append_assoc, std::proofs::lemmas::Bool::and_parts), unfolding(crate::specs::Requests::create_secret))]
-    fn put(&self, edition: Edition, out: &mut Vec<u8>) -> Result<(), NoMemory> {
-        put_since(edition, out, &self.regions)?;
-        self.client_request_token.put(edition, out)?;
-        self.description.put(edition, out)?;
-        self.kms_key_id.put(edition, out)?;
-        put_named_value(edition, out, self)?;
-        Ok(())
+    fn put(&self, edition: Edition, out: &mut Out) {
+        put_since(edition, out, &self.regions);
+        self.client_request_token.put(edition, out);
+        self.description.put(edition, out);
+        self.kms_key_id.put(edition, out);
+        put_named_value(edition, out, self);
     }
 }
 
 /// Writes the name of a secret that is made, its value and its tags.
 #[tactic(auto, using(std::proofs::lemmas::List::append_assoc, std::proofs::lemmas::Bool::and_parts))]
-fn put_named_value(
-    edition: Edition,
-    out: &mut Vec<u8>,
-    create: &CreateSecret,
-) -> Result<(), NoMemory>
+fn put_named_value(edition: Edition, out: &mut Out, create: &CreateSecret)
     requires { IsTrue (named_value.fits
         (create.now.name, (create.now.secret_binary, (create.now.secret_string, create.now.tags)))) }
-    ensures { OnOk result (out.new.items ≡ out.old.items ++ named_value.spell
-        (create.now.name, (create.now.secret_binary, (create.now.secret_string, create.now.tags)))) }
+    ensures { out.new ≡ out.old ++ named_value.spell
+        (create.now.name, (create.now.secret_binary, (create.now.secret_string, create.now.tags))) }
 {
-    create.name.put(edition, out)?;
-    create.secret_binary.put(edition, out)?;
-    create.secret_string.put(edition, out)?;
-    create.tags.put(edition, out)?;
-    Ok(())
+    create.name.put(edition, out);
+    create.secret_binary.put(edition, out);
+    create.secret_string.put(edition, out);
+    create.tags.put(edition, out);
 }
 
 /// The members of DeleteSecret, one behind another.
@@ -154,11 +148,10 @@ impl Field for DeleteSecret {
     }
 
     #[tactic(auto, using(std::proofs::lemmas::List::append_assoc, std::proofs::lemmas::Bool::and_parts), unfolding(crate::specs::Requests::delete_secret))]
-    fn put(&self, edition: Edition, out: &mut Vec<u8>) -> Result<(), NoMemory> {
-        self.force_delete_without_recovery.put(edition, out)?;
-        self.recovery_window_in_days.put(edition, out)?;
-        self.secret_id.put(edition, out)?;
-        Ok(())
+    fn put(&self, edition: Edition, out: &mut Out) {
+        self.force_delete_without_recovery.put(edition, out);
+        self.recovery_window_in_days.put(edition, out);
+        self.secret_id.put(edition, out);
     }
 }
 
@@ -193,11 +186,10 @@ impl Field for PutResourcePolicy {
     }
 
     #[tactic(auto, using(std::proofs::lemmas::List::append_assoc, std::proofs::lemmas::Bool::and_parts), unfolding(crate::specs::Requests::put_resource_policy))]
-    fn put(&self, edition: Edition, out: &mut Vec<u8>) -> Result<(), NoMemory> {
-        self.block_public_policy.put(edition, out)?;
-        self.resource_policy.put(edition, out)?;
-        self.secret_id.put(edition, out)?;
-        Ok(())
+    fn put(&self, edition: Edition, out: &mut Out) {
+        self.block_public_policy.put(edition, out);
+        self.resource_policy.put(edition, out);
+        self.secret_id.put(edition, out);
     }
 }
 
@@ -240,13 +232,12 @@ impl Field for PutSecretValue {
     }
 
     #[tactic(auto, using(std::proofs::lemmas::List::append_assoc, std::proofs::lemmas::Bool::and_parts), unfolding(crate::specs::Requests::put_secret_value))]
-    fn put(&self, edition: Edition, out: &mut Vec<u8>) -> Result<(), NoMemory> {
-        self.client_request_token.put(edition, out)?;
-        self.secret_binary.put(edition, out)?;
-        self.secret_id.put(edition, out)?;
-        self.secret_string.put(edition, out)?;
-        self.version_stages.put(edition, out)?;
-        Ok(())
+    fn put(&self, edition: Edition, out: &mut Out) {
+        self.client_request_token.put(edition, out);
+        self.secret_binary.put(edition, out);
+        self.secret_id.put(edition, out);
+        self.secret_string.put(edition, out);
+        self.version_stages.put(edition, out);
     }
 }
 
@@ -288,13 +279,12 @@ impl Field for RotateSecret {
     }
 
     #[tactic(auto, using(std::proofs::lemmas::List::append_assoc, std::proofs::lemmas::Bool::and_parts), unfolding(crate::specs::Requests::rotate_secret))]
-    fn put(&self, edition: Edition, out: &mut Vec<u8>) -> Result<(), NoMemory> {
-        self.client_request_token.put(edition, out)?;
-        self.rotate_immediately.put(edition, out)?;
-        self.rotation_lambda_arn.put(edition, out)?;
-        self.rotation_rules.put(edition, out)?;
-        self.secret_id.put(edition, out)?;
-        Ok(())
+    fn put(&self, edition: Edition, out: &mut Out) {
+        self.client_request_token.put(edition, out);
+        self.rotate_immediately.put(edition, out);
+        self.rotation_lambda_arn.put(edition, out);
+        self.rotation_rules.put(edition, out);
+        self.secret_id.put(edition, out);
     }
 }
 
@@ -317,10 +307,9 @@ impl Field for RegionsOfSecret {
     }
 
     #[tactic(auto, using(std::proofs::lemmas::List::append_assoc, std::proofs::lemmas::Bool::and_parts), unfolding(crate::specs::Requests::regions_of_secret))]
-    fn put(&self, edition: Edition, out: &mut Vec<u8>) -> Result<(), NoMemory> {
-        self.regions.put(edition, out)?;
-        self.secret_id.put(edition, out)?;
-        Ok(())
+    fn put(&self, edition: Edition, out: &mut Out) {
+        self.regions.put(edition, out);
+        self.secret_id.put(edition, out);
     }
 }
 
@@ -343,10 +332,9 @@ impl Field for TagResource {
     }
 
     #[tactic(auto, using(std::proofs::lemmas::List::append_assoc, std::proofs::lemmas::Bool::and_parts), unfolding(crate::specs::Requests::tag_resource))]
-    fn put(&self, edition: Edition, out: &mut Vec<u8>) -> Result<(), NoMemory> {
-        self.secret_id.put(edition, out)?;
-        self.tags.put(edition, out)?;
-        Ok(())
+    fn put(&self, edition: Edition, out: &mut Out) {
+        self.secret_id.put(edition, out);
+        self.tags.put(edition, out);
     }
 }
 
@@ -377,10 +365,9 @@ impl Field for UntagResource {
     }
 
     #[tactic(auto, using(std::proofs::lemmas::List::append_assoc, std::proofs::lemmas::Bool::and_parts), unfolding(crate::specs::Requests::untag_resource))]
-    fn put(&self, edition: Edition, out: &mut Vec<u8>) -> Result<(), NoMemory> {
-        self.secret_id.put(edition, out)?;
-        self.tag_keys.put(edition, out)?;
-        Ok(())
+    fn put(&self, edition: Edition, out: &mut Out) {
+        self.secret_id.put(edition, out);
+        self.tag_keys.put(edition, out);
     }
 }
 
@@ -430,14 +417,13 @@ impl Field for UpdateSecret {
     }
 
     #[tactic(auto, using(std::proofs::lemmas::List::append_assoc, std::proofs::lemmas::Bool::and_parts), unfolding(crate::specs::Requests::update_secret))]
-    fn put(&self, edition: Edition, out: &mut Vec<u8>) -> Result<(), NoMemory> {
-        self.client_request_token.put(edition, out)?;
-        self.description.put(edition, out)?;
-        self.kms_key_id.put(edition, out)?;
-        self.secret_binary.put(edition, out)?;
-        self.secret_id.put(edition, out)?;
-        self.secret_string.put(edition, out)?;
-        Ok(())
+    fn put(&self, edition: Edition, out: &mut Out) {
+        self.client_request_token.put(edition, out);
+        self.description.put(edition, out);
+        self.kms_key_id.put(edition, out);
+        self.secret_binary.put(edition, out);
+        self.secret_id.put(edition, out);
+        self.secret_string.put(edition, out);
     }
 }
 
@@ -474,11 +460,10 @@ impl Field for UpdateSecretVersionStage {
     }
 
     #[tactic(auto, using(std::proofs::lemmas::List::append_assoc, std::proofs::lemmas::Bool::and_parts), unfolding(crate::specs::Requests::update_secret_version_stage))]
-    fn put(&self, edition: Edition, out: &mut Vec<u8>) -> Result<(), NoMemory> {
-        self.move_to_version_id.put(edition, out)?;
-        self.remove_from_version_id.put(edition, out)?;
-        self.secret_id.put(edition, out)?;
-        self.version_stage.put(edition, out)?;
-        Ok(())
+    fn put(&self, edition: Edition, out: &mut Out) {
+        self.move_to_version_id.put(edition, out);
+        self.remove_from_version_id.put(edition, out);
+        self.secret_id.put(edition, out);
+        self.version_stage.put(edition, out);
     }
 }

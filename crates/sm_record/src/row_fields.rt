@@ -1,5 +1,5 @@
 //! Rows as fields: what stands before all secrets, a secret without its versions, and a version.
-ghost use Rattle.std.specs.Prelude.{◌≡◌, ◌++◌, IsTrue, OnOk};
+ghost use Rattle.std.specs.Prelude.{◌≡◌, ◌++◌, IsTrue};
 ghost use Rattle.sm_record.specs.Reading.{Gives};
 ghost use Rattle.sm_record.specs.Rows as rows;
 ghost use Rattle.sm_record.specs.Rows.{pair, job, rotation, rotation_dates, version};
@@ -7,11 +7,12 @@ ghost use Rattle.sm_record.specs.Rows.{pair, job, rotation, rotation_dates, vers
 use crate::edition::Edition;
 use crate::field::Field;
 use crate::narrow::{Date, Days, Octet};
+use crate::out::Out;
 use crate::since::{put_since, since_fits, since_then};
 use crate::single::byte_at;
 use crate::unread::Unread;
 use sm_model::{
-    Job, KeptPolicy, Label, Moment, NoMemory, Pair, Rotation, Stage, Text, Token, Value, VersionRow,
+    Job, KeptPolicy, Label, Moment, Pair, Rotation, Stage, Text, Token, Value, VersionRow,
 };
 use std::alloc::Global;
 
@@ -28,11 +29,10 @@ pub fn sign_at(sign: u8, bytes: &[u8]) -> Result<&[u8], Unread>
 }
 
 /// Writes the byte that a body of rows begins with.
-pub fn put_sign(sign: u8, out: &mut Vec<u8>) -> Result<(), NoMemory>
-    ensures { OnOk result (out.new.items ≡ out.old.items ++ (rows.sign sign).spell tt) }
+pub fn put_sign(sign: u8, out: &mut Out)
+    ensures { out.new ≡ out.old ++ (rows.sign sign).spell tt }
 {
-    out.push(sign)?;
-    Ok(())
+    out.push(sign);
 }
 
 /// The moment of a date, if there is one.
@@ -110,10 +110,9 @@ impl Field for Pair {
     }
 
     #[tactic(auto, using(std::proofs::lemmas::List::append_assoc, std::proofs::lemmas::Bool::and_parts), unfolding(crate::specs::Rows::pair))]
-    fn put(&self, edition: Edition, out: &mut Vec<u8>) -> Result<(), NoMemory> {
-        self.label.put(edition, out)?;
-        self.id.put(edition, out)?;
-        Ok(())
+    fn put(&self, edition: Edition, out: &mut Out) {
+        self.label.put(edition, out);
+        self.id.put(edition, out);
     }
 }
 
@@ -155,19 +154,18 @@ impl Field for Job {
     }
 
     #[tactic(auto, using(std::proofs::lemmas::List::append_assoc, std::proofs::lemmas::Bool::and_parts), unfolding(crate::specs::Rows::job))]
-    fn put(&self, edition: Edition, out: &mut Vec<u8>) -> Result<(), NoMemory> {
+    fn put(&self, edition: Edition, out: &mut Out) {
         let attempt = Octet {
             number: self.attempt,
         };
         let retry_at = Date {
             moment: self.retry_at,
         };
-        self.token.put(edition, out)?;
-        self.stage.put(edition, out)?;
-        attempt.put(edition, out)?;
-        retry_at.put(edition, out)?;
-        octet_of(self.tested).put(edition, out)?;
-        Ok(())
+        self.token.put(edition, out);
+        self.stage.put(edition, out);
+        attempt.put(edition, out);
+        retry_at.put(edition, out);
+        octet_of(self.tested).put(edition, out);
     }
 }
 
@@ -189,7 +187,7 @@ impl Field for KeptPolicy {
         Ok((KeptPolicy::of(alloc, text)?, rest))
     }
 
-    fn put(&self, edition: Edition, out: &mut Vec<u8>) -> Result<(), NoMemory> {
+    fn put(&self, edition: Edition, out: &mut Out) {
         self.text().put(edition, out)
     }
 }
@@ -207,16 +205,15 @@ fn dates_fit(edition: Edition, rotation: &Rotation) -> bool
 
 /// Writes the schedule of a rotation and its dates.
 #[tactic(auto, using(std::proofs::lemmas::List::append_assoc, std::proofs::lemmas::Bool::and_parts))]
-fn put_dates(edition: Edition, out: &mut Vec<u8>, rotation: &Rotation) -> Result<(), NoMemory>
+fn put_dates(edition: Edition, out: &mut Out, rotation: &Rotation)
     requires { IsTrue ((rotation_dates edition).fits
         (rotation.now.schedule, (rotation.now.next, rotation.now.last))) }
-    ensures { OnOk result (out.new.items ≡ out.old.items ++ (rotation_dates edition).spell
-        (rotation.now.schedule, (rotation.now.next, rotation.now.last))) }
+    ensures { out.new ≡ out.old ++ (rotation_dates edition).spell
+        (rotation.now.schedule, (rotation.now.next, rotation.now.last)) }
 {
-    put_since(edition, out, &rotation.schedule)?;
-    date_of(rotation.next).put(edition, out)?;
-    date_of(rotation.last).put(edition, out)?;
-    Ok(())
+    put_since(edition, out, &rotation.schedule);
+    date_of(rotation.next).put(edition, out);
+    date_of(rotation.last).put(edition, out);
 }
 
 impl Field for Rotation {
@@ -255,12 +252,11 @@ impl Field for Rotation {
     }
 
     #[tactic(auto, using(std::proofs::lemmas::List::append_assoc, std::proofs::lemmas::Bool::and_parts), unfolding(crate::specs::Rows::rotation))]
-    fn put(&self, edition: Edition, out: &mut Vec<u8>) -> Result<(), NoMemory> {
-        self.enabled.put(edition, out)?;
-        self.lambda.put(edition, out)?;
-        days_of(self.days).put(edition, out)?;
-        put_dates(edition, out, self)?;
-        Ok(())
+    fn put(&self, edition: Edition, out: &mut Out) {
+        self.enabled.put(edition, out);
+        self.lambda.put(edition, out);
+        days_of(self.days).put(edition, out);
+        put_dates(edition, out, self);
     }
 }
 
@@ -278,16 +274,15 @@ fn content_fits(edition: Edition, version: &VersionRow) -> bool
 
 /// Writes the value of a version, and what is said of its rotation.
 #[tactic(auto, using(std::proofs::lemmas::List::append_assoc, std::proofs::lemmas::Bool::and_parts))]
-fn put_content(edition: Edition, out: &mut Vec<u8>, version: &VersionRow) -> Result<(), NoMemory>
+fn put_content(edition: Edition, out: &mut Out, version: &VersionRow)
     requires { IsTrue (rows.version_content.fits
         (version.now.value, (version.now.rotated, version.now.by_rotation))) }
-    ensures { OnOk result (out.new.items ≡ out.old.items ++ rows.version_content.spell
-        (version.now.value, (version.now.rotated, version.now.by_rotation))) }
+    ensures { out.new ≡ out.old ++ rows.version_content.spell
+        (version.now.value, (version.now.rotated, version.now.by_rotation)) }
 {
-    version.value.put(edition, out)?;
-    octet_of(version.rotated).put(edition, out)?;
-    version.by_rotation.put(edition, out)?;
-    Ok(())
+    version.value.put(edition, out);
+    octet_of(version.rotated).put(edition, out);
+    version.by_rotation.put(edition, out);
 }
 
 impl Field for VersionRow {
@@ -323,13 +318,12 @@ impl Field for VersionRow {
     }
 
     #[tactic(auto, using(std::proofs::lemmas::List::append_assoc, std::proofs::lemmas::Bool::and_parts), unfolding(crate::specs::Rows::version))]
-    fn put(&self, edition: Edition, out: &mut Vec<u8>) -> Result<(), NoMemory> {
+    fn put(&self, edition: Edition, out: &mut Out) {
         let made = Date { moment: self.made };
-        put_sign(243, out)?;
-        self.id.put(edition, out)?;
-        self.serial.put(edition, out)?;
-        made.put(edition, out)?;
-        put_content(edition, out, self)?;
-        Ok(())
+        put_sign(243, out);
+        self.id.put(edition, out);
+        self.serial.put(edition, out);
+        made.put(edition, out);
+        put_content(edition, out, self);
     }
 }

@@ -1,13 +1,14 @@
 //! What is spelled since the second format. In the first it is absent, and has no bytes.
-ghost use Rattle.std.specs.Prelude.{◌≡◌, ◌++◌, Bool, IsTrue, OnOk, [], None};
+ghost use Rattle.std.specs.Prelude.{◌≡◌, ◌++◌, Bool, IsTrue, [], None};
 ghost use Rattle.sm_record.specs.Codec.{both};
 ghost use Rattle.sm_record.specs.Editions.{is_empty, is_none, since};
 ghost use Rattle.sm_record.specs.Reading.{Gives};
 
 use crate::edition::Edition;
 use crate::field::Field;
+use crate::out::Out;
 use crate::unread::Unread;
-use sm_model::{List, NoMemory, Text};
+use sm_model::{List, Text};
 use std::alloc::Global;
 
 /// What has a value that says that nothing is there.
@@ -110,17 +111,12 @@ pub fn since_then<A: Optional, B: Field>(
 }
 
 /// Writes a thing that is spelled since the second format.
-pub fn put_since<A: Optional>(
-    edition: Edition,
-    out: &mut Vec<u8>,
-    thing: &A,
-) -> Result<(), NoMemory>
+pub fn put_since<A: Optional>(edition: Edition, out: &mut Out, thing: &A)
     requires { IsTrue ((since A.absent A.is_absent (A.codec edition) edition).fits thing.now) }
-    ensures { OnOk result (out.new.items ≡ out.old.items
-        ++ (since A.absent A.is_absent (A.codec edition) edition).spell thing.now) }
+    ensures { out.new ≡ out.old ++ (since A.absent A.is_absent (A.codec edition) edition).spell thing.now }
 {
     match edition {
-        Edition::First => Ok(()),
+        Edition::First => {}
         Edition::Second => thing.put(edition, out),
     }
 }

@@ -1,5 +1,5 @@
 //! Things that are one byte.
-ghost use Rattle.std.specs.Prelude.{◌≡◌, ◌++◌, IsTrue, OnOk, is_some};
+ghost use Rattle.std.specs.Prelude.{◌≡◌, ◌++◌, IsTrue, is_some};
 ghost use Rattle.sm_model.specs.Bounds.{is_attempt};
 ghost use Rattle.sm_record.specs.Codec.{read_byte};
 ghost use Rattle.sm_record.specs.Fields.{truth, truth_of_byte, byte_of_truth, stage, stage_of_byte, byte_of_stage, attempt, attempt_of_byte};
@@ -7,9 +7,10 @@ ghost use Rattle.sm_record.specs.Reading.{Gives};
 
 use crate::edition::Edition;
 use crate::field::Field;
+use crate::out::Out;
 use crate::unread::Unread;
 use sm_base::limits::ATTEMPTS_LIMIT;
-use sm_model::{NoMemory, Stage};
+use sm_model::Stage;
 use std::alloc::Global;
 
 /// The byte at the front.
@@ -60,9 +61,8 @@ impl Field for bool {
     }
 
     #[tactic(auto, unfolding(crate::specs::Fields::truth))]
-    fn put(&self, _edition: Edition, out: &mut Vec<u8>) -> Result<(), NoMemory> {
-        out.push(byte_of_truth(*self))?;
-        Ok(())
+    fn put(&self, _edition: Edition, out: &mut Out) {
+        out.push(byte_of_truth(*self));
     }
 }
 
@@ -111,9 +111,8 @@ impl Field for Stage {
     }
 
     #[tactic(auto, unfolding(crate::specs::Fields::stage))]
-    fn put(&self, _edition: Edition, out: &mut Vec<u8>) -> Result<(), NoMemory> {
-        out.push(byte_of_stage(*self))?;
-        Ok(())
+    fn put(&self, _edition: Edition, out: &mut Out) {
+        out.push(byte_of_stage(*self));
     }
 }
 
@@ -141,10 +140,9 @@ pub fn attempt_at(bytes: &[u8]) -> Result<(u32, &[u8]), Unread>
 
 /// Writes the attempt at a step of a rotation.
 #[tactic(auto, using(crate::proofs::ReadingLemmas::attempt_is_byte), unfolding(crate::specs::Fields::attempt))]
-pub fn put_attempt(out: &mut Vec<u8>, number: u32) -> Result<(), NoMemory>
+pub fn put_attempt(out: &mut Out, number: u32)
     requires { IsTrue (attempt.fits number) }
-    ensures { OnOk result (out.new.items ≡ out.old.items ++ attempt.spell number) }
+    ensures { out.new ≡ out.old ++ attempt.spell number }
 {
-    out.push(number as u8)?;
-    Ok(())
+    out.push(number as u8);
 }

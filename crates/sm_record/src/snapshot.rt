@@ -14,6 +14,7 @@ use crate::body_slice::BodySlice;
 use crate::edition::Edition;
 use crate::field::Field;
 use crate::heads::{put_row_head, put_start};
+use crate::out::Out;
 use crate::row_parts::Start;
 use crate::unread::{DecodeRefused, Unread};
 use sm_model::{Bytes, NoMemory, SecretRow, VersionRow};
@@ -25,15 +26,15 @@ pub fn encode_start(alloc: Global, edition: Edition, base: &Base) -> Result<Byte
     requires { IsTrue (rows.start.fits (start_of_base base.now)) }
     ensures { IfOk result (λ bytes. bytes ≡ start_body base.now) }
 {
-    let mut out = Vec::new(alloc);
+    let mut out = Out::new(alloc);
     let start = Start {
         next: base.rows.next,
         last: base.last,
         entries: base.entries,
         secrets: base.rows.secrets.len() as u64,
     };
-    put_start(edition, &mut out, start)?;
-    Ok(Bytes::new(out))
+    put_start(edition, &mut out, start);
+    out.into_bytes()
 }
 
 /// The body of a secret without its versions.
@@ -42,9 +43,9 @@ pub fn encode_row(alloc: Global, edition: Edition, row: &SecretRow) -> Result<By
     requires { IsTrue ((rows.row_head edition).fits (rows.head_of_row row.now)) }
     ensures { IfOk result (λ bytes. bytes ≡ row_body edition row.now) }
 {
-    let mut out = Vec::new(alloc);
-    put_row_head(edition, &mut out, row)?;
-    Ok(Bytes::new(out))
+    let mut out = Out::new(alloc);
+    put_row_head(edition, &mut out, row);
+    out.into_bytes()
 }
 
 /// The body of a version.
@@ -57,9 +58,9 @@ pub fn encode_version(
     requires { IsTrue (rows.version.fits version.now) }
     ensures { IfOk result (λ bytes. bytes ≡ version_body version.now) }
 {
-    let mut out = Vec::new(alloc);
-    version.put(edition, &mut out)?;
-    Ok(Bytes::new(out))
+    let mut out = Out::new(alloc);
+    version.put(edition, &mut out);
+    out.into_bytes()
 }
 
 /// The rows that bodies spell in this format, all of them. Bodies that are no spelling of rows are told by the place

@@ -6,6 +6,7 @@ ghost use Rattle.sm_record.specs.Spelling.{spelling, HasSpelling, decoded, decod
 
 use crate::edition::Edition;
 use crate::field::Field;
+use crate::out::Out;
 use crate::unread::{DecodeRefused, Unread};
 use sm_model::{Bytes, Entry, NoMemory};
 use std::alloc::Global;
@@ -39,9 +40,9 @@ fn encode_as(alloc: Global, edition: Edition, entry: &Entry) -> Result<Bytes, No
     requires { HasSpelling edition entry.now }
     ensures { IfOk result (λ bytes. bytes ≡ spelling edition entry.now) }
 {
-    let mut out = Vec::new(alloc);
-    entry.put(edition, &mut out)?;
-    Ok(Bytes::new(out))
+    let mut out = Out::new(alloc);
+    entry.put(edition, &mut out);
+    out.into_bytes()
 }
 
 /// The entry that a body spells in this format, all of the body. A body that is no spelling is told by the place of its

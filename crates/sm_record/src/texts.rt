@@ -1,13 +1,14 @@
 //! Texts and bytes, behind their length.
-ghost use Rattle.std.specs.Prelude.{◌≡◌, ◌++◌, IsTrue, OnOk};
+ghost use Rattle.std.specs.Prelude.{◌≡◌, ◌++◌, IsTrue};
 ghost use Rattle.sm_record.specs.Fields.{octets, text, arn, token};
 ghost use Rattle.sm_record.specs.Reading.{Gives};
 
 use crate::edition::Edition;
 use crate::field::Field;
 use crate::numbers::{count_at, count_fits, put_count};
+use crate::out::Out;
 use crate::unread::Unread;
-use sm_model::{Arn, Bytes, NoMemory, ReadRefused, Text, Token};
+use sm_model::{Arn, Bytes, ReadRefused, Text, Token};
 use std::alloc::Global;
 use std::str;
 
@@ -34,13 +35,12 @@ pub fn octets_at(bytes: &[u8]) -> Result<(&[u8], &[u8]), Unread>
 }
 
 #[tactic(auto, using(std::proofs::lemmas::List::append_assoc), unfolding(crate::specs::Fields::octets))]
-pub fn put_octets(out: &mut Vec<u8>, bytes: &[u8]) -> Result<(), NoMemory>
+pub fn put_octets(out: &mut Out, bytes: &[u8])
     requires { IsTrue (octets.fits bytes.now) }
-    ensures { OnOk result (out.new.items ≡ out.old.items ++ octets.spell bytes.now) }
+    ensures { out.new ≡ out.old ++ octets.spell bytes.now }
 {
-    put_count(out, bytes.len())?;
-    out.extend_from_slice(bytes)?;
-    Ok(())
+    put_count(out, bytes.len());
+    out.extend(bytes);
 }
 
 impl Field for Bytes {
@@ -59,9 +59,8 @@ impl Field for Bytes {
         Ok((Bytes::from_slice(alloc, octets)?, rest))
     }
 
-    fn put(&self, _edition: Edition, out: &mut Vec<u8>) -> Result<(), NoMemory> {
-        put_octets(out, self.as_slice())?;
-        Ok(())
+    fn put(&self, _edition: Edition, out: &mut Out) {
+        put_octets(out, self.as_slice());
     }
 }
 
@@ -83,9 +82,8 @@ impl Field for Text {
     }
 
     #[tactic(auto, unfolding(crate::specs::Fields::text))]
-    fn put(&self, _edition: Edition, out: &mut Vec<u8>) -> Result<(), NoMemory> {
-        put_octets(out, self.as_bytes())?;
-        Ok(())
+    fn put(&self, _edition: Edition, out: &mut Out) {
+        put_octets(out, self.as_bytes());
     }
 }
 
@@ -108,9 +106,8 @@ impl Field for Arn {
     }
 
     #[tactic(auto, unfolding(crate::specs::Fields::arn))]
-    fn put(&self, _edition: Edition, out: &mut Vec<u8>) -> Result<(), NoMemory> {
-        put_octets(out, self.as_text().as_bytes())?;
-        Ok(())
+    fn put(&self, _edition: Edition, out: &mut Out) {
+        put_octets(out, self.as_text().as_bytes());
     }
 }
 
@@ -137,8 +134,7 @@ impl Field for Token {
     }
 
     #[tactic(auto, unfolding(crate::specs::Fields::token))]
-    fn put(&self, _edition: Edition, out: &mut Vec<u8>) -> Result<(), NoMemory> {
-        put_octets(out, self.as_text().as_bytes())?;
-        Ok(())
+    fn put(&self, _edition: Edition, out: &mut Out) {
+        put_octets(out, self.as_text().as_bytes());
     }
 }

@@ -4,10 +4,11 @@ ghost use Rattle.sm_record.specs.Entries.{answer, at};
 
 use crate::edition::Edition;
 use crate::field::Field;
+use crate::out::Out;
 use crate::since::{put_since, since_at, since_fits};
 use crate::single::{attempt_at, attempt_fits, byte_at, put_attempt};
 use crate::unread::Unread;
-use sm_model::{Answer, At, Bytes, NoMemory, Rules, Stage, Tag, Text, Token, Value};
+use sm_model::{Answer, At, Bytes, Rules, Stage, Tag, Text, Token, Value};
 use std::alloc::Global;
 
 impl Field for Value {
@@ -38,17 +39,15 @@ impl Field for Value {
     }
 
     #[tactic(auto, using(std::proofs::lemmas::List::append_assoc), unfolding(crate::specs::Fields::value))]
-    fn put(&self, edition: Edition, out: &mut Vec<u8>) -> Result<(), NoMemory> {
+    fn put(&self, edition: Edition, out: &mut Out) {
         match self {
             Value::Text(text) => {
-                out.push(1)?;
-                text.put(edition, out)?;
-                Ok(())
+                out.push(1);
+                text.put(edition, out);
             }
             Value::Bytes(octets) => {
-                out.push(2)?;
-                octets.put(edition, out)?;
-                Ok(())
+                out.push(2);
+                octets.put(edition, out);
             }
         }
     }
@@ -69,10 +68,9 @@ impl Field for Tag {
     }
 
     #[tactic(auto, using(std::proofs::lemmas::List::append_assoc, std::proofs::lemmas::Bool::and_parts), unfolding(crate::specs::Fields::tag))]
-    fn put(&self, edition: Edition, out: &mut Vec<u8>) -> Result<(), NoMemory> {
-        self.key.put(edition, out)?;
-        self.value.put(edition, out)?;
-        Ok(())
+    fn put(&self, edition: Edition, out: &mut Out) {
+        self.key.put(edition, out);
+        self.value.put(edition, out);
     }
 }
 
@@ -92,10 +90,9 @@ impl Field for Rules {
     }
 
     #[tactic(auto, using(std::proofs::lemmas::List::append_assoc, std::proofs::lemmas::Bool::and_parts), unfolding(crate::specs::Fields::rotation_rules))]
-    fn put(&self, edition: Edition, out: &mut Vec<u8>) -> Result<(), NoMemory> {
-        self.days.put(edition, out)?;
-        put_since(edition, out, &self.schedule)?;
-        Ok(())
+    fn put(&self, edition: Edition, out: &mut Out) {
+        self.days.put(edition, out);
+        put_since(edition, out, &self.schedule);
     }
 }
 
@@ -123,11 +120,10 @@ impl Field for At {
     }
 
     #[tactic(auto, using(std::proofs::lemmas::List::append_assoc, std::proofs::lemmas::Bool::and_parts), unfolding(crate::specs::Entries::at))]
-    fn put(&self, edition: Edition, out: &mut Vec<u8>) -> Result<(), NoMemory> {
-        self.token.put(edition, out)?;
-        self.stage.put(edition, out)?;
-        put_attempt(out, self.attempt)?;
-        Ok(())
+    fn put(&self, edition: Edition, out: &mut Out) {
+        self.token.put(edition, out);
+        self.stage.put(edition, out);
+        put_attempt(out, self.attempt);
     }
 }
 
@@ -162,24 +158,20 @@ impl Field for Answer {
     }
 
     #[tactic(auto, using(std::proofs::lemmas::List::append_assoc), unfolding(crate::specs::Entries::answer))]
-    fn put(&self, edition: Edition, out: &mut Vec<u8>) -> Result<(), NoMemory> {
+    fn put(&self, edition: Edition, out: &mut Out) {
         match self {
             Answer::Value(value) => {
-                out.push(1)?;
-                value.put(edition, out)?;
-                Ok(())
+                out.push(1);
+                value.put(edition, out);
             }
             Answer::Yes => {
-                out.push(2)?;
-                Ok(())
+                out.push(2);
             }
             Answer::No => {
-                out.push(3)?;
-                Ok(())
+                out.push(3);
             }
             Answer::Failed => {
-                out.push(4)?;
-                Ok(())
+                out.push(4);
             }
         }
     }

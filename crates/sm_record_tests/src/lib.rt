@@ -1,11 +1,9 @@
-//! Tables of entries and rows as bytes.
+//! Bodies written by hand: entries of each act and bases, which are read, and bodies that are none.
 #![tactic(auto)]
 
 #[cfg(test)]
-mod rows;
+mod bases;
 #[cfg(test)]
-mod spellings;
+mod entries;
 #[cfg(test)]
-mod table;
-#[cfg(test)]
-mod words;
+mod refused;

@@ -1,3 +1,4 @@
+mod ShipLemmas
 mod AnswerLemmas
 mod TakeLemmas
 mod TimelyLemmas

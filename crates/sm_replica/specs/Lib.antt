@@ -1,3 +1,4 @@
+pub mod Shipped
 pub mod Replicas
 pub mod Taking
 pub mod Answering

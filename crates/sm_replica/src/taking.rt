@@ -6,8 +6,8 @@ ghost use Rattle.sm_replica.specs.Taking.{Follows, MayStand, Stands, TakesEntrie
 
 use crate::replica::Taken;
 use sm_model::{Entry, NoMemory};
+use sm_opening::{Refusal, ReplayState, Stopped};
 use sm_record::Base;
-use sm_replay::{Refusal, ReplayState, Stopped};
 use sm_sound::is_sound;
 use std::alloc::Global;
 

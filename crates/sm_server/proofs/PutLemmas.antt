@@ -4,14 +4,14 @@ use Rattle.std.proofs.lemmas.Grind.{flat_map-append}
 use Rattle.std.proofs.lemmas.List.{take_all}
 use Rattle.std.specs.Io.KnownBytes.{append_known}
 use Rattle.sm_base.specs.Faults.{Rose}
-use Rattle.sm_frame.specs.declared.frame.Frame.{Frame}
+use Rattle.sm_frames.specs.declared.frame.Frame.{Frame}
 use Rattle.sm_frames.specs.declared.input.Input.TheVariants as inputs
 use Rattle.sm_frames.specs.Frames.{frame_bytes}
 use Rattle.sm_session.specs.Endings.{count_limit}
 use Rattle.sm_seat_traces.proofs.KnownLemmas.{append_known-nil, told_more}
 use Rattle.sm_server.specs.declared.status.Status.{Status}
 use Rattle.sm_server.specs.declared.status.Status.TheVariants.{Done, Words, Damaged, OpenFault, Memory, People, SinkFault, SourceFault, EdgeFault, Cut, BadMessage, Enough}
-use Rattle.sm_ship.specs.Shipped.{AreShippable, IsShippable}
+use Rattle.sm_replica.specs.Shipped.{AreShippable, IsShippable}
 use Rattle.sm_store.specs.Held.{Held}
 use Rattle.sm_server.specs.Ships.{AreShipped, PutsFrames, ShipsBy, shipped_bytes}
 use Rattle.sm_server.specs.Shipping.{PutsBytes, PutsFrame}

@@ -3,7 +3,7 @@ ghost use Rattle.std.specs.Prelude.{◌≡◌, ◌≤◌, List, ℕ};
 ghost use Rattle.std.specs.Io.KnownBytes.{append_known};
 ghost use Rattle.sm_base.specs.Faults.{Rose};
 ghost use Rattle.sm_account.specs.Accounts.{all_of};
-ghost use Rattle.sm_ship.specs.Shipped.{AreShippable, IsShippable};
+ghost use Rattle.sm_replica.specs.Shipped.{AreShippable, IsShippable};
 ghost use Rattle.sm_server.specs.Ships.{PutsFrames, ShipsBy, shipped_bytes};
 ghost use Rattle.sm_server.specs.Shipping.{PutsBytes, PutsFrame};
 
@@ -11,11 +11,10 @@ use crate::status::Status;
 use sm_account::Account;
 use sm_base::NoMemory;
 use sm_disk::Disk;
-use sm_frame::Frame;
-use sm_frames::encode;
+use sm_frames::{Frame, encode};
 use sm_io::{Sink, Wrote, put_all};
+use sm_replica::ship;
 use sm_rotator::Rotator;
-use sm_ship::ship;
 use std::alloc::Global;
 
 /// Writes the frames that bring a replica from a position to the end of an account.

@@ -1,21 +1,19 @@
-//! Runs of the server over memory, compared with the replies that they must give.
+//! What no clause and no run of the program shows: runs of the server over a disk each call of which fails in turn, a
+//! random source that fails, a caching reader whose clock goes on for minutes and back, and a note from one seat to
+//! another.
 #![tactic(auto)]
 
 #[cfg(test)]
-mod conversations;
+mod failing;
 #[cfg(test)]
-mod drills;
+mod gates;
 #[cfg(test)]
-mod expecting;
+mod notes;
 #[cfg(test)]
 mod outside;
 #[cfg(test)]
-mod people;
-#[cfg(test)]
 mod readers;
 #[cfg(test)]
-mod replicas;
+mod runs;
 #[cfg(test)]
-mod streams;
-#[cfg(test)]
-mod words;
+mod script;

@@ -2,8 +2,6 @@
 #![tactic(auto)]
 
 #[cfg(test)]
-mod connection_workers;
-#[cfg(test)]
 mod meeting;
 #[cfg(test)]
 mod rotations;

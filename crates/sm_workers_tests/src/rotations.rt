@@ -1,11 +1,12 @@
-//! Rotators that hold their answers, while others are at the same account.
+//! Workers of a server that go on beside each other: connections that are served, and rotators that hold their answers
+//! while others are at the same account.
 ghost use Rattle.std.specs.Prelude.{◌≡◌, All, IfOk, vec_len};
 ghost use Rattle.sm_workers.specs.Workers.{IsFresh};
 
 use crate::meeting::{Holding, Meeting, Part, Watched};
 use crate::support::{
     MemoryWorker, connection, connection_worker, edge, late_rotation_worker, outcome, ran_over,
-    ran_server, rotation_worker, three,
+    rotation_worker, three,
 };
 use sm_io::MemoryConn;
 use sm_memory_fixtures::fails::fails_at;
@@ -13,6 +14,7 @@ use sm_model::{Fails, Stage};
 use sm_rotator::ScriptRotator;
 use sm_server::Status;
 use sm_workers::Task;
+use std::alloc::Global;
 use std::sync::Wait;
 use std::test::Fail;
 use std::thread::Threads;
@@ -38,21 +40,29 @@ const ROTATE_DAILY: &str =
 
 const READ: (&str, &str) = ("GetSecretValue", r#"{"SecretId":"db/one"}"#);
 
-/// An edge with one connection, and its part in a meeting.
+/// What came of three workers, each as `came` says it; how the server ends; and how many entries its account has then.
+type Ran = ([(u64, bool); 3], (Status, u64));
+
+/// One connection with these messages.
+fn one(alloc: Global, messages: &[(&str, &str)]) -> Result<Vec<MemoryConn>, Fail> {
+    let mut conns = Vec::new(alloc);
+    conns.push(connection(alloc, messages)?)?;
+    Ok(conns)
+}
+
+/// An edge with these connections, and its part in a meeting.
 fn watched<'a>(
     rt: &'a HostRuntime,
     meeting: &'a Meeting,
     part: Part,
-    conn: MemoryConn,
-) -> Result<Watched<'a>, Fail> {
-    let mut conns = Vec::new(rt.alloc());
-    conns.push(conn)?;
-    Ok(Watched {
+    conns: Vec<MemoryConn>,
+) -> Watched<'a> {
+    Watched {
         rt,
         meeting,
         part,
-        edge: edge(rt.alloc(), conns, None),
-    })
+        edge: edge(rt.alloc(), conns),
+    }
 }
 
 /// A rotator that holds its answers at a stage until the other of the meeting has come.
@@ -80,6 +90,73 @@ fn came<'a>(worker: &Over<'a>) -> (u64, bool) {
     }
 }
 
+/// Runs three workers over a disk of which these calls fail.
+fn ran<'a, H: Threads + Wait + Sync>(
+    threads: &H,
+    alloc: Global,
+    mut workers: Vec<Over<'a>>,
+    disk_fails: Fails,
+) -> Result<Ran, Fail>
+    requires fresh { All IsFresh workers.items }
+    requires many { vec_len workers ≡ 3 }
+{
+    let ended = ran_over(threads, alloc, workers.as_mut_slice(), disk_fails)?;
+    let all = [came(&workers[0]), came(&workers[1]), came(&workers[2])];
+    Ok((all, ended))
+}
+
+/// A connection that makes a secret with a token of its own, of this letter and number.
+fn maker(alloc: Global, letter: char, number: usize) -> Result<MemoryConn, Fail> {
+    let body = format!(in alloc;
+        "{{\"Name\":\"{letter}{number}\",\"SecretString\":\"s3cret\",\
+          \"ClientRequestToken\":\"{letter}-{number}-11111111-1111-4111-8111-111111\"}}"
+    )?;
+    connection(alloc, &[(CREATE, body.as_str())])
+}
+
+/// Twenty connections that make secrets.
+fn makers(alloc: Global, letter: char) -> Result<Vec<MemoryConn>, Fail> {
+    let mut conns = Vec::new(alloc);
+    for number in 0..20 {
+        conns.push(maker(alloc, letter, number)?)?;
+    }
+    Ok(conns)
+}
+
+/// Two connection workers whose connections make twenty secrets each, and a rotation worker, which ends once both doors
+/// are closed.
+fn servers<'a>(rt: &'a HostRuntime, meeting: &'a Meeting) -> Result<Vec<Over<'a>>, Fail>
+    ensures fresh { IfOk result (λ workers. All IsFresh workers.items) }
+    ensures many { IfOk result (λ workers. vec_len workers ≡ 3) }
+{
+    let alloc = rt.alloc();
+    let first = makers(alloc, 'a')?;
+    let second = makers(alloc, 'b')?;
+    three(
+        alloc,
+        connection_worker(alloc, watched(rt, meeting, Part::Apart, first)),
+        connection_worker(alloc, watched(rt, meeting, Part::Apart, second)),
+        rotation_worker(alloc, holding(rt, meeting, Stage::Create)),
+    )
+}
+
+/// What comes of forty connections at two connection workers.
+fn served<H: Threads + Wait + Sync>(rt: &HostRuntime, threads: &H) -> Result<Ran, Fail> {
+    let meeting = Meeting::new();
+    let workers = servers(rt, &meeting)?;
+    ran(threads, rt.alloc(), workers, Fails::never(rt.alloc()))
+}
+
+#[test]
+fn each_connection_is_served(rt: HostRuntime) -> Result<(), Fail> {
+    let out = served(&rt, &rt)?;
+    assert_eq!(rt;
+        out,
+        ([(20, true), (20, true), (0, true)], (Status::Done, 40))
+    );
+    Ok(())
+}
+
 /// A connection worker that makes and rotates a secret, one that reads it behind the first of a meeting, and a rotation
 /// worker whose rotator is that first at testSecret.
 fn testers<'a>(rt: &'a HostRuntime, meeting: &'a Meeting) -> Result<Vec<Over<'a>>, Fail>
@@ -87,38 +164,28 @@ fn testers<'a>(rt: &'a HostRuntime, meeting: &'a Meeting) -> Result<Vec<Over<'a>
     ensures many { IfOk result (λ workers. vec_len workers ≡ 3) }
 {
     let alloc = rt.alloc();
-    let rotates = connection(alloc, &[(CREATE, FIRST), (ROTATE, ROTATE_FIRST)])?;
-    let reads = connection(alloc, &[READ])?;
+    let rotates = one(alloc, &[(CREATE, FIRST), (ROTATE, ROTATE_FIRST)])?;
+    let reads = one(alloc, &[READ])?;
     three(
         alloc,
-        connection_worker(alloc, watched(rt, meeting, Part::Apart, rotates)?),
-        connection_worker(alloc, watched(rt, meeting, Part::Second, reads)?),
+        connection_worker(alloc, watched(rt, meeting, Part::Apart, rotates)),
+        connection_worker(alloc, watched(rt, meeting, Part::Second, reads)),
         rotation_worker(alloc, holding(rt, meeting, Stage::Test)),
     )
 }
 
 /// A rotation whose rotator holds its answer at testSecret until a connection of another connection worker got the
-/// value, which that connection worker hands out only once testSecret is asked: what came of both connection workers
-/// and of the rotation worker, how the server ends, and how many entries its account has then.
-fn read_while_tested<H: Threads + Wait + Sync>(
-    rt: &HostRuntime,
-    threads: &H,
-) -> Result<((u64, bool), (u64, bool), (u64, bool), (Status, u64)), Fail> {
+/// value, which that connection worker hands out only once testSecret is asked.
+fn read_while_tested<H: Threads + Wait + Sync>(rt: &HostRuntime, threads: &H) -> Result<Ran, Fail> {
     let meeting = Meeting::new();
-    let mut workers = testers(rt, &meeting)?;
-    let ended = ran_server(threads, rt.alloc(), workers.as_mut_slice())?;
-    Ok((
-        came(&workers[0]),
-        came(&workers[1]),
-        came(&workers[2]),
-        ended,
-    ))
+    let workers = testers(rt, &meeting)?;
+    ran(threads, rt.alloc(), workers, Fails::never(rt.alloc()))
 }
 
 #[test]
 fn a_value_is_read_while_the_rotator_tests_another(rt: HostRuntime) -> Result<(), Fail> {
     let out = read_while_tested(&rt, &rt)?;
-    assert_eq!(rt; out, ((1, true), (1, true), (4, true), (Status::Done, 6)));
+    assert_eq!(rt; out, ([(1, true), (1, true), (4, true)], (Status::Done, 6)));
     Ok(())
 }
 
@@ -135,37 +202,40 @@ fn rotators<'a>(rt: &'a HostRuntime, meeting: &'a Meeting) -> Result<Vec<Over<'a
         (ROTATE, ROTATE_FIRST),
         (ROTATE, ROTATE_SECOND),
     ];
-    let rotates = connection(alloc, &messages)?;
+    let rotates = one(alloc, &messages)?;
     three(
         alloc,
-        connection_worker(alloc, watched(rt, meeting, Part::Host, rotates)?),
+        connection_worker(alloc, watched(rt, meeting, Part::Host, rotates)),
         rotation_worker(alloc, holding(rt, meeting, Stage::Create)),
         rotation_worker(alloc, holding(rt, meeting, Stage::Create)),
     )
 }
 
-/// Two rotations, of which each one's rotator holds its first answer until the first step of the other was asked: what
-/// came of the connection worker and of both rotation workers, how the server ends, and how many entries its account
-/// has then.
+/// Two rotations, of which each one's rotator holds its first answer until the first step of the other was asked. Which
+/// rotation worker is asked the further steps is not said: both together count as the second.
 fn both_at_their_first_step<H: Threads + Wait + Sync>(
     rt: &HostRuntime,
     threads: &H,
-) -> Result<((u64, bool), (u64, bool), (Status, u64)), Fail> {
+) -> Result<Ran, Fail> {
     let meeting = Meeting::new();
-    let mut workers = rotators(rt, &meeting)?;
-    let ended = ran_server(threads, rt.alloc(), workers.as_mut_slice())?;
-    let (first, second) = (came(&workers[1]), came(&workers[2]));
-    Ok((
-        came(&workers[0]),
-        (first.0.saturating_add(second.0), first.1 && second.1),
-        ended,
-    ))
+    let workers = rotators(rt, &meeting)?;
+    let ([door, first, second], ended) = ran(
+        threads,
+        rt.alloc(),
+        workers,
+        Fails::never(rt.alloc()),
+    )?;
+    let both = (first.0.saturating_add(second.0), first.1 && second.1);
+    Ok(([door, both, (0, true)], ended))
 }
 
 #[test]
 fn two_secrets_are_rotated_at_once(rt: HostRuntime) -> Result<(), Fail> {
     let out = both_at_their_first_step(&rt, &rt)?;
-    assert_eq!(rt; out, ((1, true), (8, true), (Status::Done, 12)));
+    assert_eq!(rt;
+        out,
+        ([(1, true), (8, true), (0, true)], (Status::Done, 12))
+    );
     Ok(())
 }
 
@@ -181,33 +251,26 @@ fn daily<'a>(rt: &'a HostRuntime, meeting: &'a Meeting) -> Result<Vec<Over<'a>>,
     ensures many { IfOk result (λ workers. vec_len workers ≡ 3) }
 {
     let alloc = rt.alloc();
-    let rotates = connection(alloc, &[(CREATE, FIRST), (ROTATE, ROTATE_DAILY)])?;
-    let reads = connection(alloc, &[READ])?;
+    let rotates = one(alloc, &[(CREATE, FIRST), (ROTATE, ROTATE_DAILY)])?;
+    let reads = one(alloc, &[READ])?;
     three(
         alloc,
-        connection_worker(alloc, watched(rt, meeting, Part::Apart, rotates)?),
-        connection_worker(alloc, watched(rt, meeting, Part::Second, reads)?),
+        connection_worker(alloc, watched(rt, meeting, Part::Apart, rotates)),
+        connection_worker(alloc, watched(rt, meeting, Part::Second, reads)),
         late_rotation_worker(alloc, holding(rt, meeting, Stage::Set)),
     )
 }
 
-/// A due rotation whose start fails at this call of the disk: what came of both connection workers and of the rotation
-/// worker, how the server ends, and how many entries its account has then.
+/// A due rotation whose start fails at this call of the disk.
 fn started_behind_a_fault<H: Threads + Wait + Sync>(
     rt: &HostRuntime,
     threads: &H,
     call: u64,
-) -> Result<((u64, bool), (u64, bool), (u64, bool), (Status, u64)), Fail> {
+) -> Result<Ran, Fail> {
     let meeting = Meeting::new();
-    let mut workers = daily(rt, &meeting)?;
     let disk_fails = fails_at(rt.alloc(), call, false)?;
-    let ended = ran_over(threads, rt.alloc(), workers.as_mut_slice(), disk_fails)?;
-    Ok((
-        came(&workers[0]),
-        came(&workers[1]),
-        came(&workers[2]),
-        ended,
-    ))
+    let workers = daily(rt, &meeting)?;
+    ran(threads, rt.alloc(), workers, disk_fails)
 }
 
 #[test]
@@ -216,7 +279,7 @@ fn a_rotation_worker_goes_on_behind_a_fault_of_the_disk(rt: HostRuntime) -> Resu
         let out = started_behind_a_fault(&rt, &rt, call)?;
         assert_eq!(rt;
             out,
-            ((1, true), (1, true), (4, true), (Status::Done, 7)),
+            ([(1, true), (1, true), (4, true)], (Status::Done, 7)),
             "{call}"
         );
     }

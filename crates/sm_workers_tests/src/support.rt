@@ -7,7 +7,6 @@ use sm_io::{CountWords, Edge, FixedClock, MemoryConn, MemoryEdge};
 use sm_memory_fixtures::connections;
 use sm_memory_fixtures::connections::WELL;
 use sm_memory_fixtures::disks::disk_of;
-use sm_memory_fixtures::fails::fails_from;
 use sm_memory_fixtures::messages::add_message;
 use sm_model::{Fails, List, Moment};
 use sm_rotator::Rotator;
@@ -36,9 +35,9 @@ pub fn connection(alloc: Global, messages: &[(&str, &str)]) -> Result<MemoryConn
     Ok(connections::connection(alloc, input.as_slice(), &WELL)?)
 }
 
-/// An edge that hands out these connections, unless an accept fails.
-pub fn edge(alloc: Global, conns: Vec<MemoryConn>, from: Option<u64>) -> MemoryEdge<ConnEnd> {
-    MemoryEdge::new(alloc, List::new(conns), fails_from(alloc, from))
+/// An edge that hands out these connections.
+pub fn edge(alloc: Global, conns: Vec<MemoryConn>) -> MemoryEdge<ConnEnd> {
+    MemoryEdge::new(alloc, List::new(conns), Fails::never(alloc))
 }
 
 /// A worker for an edge.
@@ -76,7 +75,7 @@ pub fn late_rotation_worker<E, R: Rotator>(alloc: Global, rotator: R) -> MemoryW
 }
 
 /// Adds a worker.
-pub fn add<E: Drop, R: Rotator + Drop>(
+fn add<E: Drop, R: Rotator + Drop>(
     workers: &mut Vec<MemoryWorker<E, R>>,
     worker: MemoryWorker<E, R>,
 ) -> Result<(), Fail>
@@ -109,22 +108,17 @@ pub fn three<E: Drop, R: Rotator + Drop>(
     Ok(workers)
 }
 
-/// How a server over an empty disk ends that runs these workers for everybody, and how many entries its account has
-/// then.
-pub fn ran_server<E: Edge<ConnEnd> + Send, R: Rotator + Drop + Send, H: Threads + Wait + Sync>(
-    rt: &H,
-    alloc: Global,
-    workers: &mut [MemoryWorker<E, R>],
-) -> Result<(Status, u64), Fail>
-where
-    E::C: Send,
-    requires many { (1 ≤ length workers.old) × (length workers.old ≤ 128) }
-    requires fresh { All IsFresh workers.old }
-{
-    ran_over(rt, alloc, workers, Fails::never(alloc))
+/// The words of a server's command line.
+fn serving_words(alloc: Global) -> Result<Vec<String>, Fail> {
+    let mut words = Vec::new(alloc);
+    for word in ["--mode", "serve"] {
+        words.push(String::from_str(alloc, word)?)?;
+    }
+    Ok(words)
 }
 
-/// The same over a disk of which these calls fail.
+/// How a server ends that runs these workers for everybody, over an empty disk of which these calls fail, and how many
+/// entries its account has then.
 pub fn ran_over<E: Edge<ConnEnd> + Send, R: Rotator + Drop + Send, H: Threads + Wait + Sync>(
     rt: &H,
     alloc: Global,
@@ -136,10 +130,7 @@ where
     requires many { (1 ≤ length workers.old) × (length workers.old ≤ 128) }
     requires fresh { All IsFresh workers.old }
 {
-    let mut words = Vec::new(alloc);
-    for word in ["--mode", "serve"] {
-        words.push(String::from_str(alloc, word)?)?;
-    }
+    let words = serving_words(alloc)?;
     let disk = disk_of(alloc, b"", disk_fails)?;
     match run_server(rt, alloc, words.as_slice(), workers, disk, b"", &Nobody) {
         RanBy::Opened(status, account) => Ok((status, account.entries())),

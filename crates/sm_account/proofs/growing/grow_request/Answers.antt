@@ -1,7 +1,7 @@
 use Rattle.std.proofs.Common.{◌≤◌, refl, sym, subst}
 use Rattle.sm_base.specs.declared.moment.TheConstants.{LAST_READING}
 use Rattle.sm_model.specs.declared.entry.Entry.{Entry}
-use Rattle.sm_sizes.specs.Spellable.{IsSpellable}
+use Rattle.sm_encoded_size.specs.Spellable.{IsSpellable}
 use Rattle.sm_table.specs.Changes.{CanMake}
 use Rattle.sm_account.proofs.growing.grow_request.Goals as goal
 

@@ -7,7 +7,7 @@ use Rattle.sm_core.specs.Histories.{LegalAct}
 use Rattle.sm_core.specs.Judging.{is_reading}
 use Rattle.sm_model.specs.declared.entry.Act.TheVariants.{Asked}
 use Rattle.sm_versions.specs.Prune.{pruning}
-use Rattle.sm_sizes.proofs.RequestSizes.{few_tags}
+use Rattle.sm_encoded_size.proofs.RequestSizes.{few_tags}
 use Rattle.sm_account.specs.Outcome.{Question, asked_entry}
 use Rattle.sm_account.proofs.HandleLemmas.{after_room, wanted_memory}
 use Rattle.sm_account.proofs.QuestionLemmas.{of_change, read_so, refused_so, made_so}

@@ -1,6 +1,6 @@
 use Rattle.std.proofs.Common.{subst, sym}
 use Rattle.sm_sound.specs.Bases.{IsSound}
-use Rattle.sm_replay.proofs.FollowLemmas.{nothing_sound}
+use Rattle.sm_opening.proofs.FollowLemmas.{nothing_sound}
 use Rattle.sm_opening.specs.Lawful.{base_under}
 use Rattle.sm_opening.proofs.lawful.replayed_under.Goals as goal
 

@@ -1,6 +1,6 @@
 use Rattle.std.proofs.Common.{arith}
 use Rattle.sm_store.specs.BaseOpenings.{held_of}
-use Rattle.sm_replay.specs.Following.{StopsAfter}
+use Rattle.sm_opening.specs.Following.{StopsAfter}
 use Rattle.sm_opening.specs.Lawful.{base_under}
 use Rattle.sm_opening.proofs.JudgedLemmas.{illegal_told}
 use Rattle.sm_opening.proofs.lawful.stopped_behind.Goals as goal

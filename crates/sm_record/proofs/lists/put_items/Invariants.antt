@@ -3,4 +3,4 @@ use Rattle.sm_record.proofs.lists.put_items.Given as goal
 
 abbrev pub invariant-loop-item : goal.invariant-loop-item
 invariant-loop-item g l =
-    l.out.items ≡ l.fn.out.items ++ flat_map (g.A.Field.codec l.edition).spell (take l.item-index l.items)
+    l.out ≡ l.fn.out ++ flat_map (g.A.Field.codec l.edition).spell (take l.item-index l.items)

@@ -1,4 +1,0 @@
-pub mod TypedLemmas
-pub mod BodySizes
-pub mod SnapshotSizes
-pub mod MeasureLemmas

@@ -1,6 +1,0 @@
-use Rattle.std.proofs.Common.{take}
-use Rattle.sm_bodies.specs.Typed.{RowsTyped}
-use Rattle.sm_bodies.proofs.typed.note_rows.Given as goal
-
-abbrev pub invariant-loop-row : goal.invariant-loop-row
-invariant-loop-row l = RowsTyped (take l.row-index l.rows)

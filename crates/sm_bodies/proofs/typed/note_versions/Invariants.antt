@@ -1,6 +1,0 @@
-use Rattle.std.proofs.Common.{take}
-use Rattle.sm_bodies.specs.Typed.{VersionsTyped}
-use Rattle.sm_bodies.proofs.typed.note_versions.Given as goal
-
-abbrev pub invariant-loop-at : goal.invariant-loop-at
-invariant-loop-at l = VersionsTyped (take l.at l.versions)

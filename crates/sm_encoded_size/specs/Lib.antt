@@ -1,0 +1,4 @@
+pub mod Texts
+pub mod Spellable
+pub mod Typed
+pub mod Files

@@ -1,0 +1,5 @@
+pub mod UpdateSecretVersionStageLemmas
+pub mod RegionalLemmas
+pub mod ReplicateSecretToRegionsLemmas
+pub mod RemoveRegionsFromReplicationLemmas
+pub mod StopReplicationToReplicaLemmas

@@ -1,0 +1,5 @@
+pub mod UpdateSecretVersionStage
+pub mod Regional
+pub mod ReplicateSecretToRegions
+pub mod RemoveRegionsFromReplication
+pub mod StopReplicationToReplica

@@ -1,7 +1,0 @@
-//! Tables of policies, patterns, people and callers.
-#![tactic(auto)]
-
-#[cfg(test)]
-mod people;
-#[cfg(test)]
-mod policies;

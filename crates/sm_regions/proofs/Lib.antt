@@ -1,4 +1,0 @@
-pub mod RegionalLemmas
-pub mod ReplicateSecretToRegionsLemmas
-pub mod RemoveRegionsFromReplicationLemmas
-pub mod StopReplicationToReplicaLemmas

@@ -1,4 +1,0 @@
-pub mod Regional
-pub mod ReplicateSecretToRegions
-pub mod RemoveRegionsFromReplication
-pub mod StopReplicationToReplica

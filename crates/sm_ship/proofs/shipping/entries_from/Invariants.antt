@@ -1,6 +1,0 @@
-use Rattle.std.proofs.Common.{◌≡◌, drop, take}
-use Rattle.sm_ship.specs.Shipped.{entries_of}
-use Rattle.sm_ship.proofs.shipping.entries_from.Given as goal
-
-abbrev pub invariant-loop-k : goal.invariant-loop-k
-invariant-loop-k g l = l.entries.items ≡ take l.k (drop l.place (entries_of l.account))

@@ -1,3 +1,0 @@
-pub mod FieldSizes
-pub mod RequestSizes
-pub mod SpelledLaws
