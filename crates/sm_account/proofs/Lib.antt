@@ -24,3 +24,5 @@ pub mod MayLemmas
 pub mod AccountLemmas
 mod FreshLemmas
 mod VouchLemmas
+pub mod SeatTraceLaws
+pub mod OriginLemmas

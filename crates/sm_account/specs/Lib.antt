@@ -21,3 +21,4 @@ pub mod Values
 pub mod Accounts
 pub mod Openings
 pub mod Prefixes
+pub mod SeatTraces

@@ -11,10 +11,9 @@ use Rattle.sm_frames.specs.declared.reader.NextFrame.{NextFrame}
 use Rattle.sm_frames.specs.declared.reader.NextFrame.TheVariants as next
 use Rattle.sm_frames.specs.Frames.{IsFrame, frame_bytes}
 use Rattle.sm_frames.specs.Reading.{FrameReaderState, Answers, Reads as ReadsFrame, last_place, stopped}
-use Rattle.sm_io.proofs.Known.{prepend_known-append}
 use Rattle.sm_principal.specs.declared.people.People.{People}
 use Rattle.sm_session.specs.Endings.{Sides, count_limit}
-use Rattle.sm_seat_traces.proofs.KnownLemmas.{append_known-nil, prepend_known-nil, told_more}
+use Rattle.sm_io.proofs.Known.{append_known-nil, prepend_known-append, prepend_known-nil, told_more}
 use Rattle.sm_follow.specs.declared.end.End.{End}
 use Rattle.sm_follow.specs.declared.end.End.TheVariants as ends
 use Rattle.sm_follow.specs.declared.follower.Follower.{Follower}

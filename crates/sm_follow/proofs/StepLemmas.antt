@@ -7,7 +7,7 @@ use Rattle.sm_disk.specs.declared.disk.Disk.{Ghosts}
 use Rattle.sm_frames.specs.declared.input.Input.{Input}
 use Rattle.sm_principal.specs.declared.people.People.{People}
 use Rattle.sm_session.specs.Replies.{reply_of}
-use Rattle.sm_seat_traces.proofs.KnownLemmas.{append_known-nil}
+use Rattle.sm_io.proofs.Known.{append_known-nil}
 use Rattle.sm_follow.specs.declared.end.End.{End}
 use Rattle.sm_follow.specs.declared.end.End.TheVariants as ends
 use Rattle.sm_follow.specs.declared.follower.Follower.{Follower}

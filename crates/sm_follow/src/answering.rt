@@ -16,7 +16,6 @@ ghost use Rattle.sm_follow.specs.InputTurns.{Asks, State, judged_answer, moment_
 use crate::follower::{Follower, Turned};
 use crate::output::Output;
 use crate::promoting::stop_replication;
-use sm_account::Handled;
 use sm_base::{Bytes, Fails, NoMemory};
 use sm_disk::Disk;
 use sm_http::{Message, Next, Reader};
@@ -25,7 +24,7 @@ use sm_json::Scratch;
 use sm_judging::Judged;
 use sm_model::{Moment, Person, Request};
 use sm_principal::People;
-use sm_session::{Heard, Said, read, say_handled, say_refusal};
+use sm_session::{Handled, Heard, Said, read, say_handled, say_refusal};
 use std::alloc::Global;
 
 /// How many bytes a source in memory gives at a time.

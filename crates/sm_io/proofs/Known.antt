@@ -1,8 +1,9 @@
 -- Bytes that are told optionally, after one part and then another.
-use Rattle.std.proofs.Common.{◌≡◌, ℕ, ◌+◌, List, ◌++◌, take, drop, None, Some, refl, sym, ap, ◌∙◌, arith, append_assoc, length}
+use Rattle.std.proofs.Common.{◌≡◌, ℕ, ◌+◌, List, [], ◌++◌, take, drop, None, Some, refl, sym, ap, ◌∙◌, arith, append_assoc, length}
 use Rattle.std.specs.Prelude.{Option}
 use Rattle.std.specs.Io.KnownBytes.{append_known, prepend_known}
 use Rattle.std.proofs.Math.Seq.{take-add}
+use Rattle.std.proofs.lemmas.Grind.{common_steps}
 use Rattle.std.proofs.lemmas.Slice.{between_to_end}
 use Rattle.std.specs.List.{between}
 
@@ -37,3 +38,19 @@ prepend_known-piece first now then old new at n before front step =
     before ∙ ap (λ part. prepend_known part now) (sym front) ∙ ap (prepend_known (take at new)) step
     ∙ prepend_known-append (take at new) (take n (drop at new)) then
     ∙ ap (λ part. prepend_known part then) (sym (take-add at n new))
+
+-- no bytes more
+pub append_known-nil : (known : Option (List ℕ)) → append_known known [] ≡ known
+append_known-nil None = refl
+append_known-nil (Some bytes) = grind (arith, common_steps)
+
+pub prepend_known-nil : (known : Option (List ℕ)) → prepend_known [] known ≡ known
+prepend_known-nil None = refl
+prepend_known-nil (Some bytes) = refl
+
+-- what follows what was told before
+pub told_more : (before now after : Option (List ℕ)) (xs ys : List ℕ) → now ≡ append_known before xs
+    → after ≡ append_known now ys
+    → after ≡ append_known before (xs ++ ys)
+told_more before now after xs ys first then =
+    then ∙ ap (λ known. append_known known ys) first ∙ append_known-append before xs ys

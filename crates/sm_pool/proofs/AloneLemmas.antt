@@ -15,7 +15,7 @@ use Rattle.sm_account.specs.Efforts.{Due, Effort, Over, Undue}
 use Rattle.sm_account.specs.Report.{ReportsAs, reported_by}
 use Rattle.sm_account.specs.StartDue.{StartsAs, started_by}
 use Rattle.sm_account.specs.States.{Base}
-use Rattle.sm_seat_traces.specs.SeatTraces.{History, SeatTrace, NoGap}
+use Rattle.sm_account.specs.SeatTraces.{History, SeatTrace, NoGap}
 use Rattle.sm_pool.specs.declared.done.Done.{Done}
 use Rattle.sm_pool.specs.Alone.{IsStale, OnDisk}
 use Rattle.sm_pool.specs.Ends.{due_ends, report_ends}

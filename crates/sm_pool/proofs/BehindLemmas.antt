@@ -19,8 +19,8 @@ use Rattle.sm_lock.specs.Story.{Grows, entries_of}
 use Rattle.sm_lock.specs.declared.gate.Gate.{Gate}
 use Rattle.sm_lock.specs.declared.pass.Pass.{Pass}
 use Rattle.sm_lock.specs.declared.storied.Storied.{Ghosts}
-use Rattle.sm_seat_traces.specs.SeatTraces.{History, SeatTrace, marks_in, NoGap}
-use Rattle.sm_seat_traces.proofs.SeatTraceLaws.{trace_mine}
+use Rattle.sm_account.specs.SeatTraces.{History, SeatTrace, marks_in, NoGap}
+use Rattle.sm_account.proofs.SeatTraceLaws.{trace_mine}
 use Rattle.sm_pool.specs.declared.holds.Found.{Found}
 use Rattle.sm_pool.specs.Found.{found_by}
 use Rattle.sm_pool.specs.Holds.{HeldAt, Hold, LookHeld, ReportHeld, StartHeld, hold_of, hold_shape}

@@ -11,7 +11,7 @@ use Rattle.sm_account.specs.declared.start_due.StartedDue.{StartedDue}
 use Rattle.sm_account.specs.Report.{report_at, reported_by}
 use Rattle.sm_account.specs.StartDue.{start_at, started_by}
 use Rattle.sm_account.specs.States.{Base, state_at}
-use Rattle.sm_seat_traces.specs.SeatTraces.{History}
+use Rattle.sm_account.specs.SeatTraces.{History}
 use Rattle.sm_pool.specs.declared.done.Done.{Done}
 use Rattle.sm_pool.specs.declared.done.Done.TheVariants as ends
 use Rattle.sm_pool.specs.declared.done.Trouble.{Trouble}
@@ -22,7 +22,7 @@ use Rattle.sm_pool.specs.Holds.{ReportHeld, StartHeld, hold_of}
 use Rattle.sm_pool.specs.Turns.{Asked, Begins, Count, HasRisen, IsOfDraw, OnRandom, StartDone, Telling, Tells, Unasked, Undrawn, WorkDone}
 use Rattle.sm_pool.proofs.AskingLemmas.{unasked_none}
 use Rattle.sm_pool.proofs.HoldLemmas.{trace_of_one}
-use Rattle.sm_seat_traces.proofs.KnownLemmas.{append_known-nil}
+use Rattle.sm_io.proofs.Known.{append_known-nil}
 
 module _ (base : Base) (gap : History → History → Type 0) (still : (h : History) → gap h h) (seat : ℕ) where
   module _ (replies : Replies) where

@@ -2,7 +2,7 @@
 use Rattle.std.proofs.Common.{ℕ, List, [], ◌∷◌, ◌++◌, sym, subst}
 use Rattle.std.specs.Prelude.{⊤}
 use Rattle.sm_account.specs.History.{by_seat}
-use Rattle.sm_seat_traces.specs.SeatTraces.{History, SeatTrace}
+use Rattle.sm_account.specs.SeatTraces.{History, SeatTrace}
 use Rattle.sm_pool.specs.Holds.{HeldAt, Hold, hold_shape}
 
 module _ (gap : History → History → Type 0) (seat : ℕ) where

@@ -23,7 +23,7 @@ use Rattle.sm_account.specs.Limits.{passed_at}
 use Rattle.sm_account.specs.Report.{ReportsAs, report_at, reported_entry}
 use Rattle.sm_account.specs.States.{Base, State, state_at}
 use Rattle.sm_account.proofs.StateLaws.{state_claimed}
-use Rattle.sm_seat_traces.specs.SeatTraces.{History}
+use Rattle.sm_account.specs.SeatTraces.{History}
 use Rattle.sm_pool.specs.Holds.{Hold, ReportsIn}
 use Rattle.sm_pool.specs.Turns.{IsLate}
 

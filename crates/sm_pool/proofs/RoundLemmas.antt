@@ -9,7 +9,7 @@ use Rattle.sm_rotator.specs.declared.told.Told.{Told}
 use Rattle.sm_rotator.specs.Told.{append_told}
 use Rattle.sm_account.specs.History.{by_seat}
 use Rattle.sm_account.specs.States.{Base}
-use Rattle.sm_seat_traces.specs.SeatTraces.{History, SeatTrace, marks_in, NoGap}
+use Rattle.sm_account.specs.SeatTraces.{History, SeatTrace, marks_in, NoGap}
 use Rattle.sm_pool.specs.declared.done.Done.{Done}
 use Rattle.sm_pool.specs.declared.done.Done.TheVariants as ends
 use Rattle.sm_pool.specs.Alone.{IsStale, OnDisk}
@@ -17,7 +17,7 @@ use Rattle.sm_pool.specs.Holds.{Hold, hold_shape}
 use Rattle.sm_pool.specs.Rounds.{ComesToRest, Counts, EndsRound, NoneFell, Point, Rotated, Round, Turned, TurnedOn, asks_in, courses_in, drawn_in, goes_on, holds_in, last_in, marks_of, readings_in, turn_limit}
 use Rattle.sm_pool.specs.Turns.{Course, HasRisen, Passing, RotatorFailed, TurnDone, RandomSourceFailed, asks_of, done_of, drawn_of, holds_of, readings_of}
 use Rattle.sm_pool.proofs.AskingLemmas.{append_told-nil, asked_more}
-use Rattle.sm_seat_traces.proofs.KnownLemmas.{append_known-nil, told_more}
+use Rattle.sm_io.proofs.Known.{append_known-nil, told_more}
 
 readings_more : (on : List Course) (course : Course)
     → readings_in (on ++ course ∷ []) ≡ readings_in on ++ readings_of (holds_of course)

@@ -10,7 +10,7 @@ use Rattle.sm_rotator.specs.declared.work.Work.{Work}
 use Rattle.sm_table.specs.Sound.{Sound}
 use Rattle.sm_account.specs.Claims.{ready_at}
 use Rattle.sm_account.specs.States.{Base, state_at}
-use Rattle.sm_seat_traces.specs.SeatTraces.{History}
+use Rattle.sm_account.specs.SeatTraces.{History}
 use Rattle.sm_pool.specs.declared.done.Done.{Done}
 use Rattle.sm_pool.specs.declared.done.Done.TheVariants as ends
 use Rattle.sm_pool.specs.declared.done.Trouble.TheVariants as troubles
@@ -21,7 +21,7 @@ use Rattle.sm_pool.specs.Found.{found_by}
 use Rattle.sm_pool.specs.Holds.{Hold, LookHeld, hold_of}
 use Rattle.sm_pool.specs.Turns.{Asked, IsWorkCourse, LateApart, Passing, Rests, Starts, StartDone, Tells, TurnAsks, Unasked, Wants, WorkCourse, WorkDone, Works, readings_of, start_holds, work_holds}
 use Rattle.sm_pool.proofs.HoldLemmas.{trace_of_one, one_then_trace}
-use Rattle.sm_seat_traces.proofs.KnownLemmas.{told_more}
+use Rattle.sm_io.proofs.Known.{told_more}
 use Rattle.sm_pool.proofs.LateLemmas.{late_apart}
 
 module _ (replies : Replies) (base : Base) (gap : History → History → Type 0) (still : (h : History) → gap h h)

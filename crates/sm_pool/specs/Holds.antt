@@ -17,7 +17,7 @@ use Rattle.sm_account.specs.History.{by_seat}
 use Rattle.sm_account.specs.Report.{ReportsAs, report_at, reported_by}
 use Rattle.sm_account.specs.StartDue.{StartsAs, start_at, started_by}
 use Rattle.sm_account.specs.States.{Base, State, state_at}
-use Rattle.sm_seat_traces.specs.SeatTraces.{History, Shape}
+use Rattle.sm_account.specs.SeatTraces.{History, Shape}
 use Rattle.sm_table.specs.Sound.{Sound}
 use Rattle.sm_pool.specs.declared.holds.Found.{Found}
 use Rattle.sm_pool.specs.Found.{FoundAs, found_by}

@@ -7,7 +7,7 @@ use Rattle.sm_model.specs.declared.entry.Mark.{Mark}
 use Rattle.sm_rotation.specs.Vouched.{Replies}
 use Rattle.sm_rotator.specs.declared.told.Told.{Told}
 use Rattle.sm_account.specs.States.{Base}
-use Rattle.sm_seat_traces.specs.SeatTraces.{History, SeatTrace, marks_in, NoGap}
+use Rattle.sm_account.specs.SeatTraces.{History, SeatTrace, marks_in, NoGap}
 use Rattle.sm_pool.specs.declared.done.Done.{Done}
 use Rattle.sm_pool.specs.declared.done.Done.TheVariants as ends
 use Rattle.sm_pool.specs.Alone.{OnDisk}

@@ -17,7 +17,7 @@ use Rattle.sm_pool.specs.declared.done.Done.{Done}
 use Rattle.sm_pool.specs.declared.done.Done.TheVariants as ends
 use Rattle.sm_pool.specs.declared.done.Trouble.{Trouble}
 use Rattle.sm_pool.specs.declared.done.Trouble.TheVariants as troubles
-use Rattle.sm_seat_traces.specs.SeatTraces.{History, SeatTrace}
+use Rattle.sm_account.specs.SeatTraces.{History, SeatTrace}
 use Rattle.sm_pool.specs.Asking.{Asking, Asks}
 use Rattle.sm_pool.specs.Ends.{due_ends, report_ends}
 use Rattle.sm_pool.specs.Holds.{Hold, FindsNothing, FindsWork, ReportsIn, StartsIn, hold_shape, is_due_in}

@@ -2,7 +2,7 @@
 ghost use Rattle.std.specs.Prelude.{◌≡◌, ◌≤◌, ◌⊎◌, IsSome};
 ghost use Rattle.sm_base.specs.Faults.{Rose};
 ghost use Rattle.sm_account.specs.Accounts.{base, disk, failed, history, SameOrigin};
-ghost use Rattle.sm_seat_traces.specs.SeatTraces.{NoGap};
+ghost use Rattle.sm_account.specs.SeatTraces.{NoGap};
 ghost use Rattle.sm_pool.specs.Alone.{IsStale, OnDisk};
 ghost use Rattle.sm_pool.specs.Asking.{DoneAsks};
 ghost use Rattle.sm_pool.specs.Turns.{StartDone, TurnAsks, WorkDone};

@@ -6,7 +6,7 @@ ghost use Rattle.sm_base.specs.declared.moment.TheConstants.{LAST_READING};
 ghost use Rattle.sm_claims.specs.Due.{has_due};
 ghost use Rattle.sm_core.specs.Histories.{later};
 ghost use Rattle.sm_account.specs.Accounts.{base, disk, failed, history, rows, state, SameOrigin};
-ghost use Rattle.sm_seat_traces.specs.SeatTraces.{NoGap};
+ghost use Rattle.sm_account.specs.SeatTraces.{NoGap};
 ghost use Rattle.sm_pool.specs.Alone.{OnDisk};
 ghost use Rattle.sm_pool.specs.Ends.{due_ends, report_ends};
 ghost use Rattle.sm_pool.specs.Found.{due_or_nothing};

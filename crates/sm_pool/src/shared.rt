@@ -3,7 +3,7 @@ ghost use Rattle.std.specs.Prelude.{◌≡◌, ◌≤◌, ◌∷◌, ◌++◌, [
 ghost use Rattle.sm_account.specs.Accounts.{base};
 ghost use Rattle.sm_lock.specs.Handles.{built_with, mine, number, seen, IsIn};
 ghost use Rattle.sm_lock.specs.Story.{Grows};
-ghost use Rattle.sm_seat_traces.specs.SeatTraces.{marks_in};
+ghost use Rattle.sm_account.specs.SeatTraces.{marks_in};
 ghost use Rattle.sm_rotator.specs.Told.{append_told};
 ghost use Rattle.sm_pool.specs.Asking.{DoneAsks};
 ghost use Rattle.sm_pool.specs.Holds.{hold_shape};

@@ -10,7 +10,7 @@ use Rattle.sm_store.specs.Held.{Held}
 use Rattle.sm_principal.specs.declared.people.People.{People as Persons}
 use Rattle.sm_rotation.specs.Vouched.{Replies}
 use Rattle.sm_session.specs.Told.{Told}
-use Rattle.sm_seat_traces.proofs.KnownLemmas.{append_known-nil, prepend_known-nil}
+use Rattle.sm_io.proofs.Known.{append_known-nil, prepend_known-nil}
 use Rattle.sm_summary.specs.Summary.{IsSummary}
 use Rattle.sm_server.specs.declared.asked.RunTask.TheVariants.{Summarize}
 use Rattle.sm_server.specs.declared.status.Status.{Status}

@@ -20,7 +20,7 @@ use Rattle.sm_server.specs.declared.status.Status.TheVariants.{Done, Words, Dama
 use Rattle.sm_principal.specs.declared.people.People.{People as Persons}
 use Rattle.sm_principal.specs.Callers.{people_of}
 use Rattle.sm_command_line.specs.Reading.{settings_of}
-use Rattle.sm_seat_traces.specs.SeatTraces.{History}
+use Rattle.sm_account.specs.SeatTraces.{History}
 use Rattle.sm_session.specs.Answer.{Asked, heard}
 use Rattle.sm_session.specs.Endings.{joined}
 use Rattle.sm_session.specs.Replies.{framed_answer}

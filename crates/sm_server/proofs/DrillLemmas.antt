@@ -17,8 +17,8 @@ use Rattle.sm_rotation.specs.Vouched.{Replies}
 use Rattle.sm_session.specs.declared.said.Said.{Said}
 use Rattle.sm_session.specs.Replies.{reply_of}
 use Rattle.sm_session.specs.Told.{Told, Growth, Within}
-use Rattle.sm_seat_traces.proofs.KnownLemmas.{append_known-nil, prepend_known-nil, told_more}
-use Rattle.sm_seat_traces.specs.SeatTraces.{History}
+use Rattle.sm_io.proofs.Known.{append_known-nil, prepend_known-nil, told_more}
+use Rattle.sm_account.specs.SeatTraces.{History}
 use Rattle.sm_server.specs.declared.asked.RunTask.TheVariants.{Practise}
 use Rattle.sm_server.specs.declared.drilling.Drilled.{Drilled}
 use Rattle.sm_server.specs.declared.status.Status.{Status}

@@ -12,8 +12,8 @@ use Rattle.sm_pool.proofs.RoundLemmas.{marked_more, rotated_marks}
 use Rattle.sm_principal.specs.declared.people.People.{People}
 use Rattle.sm_reply.specs.Shown.{Answered}
 use Rattle.sm_rotation.specs.Vouched.{Replies}
-use Rattle.sm_seat_traces.specs.SeatTraces.{History}
-use Rattle.sm_seat_traces.proofs.KnownLemmas.{told_more}
+use Rattle.sm_account.specs.SeatTraces.{History}
+use Rattle.sm_io.proofs.Known.{told_more}
 use Rattle.sm_session.specs.Answer.{Asked, heard}
 use Rattle.sm_session.specs.Sessions.{LocalState, TakesTurnAlone}
 use Rattle.sm_session.specs.Told.{Told, nothing_told, told_both}

@@ -8,7 +8,7 @@ use Rattle.sm_frames.specs.declared.frame.Frame.{Frame}
 use Rattle.sm_frames.specs.declared.input.Input.TheVariants as inputs
 use Rattle.sm_frames.specs.Frames.{frame_bytes}
 use Rattle.sm_session.specs.Endings.{count_limit}
-use Rattle.sm_seat_traces.proofs.KnownLemmas.{append_known-nil, told_more}
+use Rattle.sm_io.proofs.Known.{append_known-nil, told_more}
 use Rattle.sm_server.specs.declared.status.Status.{Status}
 use Rattle.sm_server.specs.declared.status.Status.TheVariants.{Done, Words, Damaged, OpenFault, Memory, People, SinkFault, SourceFault, EdgeFault, Cut, BadMessage, Enough}
 use Rattle.sm_replica.specs.Shipped.{AreShippable, IsShippable}

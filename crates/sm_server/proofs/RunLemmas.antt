@@ -20,7 +20,7 @@ use Rattle.sm_http.specs.Reading.{ReaderState, content, stopped, Reads}
 use Rattle.sm_pool.specs.Rounds.{Counts, NoneFell}
 use Rattle.sm_principal.specs.declared.people.People.{People}
 use Rattle.sm_reply.specs.Shown.{Answered}
-use Rattle.sm_seat_traces.specs.SeatTraces.{History}
+use Rattle.sm_account.specs.SeatTraces.{History}
 use Rattle.sm_session.specs.declared.ended.Ended.{Ended}
 use Rattle.sm_session.specs.declared.ended.Ended.TheVariants as ended
 use Rattle.sm_session.specs.Answer.{heard}
@@ -30,7 +30,7 @@ use Rattle.sm_session.specs.Replies.{framed_answer}
 use Rattle.sm_session.specs.Sessions.{LocalState}
 use Rattle.sm_session.specs.Streams.{message_limit}
 use Rattle.sm_session.specs.Told.{Told, Growth, Within}
-use Rattle.sm_seat_traces.proofs.KnownLemmas.{append_known-nil, told_more}
+use Rattle.sm_io.proofs.Known.{append_known-nil, told_more}
 use Rattle.sm_session.proofs.WireLemmas.{Wire, wire_first, wire_enough, wire_stops, wire_more, wire_cut}
 use Rattle.sm_server.specs.declared.asked.RunTask.TheVariants.{Answer}
 use Rattle.sm_server.specs.Brought.{Brings}

@@ -19,7 +19,7 @@ use Rattle.sm_account.specs.AccountState.{FaultsBound, count_limit, faults_of}
 use Rattle.sm_account.specs.History.{faults_in}
 use Rattle.sm_account.specs.Openings.{IsOpenedOver, TakenFrom}
 use Rattle.sm_account.specs.States.{Base, base_of}
-use Rattle.sm_seat_traces.specs.SeatTraces.{History}
+use Rattle.sm_account.specs.SeatTraces.{History}
 use Rattle.sm_command_line.specs.declared.settings.Mode.{Mode}
 use Rattle.sm_command_line.specs.declared.settings.Mode.TheVariants.{Exec, Serve, Check, Drill, Agent, Ship, Follow}
 use Rattle.sm_command_line.specs.declared.settings.Settings.{Settings}

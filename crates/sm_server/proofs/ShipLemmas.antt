@@ -6,7 +6,7 @@ use Rattle.sm_account.specs.States.{Base}
 use Rattle.sm_principal.specs.declared.people.People.{People as Persons}
 use Rattle.sm_rotation.specs.Vouched.{Replies}
 use Rattle.sm_session.specs.Told.{nothing_told}
-use Rattle.sm_seat_traces.proofs.KnownLemmas.{append_known-nil, prepend_known-nil}
+use Rattle.sm_io.proofs.Known.{append_known-nil, prepend_known-nil}
 use Rattle.sm_store.specs.Held.{Held}
 use Rattle.sm_server.specs.declared.asked.RunTask.TheVariants.{Ship}
 use Rattle.sm_server.specs.declared.status.Status.{Status}

@@ -18,7 +18,7 @@ use Rattle.sm_principal.specs.declared.people.PeopleRefused.{PeopleRefused}
 use Rattle.sm_principal.specs.declared.people.PeopleRefused.TheVariants as refusals
 use Rattle.sm_principal.specs.Callers.{told}
 use Rattle.sm_session.specs.Told.{nothing_told}
-use Rattle.sm_seat_traces.proofs.KnownLemmas.{append_known-nil, prepend_known-nil}
+use Rattle.sm_io.proofs.Known.{append_known-nil, prepend_known-nil}
 use Rattle.sm_server.specs.declared.asked.RunTask.{RunTask}
 use Rattle.sm_server.specs.declared.asked.Role.{Role}
 use Rattle.sm_server.specs.declared.asked.Role.TheVariants.{Primary, Replica}

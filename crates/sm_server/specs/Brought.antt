@@ -5,7 +5,7 @@ use Rattle.sm_account.specs.States.{Base}
 use Rattle.sm_http.specs.Messages.{Message}
 use Rattle.sm_principal.specs.declared.people.People.{People}
 use Rattle.sm_rotation.specs.Vouched.{Replies}
-use Rattle.sm_seat_traces.specs.SeatTraces.{History}
+use Rattle.sm_account.specs.SeatTraces.{History}
 use Rattle.sm_server.specs.Outside.{Outside, growth}
 use Rattle.sm_server.specs.MessageRounds.{Brought, MessageRounds}
 

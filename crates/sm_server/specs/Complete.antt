@@ -12,7 +12,7 @@ use Rattle.sm_principal.specs.Callers.{people_of}
 use Rattle.sm_reply.specs.Shown.{Answered}
 use Rattle.sm_command_line.specs.Reading.{settings_of}
 use Rattle.sm_command_line.specs.declared.settings.Settings.{Settings}
-use Rattle.sm_seat_traces.specs.SeatTraces.{History}
+use Rattle.sm_account.specs.SeatTraces.{History}
 use Rattle.sm_session.specs.Answer.{Asked, heard}
 use Rattle.sm_session.specs.Endings.{joined}
 use Rattle.sm_session.specs.Streams.{message_limit, AreWhole}

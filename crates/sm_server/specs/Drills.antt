@@ -13,7 +13,7 @@ use Rattle.sm_reply.specs.Shown.{Answered}
 use Rattle.sm_rotation.specs.Vouched.{Replies}
 use Rattle.sm_session.specs.Replies.{reply_of}
 use Rattle.sm_session.specs.Told.{Told, told_both}
-use Rattle.sm_seat_traces.specs.SeatTraces.{History}
+use Rattle.sm_account.specs.SeatTraces.{History}
 use Rattle.sm_summary.specs.Summary.{totals_of}
 use Rattle.sm_server.specs.declared.drilling.Drilled.{Drilled}
 use Rattle.sm_server.specs.declared.status.Status.{Status}

@@ -14,7 +14,7 @@ use Rattle.sm_http.specs.Messages.{Message}
 use Rattle.sm_pool.specs.Rounds.{Counts, NoneFell, Rotated, Round, courses_in, drawn_in, readings_in}
 use Rattle.sm_principal.specs.declared.people.People.{People}
 use Rattle.sm_reply.specs.Shown.{Answered}
-use Rattle.sm_seat_traces.specs.SeatTraces.{History}
+use Rattle.sm_account.specs.SeatTraces.{History}
 use Rattle.sm_session.specs.Answer.{Asked, heard}
 use Rattle.sm_session.specs.Sessions.{LocalState}
 use Rattle.sm_session.specs.Told.{Told, nothing_told, told_both, Growth}

@@ -12,7 +12,7 @@ use Rattle.sm_account.specs.States.{Base, base_of}
 use Rattle.sm_http.specs.Messages.{Message}
 use Rattle.sm_principal.specs.declared.people.People.{People as Persons}
 use Rattle.sm_reply.specs.Shown.{Answered}
-use Rattle.sm_seat_traces.specs.SeatTraces.{History}
+use Rattle.sm_account.specs.SeatTraces.{History}
 use Rattle.sm_session.specs.declared.ended.Ended.TheVariants as ended
 use Rattle.sm_session.specs.Endings as streams
 use Rattle.sm_session.specs.Endings.{Passage}

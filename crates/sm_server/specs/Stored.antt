@@ -18,7 +18,7 @@ use Rattle.sm_server.specs.declared.status.Status.TheVariants.{Words, Damaged, O
 use Rattle.sm_core.specs.Effects.{effect}
 use Rattle.sm_core.specs.Vouching.{Vouched}
 use Rattle.sm_rotation.specs.Vouched.{Replies}
-use Rattle.sm_seat_traces.specs.SeatTraces.{History}
+use Rattle.sm_account.specs.SeatTraces.{History}
 use Rattle.sm_server.specs.Outside.{Trace}
 use Rattle.sm_server.specs.Ran.{NothingDone, Story}
 

@@ -11,7 +11,7 @@ use Rattle.sm_http.specs.Messages.{Message, End, Closing, Bad, Rest, Messages}
 use Rattle.sm_http.proofs.OneReadingLemmas.{one_reading}
 use Rattle.sm_principal.specs.declared.people.People.{People}
 use Rattle.sm_reply.specs.Shown.{Answered}
-use Rattle.sm_seat_traces.specs.SeatTraces.{History, SeatTrace}
+use Rattle.sm_account.specs.SeatTraces.{History, SeatTrace}
 use Rattle.sm_lock.specs.Story.{Grows}
 use Rattle.sm_session.specs.declared.ended.Ended.{Ended}
 use Rattle.sm_session.specs.declared.ended.Ended.TheVariants as ended

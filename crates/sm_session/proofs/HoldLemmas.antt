@@ -18,8 +18,8 @@ use Rattle.sm_lock.specs.declared.pass.Pass.{Pass}
 use Rattle.sm_lock.specs.declared.storied.Storied.{Ghosts}
 use Rattle.sm_lock.proofs.Stories.{grows-same}
 use Rattle.sm_reply.specs.Shown.{Answered}
-use Rattle.sm_seat_traces.specs.SeatTraces.{History, SeatTrace, marks_in}
-use Rattle.sm_seat_traces.proofs.SeatTraceLaws.{trace_mine}
+use Rattle.sm_account.specs.SeatTraces.{History, SeatTrace, marks_in}
+use Rattle.sm_account.proofs.SeatTraceLaws.{trace_mine}
 use Rattle.sm_session.specs.declared.said.Said.{Said}
 use Rattle.sm_session.specs.declared.trace.TraceItem.{TraceItem}
 use Rattle.sm_session.specs.Answer.{Asked}
@@ -27,7 +27,7 @@ use Rattle.sm_session.specs.Replies.{reply_of}
 use Rattle.sm_session.specs.Sessions.{Place, LocalState, MessageTurn, turn_shape, item_at, TakesTurn, TakesTurnBy}
 use Rattle.sm_session.specs.Told.{nothing_told, told_once}
 use Rattle.sm_session.specs.Turns.{Untouched, IsTurn}
-use Rattle.sm_seat_traces.proofs.KnownLemmas.{append_known-nil}
+use Rattle.sm_io.proofs.Known.{append_known-nil}
 use Rattle.sm_session.proofs.TurnLemmas.{untouched}
 
 -- an answer leaves one mark at most

@@ -17,8 +17,8 @@ use Rattle.sm_lock.specs.Story.{Grows}
 use Rattle.sm_lock.proofs.Stories.{grows-same, grows-trans}
 use Rattle.sm_principal.specs.declared.people.People.{People}
 use Rattle.sm_reply.specs.Shown.{Answered}
-use Rattle.sm_seat_traces.specs.SeatTraces.{History, SeatTrace}
-use Rattle.sm_seat_traces.proofs.SeatTraceLaws.{Joins, trace_with_one}
+use Rattle.sm_account.specs.SeatTraces.{History, SeatTrace}
+use Rattle.sm_account.proofs.SeatTraceLaws.{Joins, trace_with_one}
 use Rattle.sm_session.specs.declared.ended.Ended.{Ended}
 use Rattle.sm_session.specs.declared.ended.Ended.TheVariants as ended
 use Rattle.sm_session.specs.declared.trace.TraceItem.{TraceItem}
@@ -29,7 +29,7 @@ use Rattle.sm_session.specs.Sessions.{Place, LocalState, Around, MessageTurn, br
 use Rattle.sm_session.specs.Streams.{message_limit}
 use Rattle.sm_session.specs.Told.{Told, nothing_told, told_both}
 use Rattle.sm_session.specs.Turns.{Untouched}
-use Rattle.sm_seat_traces.proofs.KnownLemmas.{append_known-nil, told_more}
+use Rattle.sm_io.proofs.Known.{append_known-nil, told_more}
 use Rattle.sm_session.proofs.WireLemmas.{Wire, wire_first, wire_enough, wire_memory, wire_more, wire_cut, wire_stops}
 
 -- what others add to a history may be nothing, and two times in a row are one

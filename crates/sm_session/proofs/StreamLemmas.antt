@@ -3,7 +3,6 @@ use Rattle.std.proofs.Common.{◌≡◌, ◌⊎◌, ℕ, ◌-◌, ◌+◌, ◌<�
 use Rattle.std.specs.Prelude.{IfNone}
 use Rattle.std.specs.Io.KnownBytes.{prepend_known}
 use Rattle.sm_base.specs.declared.bad_kind.BadKind.{BadKind}
-use Rattle.sm_io.proofs.Known.{prepend_known-append}
 use Rattle.sm_http.specs.declared.answer.Message.{Message as owned}
 use Rattle.sm_http.specs.declared.answer.Next.{Next}
 use Rattle.sm_http.specs.declared.answer.Next.TheVariants as next
@@ -15,7 +14,7 @@ use Rattle.sm_http.proofs.ChainLemmas.{begin-append, goes_on, gave_nothing, stay
 use Rattle.sm_http.proofs.MessageLemmas.{message_unique, bad_is_no_message, partial_is_no_message}
 use Rattle.sm_http.proofs.OneReadingLemmas.{one_reading}
 use Rattle.sm_session.specs.Streams.{StartWith}
-use Rattle.sm_seat_traces.proofs.KnownLemmas.{prepend_known-nil}
+use Rattle.sm_io.proofs.Known.{prepend_known-append, prepend_known-nil}
 
 -- the reader goes on after these messages of the bytes that were read, or the last of them closed the stream
 abbrev pub StandsAfter : List ℕ → List Message → ReaderState → Type 0

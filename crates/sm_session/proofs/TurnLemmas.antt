@@ -11,7 +11,7 @@ use Rattle.sm_account.specs.States.{Base}
 use Rattle.sm_account.specs.declared.handled.Handled.{Handled}
 use Rattle.sm_account.specs.declared.handled.Handled.TheVariants as handled
 use Rattle.sm_reply.specs.Shown.{Answered, shown, refused}
-use Rattle.sm_seat_traces.specs.SeatTraces.{History}
+use Rattle.sm_account.specs.SeatTraces.{History}
 use Rattle.sm_session.specs.declared.said.Said.{Said}
 use Rattle.sm_session.specs.declared.said.Said.TheVariants.{Memory}
 use Rattle.sm_session.specs.Answer.{Asked, Answer, answer_of, answer_asked}

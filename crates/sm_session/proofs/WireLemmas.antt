@@ -22,7 +22,7 @@ use Rattle.sm_session.specs.declared.ended.Ended.TheVariants.{Closed, Cut, Bad, 
 use Rattle.sm_session.specs.Endings.{count_limit, Sides, StopsBy, Refuses, Finishes, joined, Passage, CutWithin, EndsBy, Streamed}
 use Rattle.sm_session.specs.Replies.{framed_answer}
 use Rattle.sm_session.specs.Streams.{message_limit}
-use Rattle.sm_seat_traces.proofs.KnownLemmas.{append_known-nil, told_more}
+use Rattle.sm_io.proofs.Known.{append_known-nil, told_more}
 use Rattle.sm_session.proofs.StreamLemmas.{GivenSoFar, given_none, given_more, given_bad, given_cut, given_end, given_fault, given_memory, given_open, given_start}
 
 -- From the first sides on these messages were given, and their replies written. That many bytes are counted.

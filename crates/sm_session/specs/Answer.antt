@@ -17,7 +17,7 @@ use Rattle.sm_json.specs.Asks.{asks_of}
 use Rattle.sm_json.specs.Operations.{operation_of}
 use Rattle.sm_principal.specs.declared.people.People.{People}
 use Rattle.sm_reply.specs.Shown.{Answered, refused, shown}
-use Rattle.sm_seat_traces.specs.SeatTraces.{History}
+use Rattle.sm_account.specs.SeatTraces.{History}
 use Rattle.sm_session.specs.Askers.{asker_of}
 
 -- a request is POST to /

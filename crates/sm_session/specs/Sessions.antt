@@ -14,7 +14,7 @@ use Rattle.sm_http.specs.Messages.{Message}
 use Rattle.sm_lock.specs.Story.{Grows}
 use Rattle.sm_principal.specs.declared.people.People.{People}
 use Rattle.sm_reply.specs.Shown.{Answered}
-use Rattle.sm_seat_traces.specs.SeatTraces.{History, NoGap, Shape, SeatTrace}
+use Rattle.sm_account.specs.SeatTraces.{History, NoGap, Shape, SeatTrace}
 use Rattle.sm_session.specs.declared.ended.Ended.{Ended}
 use Rattle.sm_session.specs.declared.trace.TraceItem.{TraceItem}
 use Rattle.sm_session.specs.Answer.{Asked, heard}

@@ -9,7 +9,7 @@ use Rattle.sm_model.specs.declared.why.Why.TheVariants as whys
 use Rattle.sm_model.specs.Needed.{needed}
 use Rattle.sm_account.specs.States.{Base}
 use Rattle.sm_reply.specs.Shown.{Answered, refused}
-use Rattle.sm_seat_traces.specs.SeatTraces.{History}
+use Rattle.sm_account.specs.SeatTraces.{History}
 use Rattle.sm_session.specs.Answer.{Asked, Answer, answer_asked}
 use Rattle.sm_session.specs.Replies.{unavailable}
 use Rattle.sm_session.specs.Told.{Told, nothing_told}

@@ -3,7 +3,7 @@ use Rattle.sm_io.specs.declared.clock.Clock.{Ghosts as ClockGhosts}
 use Rattle.sm_io.specs.declared.sink.Sink.{Ghosts as SinkGhosts}
 use Rattle.sm_io.specs.declared.source.Source.{Ghosts as SourceGhosts}
 use Rattle.sm_io.specs.declared.random.Words.{Ghosts as WordsGhosts}
-use Rattle.sm_seat_traces.specs.SeatTraces.{History}
+use Rattle.sm_account.specs.SeatTraces.{History}
 use Rattle.sm_session.specs.Endings.{Sides}
 use Rattle.sm_session.specs.Sessions.{Around, LocalState}
 

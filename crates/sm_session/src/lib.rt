@@ -26,6 +26,7 @@ pub use said::Said;
 pub use saying::{say_handled, say_refusal, say_reply};
 pub use sending::send;
 pub use serving::serve;
+pub use sm_account::Handled;
 pub use streams::{MESSAGE_LIMIT, finish, next_message};
 pub use trace::{Served, ServedBy, Trace, TraceItem};
 pub use turns::turn;

@@ -5,7 +5,7 @@ ghost use Rattle.sm_account.specs.Accounts.{base};
 ghost use Rattle.sm_http.specs.Framed.{Sends};
 ghost use Rattle.sm_http.specs.Reading.{Reads};
 ghost use Rattle.sm_lock.specs.Handles.{built_with, number, seen, mine, IsIn};
-ghost use Rattle.sm_seat_traces.specs.SeatTraces.{marks_in};
+ghost use Rattle.sm_account.specs.SeatTraces.{marks_in};
 ghost use Rattle.sm_session.specs.Complete.{Completes};
 ghost use Rattle.sm_session.specs.Endings.{next_of, StopsBy, Finishes};
 ghost use Rattle.sm_session.specs.Replies.{reply_of, framed_answer};

@@ -3,7 +3,7 @@ use Rattle.std.proofs.Common.{◌≡◌, ℕ, List, [], ◌∷◌, ◌++◌, ref
 use Rattle.sm_lock.specs.Story.{Grows}
 use Rattle.sm_lock.proofs.Stories.{grows-same, grows-trans}
 use Rattle.sm_session.specs.Sessions.{LocalState}
-use Rattle.sm_seat_traces.proofs.SeatTraceLaws.{Joins}
+use Rattle.sm_account.proofs.SeatTraceLaws.{Joins}
 use Rattle.sm_workers.specs.Chains.{Chain, Waits}
 use Rattle.sm_workers.specs.RotationWorkers.{Post, WaitsAt}
 

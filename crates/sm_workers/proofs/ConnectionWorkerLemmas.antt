@@ -8,8 +8,8 @@ use Rattle.sm_lock.specs.Story.{Grows}
 use Rattle.sm_principal.specs.declared.people.People.{People}
 use Rattle.sm_session.specs.Endings.{Sides}
 use Rattle.sm_session.specs.Sessions.{Place, LocalState, IsRight, turn_shape}
-use Rattle.sm_seat_traces.specs.SeatTraces.{SeatTrace}
-use Rattle.sm_seat_traces.proofs.SeatTraceLaws.{traces_join}
+use Rattle.sm_account.specs.SeatTraces.{SeatTrace}
+use Rattle.sm_account.proofs.SeatTraceLaws.{traces_join}
 use Rattle.sm_workers.specs.declared.worker.ConnEnd.{ConnEnd}
 use Rattle.sm_workers.specs.Chains.{Chain, Waits}
 use Rattle.sm_workers.specs.ConnectionWorkers.{ConnectionWorkerDid, EdgeState}

@@ -9,8 +9,8 @@ use Rattle.sm_pool.specs.Rounds.{ComesToRest}
 use Rattle.sm_pool.specs.Turns.{TurnDone, holds_of}
 use Rattle.sm_rotation.specs.Vouched.{Replies}
 use Rattle.sm_session.specs.Sessions.{Place}
-use Rattle.sm_seat_traces.specs.SeatTraces.{SeatTrace}
-use Rattle.sm_seat_traces.proofs.SeatTraceLaws.{traces_join}
+use Rattle.sm_account.specs.SeatTraces.{SeatTrace}
+use Rattle.sm_account.proofs.SeatTraceLaws.{traces_join}
 use Rattle.sm_workers.specs.Chains.{Chain}
 use Rattle.sm_workers.specs.RotationWorkers.{ComeToRest, NoneFellInTurns, Post, RotationTurn, RotationWorkerDid, WaitsAt, holds_in, passing}
 use Rattle.sm_workers.proofs.ChainLemmas.{chain_more, chain_on, joins, waits_at_both, waits_at_still}

@@ -11,7 +11,7 @@ use Rattle.sm_lock.specs.declared.pass.Pass.{Pass}
 use Rattle.sm_lock.specs.declared.storied.Storied.{Ghosts}
 use Rattle.sm_model.specs.declared.entry.Mark.{Mark}
 use Rattle.sm_principal.specs.declared.people.People.{People}
-use Rattle.sm_seat_traces.specs.SeatTraces.{History}
+use Rattle.sm_account.specs.SeatTraces.{History}
 use Rattle.sm_workers.specs.declared.worker.WorkerBy.{WorkerBy}
 use Rattle.sm_workers.specs.Closed.{Closed, Filled, IsOfSeat}
 use Rattle.sm_workers.specs.Given.{IsGiven, IsTaken}

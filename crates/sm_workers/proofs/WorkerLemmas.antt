@@ -11,8 +11,8 @@ use Rattle.sm_model.specs.declared.entry.Mark.{Mark}
 use Rattle.sm_pool.specs.Holds.{hold_shape}
 use Rattle.sm_principal.specs.declared.people.People.{People}
 use Rattle.sm_session.specs.Sessions.{IsRight, Place, LocalState, turn_shape}
-use Rattle.sm_seat_traces.specs.SeatTraces.{History}
-use Rattle.sm_seat_traces.proofs.SeatTraceLaws.{trace_mine, trace_goes_on}
+use Rattle.sm_account.specs.SeatTraces.{History}
+use Rattle.sm_account.proofs.SeatTraceLaws.{trace_mine, trace_goes_on}
 use Rattle.sm_workers.specs.declared.worker.Task.{Task}
 use Rattle.sm_workers.specs.declared.worker.Task.TheVariants.{Door, Turner}
 use Rattle.sm_workers.specs.declared.worker.WorkerBy.{WorkerBy}

@@ -5,7 +5,7 @@ use Rattle.sm_lock.specs.declared.storied.Storied.{Ghosts}
 use Rattle.sm_model.specs.declared.entry.Mark.{Mark}
 use Rattle.sm_account.specs.States.{Base}
 use Rattle.sm_principal.specs.declared.people.People.{People}
-use Rattle.sm_seat_traces.specs.SeatTraces.{History}
+use Rattle.sm_account.specs.SeatTraces.{History}
 use Rattle.sm_workers.specs.declared.worker.WorkerBy.{WorkerBy}
 use Rattle.sm_workers.specs.Views.{Views}
 use Rattle.sm_workers.specs.Workers.{Works, marks_of}

@@ -6,7 +6,7 @@ use Rattle.sm_lock.specs.Story.{Grows}
 use Rattle.sm_principal.specs.declared.people.People.{People}
 use Rattle.sm_session.specs.Endings.{Sides}
 use Rattle.sm_session.specs.Sessions.{Place, LocalState, IsRight, turn_shape}
-use Rattle.sm_seat_traces.specs.SeatTraces.{SeatTrace}
+use Rattle.sm_account.specs.SeatTraces.{SeatTrace}
 use Rattle.sm_workers.specs.declared.worker.ConnEnd.{ConnEnd}
 use Rattle.sm_workers.specs.Chains.{Chain, Waits}
 use Rattle.sm_workers.specs.Known.{told_ahead, told_behind}

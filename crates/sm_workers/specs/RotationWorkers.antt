@@ -8,7 +8,7 @@ use Rattle.sm_pool.specs.Rounds.{ComesToRest}
 use Rattle.sm_pool.specs.Turns.{Passing, TurnDone, holds_of}
 use Rattle.sm_rotation.specs.Vouched.{Replies}
 use Rattle.sm_session.specs.Sessions.{Place, LocalState}
-use Rattle.sm_seat_traces.specs.SeatTraces.{SeatTrace}
+use Rattle.sm_account.specs.SeatTraces.{SeatTrace}
 use Rattle.sm_workers.specs.Chains.{Chain, Waits}
 
 -- a local state, and how often the rotator has failed

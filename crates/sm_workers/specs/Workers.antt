@@ -10,7 +10,7 @@ use Rattle.sm_account.specs.States.{Base}
 use Rattle.sm_pool.specs.Holds.{hold_shape}
 use Rattle.sm_principal.specs.declared.people.People.{People}
 use Rattle.sm_session.specs.Sessions.{Place, LocalState, turn_shape}
-use Rattle.sm_seat_traces.specs.SeatTraces.{History, marks_in}
+use Rattle.sm_account.specs.SeatTraces.{History, marks_in}
 use Rattle.sm_workers.specs.declared.worker.Task.{Task}
 use Rattle.sm_workers.specs.declared.worker.Task.TheVariants.{Door, Turner}
 use Rattle.sm_workers.specs.declared.worker.WorkerBy.{WorkerBy}

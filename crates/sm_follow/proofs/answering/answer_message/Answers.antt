@@ -4,7 +4,7 @@ use Rattle.sm_http.specs.Messages.{Message}
 use Rattle.sm_model.specs.declared.why.Why.{Why}
 use Rattle.sm_reply.specs.Shown.{refused}
 use Rattle.sm_session.specs.Answer.{Asked, heard}
-use Rattle.sm_seat_traces.proofs.KnownLemmas.{append_known-nil}
+use Rattle.sm_io.proofs.Known.{append_known-nil}
 use Rattle.sm_follow.specs.Disks.{disk_in, turn_by}
 use Rattle.sm_follow.specs.InputTurns.{Answers, Asks, Goes, moment_at}
 use Rattle.sm_follow.proofs.TurnLemmas.{comes_memory, comes_said, comes_to, comes_weaker, unasked_memory}

@@ -1,6 +1,6 @@
 use Rattle.std.proofs.Common.{refl}
 use Rattle.sm_account.specs.Accounts.{base, history}
-use Rattle.sm_seat_traces.specs.SeatTraces.{NoGap}
+use Rattle.sm_account.specs.SeatTraces.{NoGap}
 use Rattle.sm_pool.proofs.CourseLemmas.{reported_work, unasked_work}
 use Rattle.sm_pool.proofs.alone.do_work.Goals as goal
 

@@ -1,12 +1,12 @@
 use Rattle.std.proofs.Common.{refl, sym, subst, inl}
 use Rattle.sm_account.specs.Accounts.{base, history}
 use Rattle.sm_account.specs.States.{Base}
-use Rattle.sm_seat_traces.specs.SeatTraces.{NoGap}
+use Rattle.sm_account.specs.SeatTraces.{NoGap}
 use Rattle.sm_pool.specs.Asking.{Asking}
 use Rattle.sm_pool.specs.Turns.{Passing, StartDone, WorkDone}
 use Rattle.sm_pool.proofs.AloneLemmas.{never_stale}
 use Rattle.sm_pool.proofs.AskingLemmas.{asks_none, done_asks}
-use Rattle.sm_seat_traces.proofs.KnownLemmas.{append_known-nil}
+use Rattle.sm_io.proofs.Known.{append_known-nil}
 use Rattle.sm_pool.proofs.TurnLemmas.{rests_turn, starts_turn, wants_turn, works_turn}
 use Rattle.sm_pool.proofs.alone.one_turn.Goals as goal
 

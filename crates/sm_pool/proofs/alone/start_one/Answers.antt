@@ -1,6 +1,6 @@
 use Rattle.std.proofs.Common.{refl}
 use Rattle.sm_account.specs.Accounts.{base, history}
-use Rattle.sm_seat_traces.specs.SeatTraces.{NoGap}
+use Rattle.sm_account.specs.SeatTraces.{NoGap}
 use Rattle.sm_pool.specs.declared.done.Trouble.TheVariants as troubles
 use Rattle.sm_pool.proofs.CourseLemmas.{begun_start, undrawn_start}
 use Rattle.sm_pool.proofs.alone.start_one.Goals as goal

@@ -3,7 +3,7 @@ use Rattle.sm_account.specs.Accounts.{base, history}
 use Rattle.sm_lock.specs.Handles.{built_with, number, seen}
 use Rattle.sm_lock.specs.Story.{Grows}
 use Rattle.sm_pool.proofs.BehindLemmas.{look_held, look_once}
-use Rattle.sm_seat_traces.proofs.OriginLemmas.{same_base}
+use Rattle.sm_account.proofs.OriginLemmas.{same_base}
 use Rattle.sm_pool.proofs.behind.look_behind.Goals as goal
 
 pub leave-requires-clause-entry : goal.leave-requires-clause-entry

@@ -2,13 +2,13 @@ use Rattle.std.proofs.Common.{◌≡◌, true, false, refl, sym, subst, ◌∙�
 use Rattle.sm_account.specs.Accounts.{history, base, disk}
 use Rattle.sm_account.specs.States.{Base}
 use Rattle.sm_rotation.specs.Vouched.{Replies}
-use Rattle.sm_seat_traces.specs.SeatTraces.{NoGap}
+use Rattle.sm_account.specs.SeatTraces.{NoGap}
 use Rattle.sm_pool.specs.declared.done.Done.{Done}
 use Rattle.sm_pool.specs.Alone.{IsStale}
 use Rattle.sm_pool.specs.Rounds.{Point, Turned, goes_on}
 use Rattle.sm_pool.specs.Asking.{Asking}
 use Rattle.sm_pool.specs.Turns.{Passing, TurnAsks, TurnDone}
-use Rattle.sm_seat_traces.proofs.OriginLemmas.{same_origin, same_origin_still, unsure_since}
+use Rattle.sm_account.proofs.OriginLemmas.{same_origin, same_origin_still, unsure_since}
 use Rattle.sm_pool.proofs.RoundLemmas.{Heard, progress_first, progress_more, round_full, round_rests, turned_by}
 use Rattle.sm_pool.proofs.rounds.turns.Goals as goal
 

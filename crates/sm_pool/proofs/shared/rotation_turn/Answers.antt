@@ -7,7 +7,7 @@ use Rattle.sm_pool.specs.Asking.{Asking}
 use Rattle.sm_pool.specs.Turns.{Passing, StartDone, WorkDone, holds_of}
 use Rattle.sm_pool.proofs.AskingLemmas.{asks_none, done_asks}
 use Rattle.sm_pool.proofs.BehindLemmas.{holds_mine}
-use Rattle.sm_seat_traces.proofs.KnownLemmas.{append_known-nil}
+use Rattle.sm_io.proofs.Known.{append_known-nil}
 use Rattle.sm_pool.proofs.TurnLemmas.{rests_turn, starts_turn, wants_turn, works_turn}
 use Rattle.sm_pool.proofs.shared.rotation_turn.Goals as goal
 

@@ -1,6 +1,6 @@
 use Rattle.sm_account.specs.Accounts.{history, base, disk}
 use Rattle.sm_http.specs.Reading.{content}
-use Rattle.sm_seat_traces.proofs.OriginLemmas.{same_origin, unsure_since}
+use Rattle.sm_account.proofs.OriginLemmas.{same_origin, unsure_since}
 use Rattle.sm_session.specs.Answer.{heard}
 use Rattle.sm_session.specs.Replies.{reply_of}
 use Rattle.sm_session.specs.Sessions.{LocalState}

@@ -6,9 +6,9 @@ use Rattle.sm_account.specs.Accounts.{history, base, disk}
 use Rattle.sm_account.specs.History.{entries_in}
 use Rattle.sm_account.specs.States.{Base}
 use Rattle.sm_session.specs.Endings.{Sides}
-use Rattle.sm_seat_traces.proofs.OriginLemmas.{unsure_since}
+use Rattle.sm_account.proofs.OriginLemmas.{unsure_since}
 use Rattle.sm_server.specs.Outside.{Outside, outside_by}
-use Rattle.sm_seat_traces.proofs.OriginLemmas.{same_origin, same_origin_still}
+use Rattle.sm_account.proofs.OriginLemmas.{same_origin, same_origin_still}
 use Rattle.sm_server.proofs.RunLemmas.{Point, Step, Turned, Later, progress_first, progress_more, run_cut, run_enough, run_stops}
 use Rattle.sm_server.proofs.answering.answer_source.Goals as goal
 

@@ -8,7 +8,7 @@ use Rattle.sm_account.specs.History.{entries_in}
 use Rattle.sm_account.specs.States.{Base}
 use Rattle.sm_drill.specs.Messages.{DrillState, message_of}
 use Rattle.sm_session.specs.Replies.{reply_of}
-use Rattle.sm_seat_traces.proofs.OriginLemmas.{same_origin, same_origin_still, unsure_since}
+use Rattle.sm_account.proofs.OriginLemmas.{same_origin, same_origin_still, unsure_since}
 use Rattle.sm_server.specs.declared.drilling.Drilled.{Drilled}
 use Rattle.sm_server.specs.Drills.{AnswersMade}
 use Rattle.sm_server.specs.Outside.{Outside, outside_inside}

@@ -4,7 +4,7 @@ use Rattle.sm_account.specs.Accounts.{base, history, taken}
 use Rattle.sm_opening.specs.Lawful.{made_of}
 use Rattle.sm_drill.specs.Lines.{lines, shown_by}
 use Rattle.sm_session.specs.Replies.{reply_of}
-use Rattle.sm_seat_traces.proofs.KnownLemmas.{append_known-nil}
+use Rattle.sm_io.proofs.Known.{append_known-nil}
 use Rattle.sm_server.specs.Checks.{WritesBy}
 use Rattle.sm_server.specs.Drills.{totals_after}
 use Rattle.sm_server.proofs.DrillLemmas.{says_by}

@@ -1,7 +1,7 @@
 use Rattle.std.proofs.Common.{◌≤◌, ℕ, refl, sym, subst, ◌∙◌, arith}
 use Rattle.sm_account.specs.Accounts.{base, began, disk, failed, history, taken}
 use Rattle.sm_account.specs.States.{Base}
-use Rattle.sm_seat_traces.specs.SeatTraces.{History}
+use Rattle.sm_account.specs.SeatTraces.{History}
 use Rattle.sm_server.specs.declared.asked.RunTask.TheVariants.{Ship, Summarize}
 use Rattle.sm_server.specs.Outside.{Outside, outside_by}
 use Rattle.sm_server.specs.Ran.{Course, Story, Runs}

@@ -4,7 +4,7 @@ use Rattle.sm_account.specs.Accounts.{all_of, failed, taken}
 use Rattle.sm_account.specs.AccountState.{with_entries}
 use Rattle.sm_account.specs.History.{entries_in}
 use Rattle.sm_model.specs.declared.entry.Entry.{Entry}
-use Rattle.sm_seat_traces.specs.SeatTraces.{History}
+use Rattle.sm_account.specs.SeatTraces.{History}
 use Rattle.sm_store.specs.Held.{Held}
 use Rattle.sm_server.specs.Ships.{ShipsBy}
 use Rattle.sm_server.proofs.StoredLemmas.{stays_vouched}

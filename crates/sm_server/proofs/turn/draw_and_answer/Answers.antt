@@ -1,7 +1,7 @@
 use Rattle.std.proofs.Common.{◌∙◌, refl, subst, ◌<◌, Ok}
 use Rattle.sm_base.specs.Faults.{Rose}
 use Rattle.sm_account.specs.Accounts.{base, history, disk}
-use Rattle.sm_seat_traces.specs.SeatTraces.{NoGap}
+use Rattle.sm_account.specs.SeatTraces.{NoGap}
 use Rattle.sm_session.specs.Answer.{Asked}
 use Rattle.sm_session.specs.Replies.{reply_of, unavailable}
 use Rattle.sm_session.specs.Sessions.{Place, LocalState}

@@ -3,7 +3,7 @@ use Rattle.sm_base.specs.Faults.{Rose}
 use Rattle.sm_model.specs.declared.why.Why.{Why}
 use Rattle.sm_account.specs.Accounts.{base, history, disk}
 use Rattle.sm_http.specs.Reading.{content}
-use Rattle.sm_seat_traces.specs.SeatTraces.{NoGap}
+use Rattle.sm_account.specs.SeatTraces.{NoGap}
 use Rattle.sm_session.specs.Answer.{Asked, heard}
 use Rattle.sm_session.specs.Replies.{reply_of, unavailable}
 use Rattle.sm_session.specs.Sessions.{Place, LocalState, TakesTurnAlone}

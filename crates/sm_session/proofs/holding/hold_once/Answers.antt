@@ -5,9 +5,9 @@ use Rattle.sm_account.specs.History.{by_seat}
 use Rattle.sm_account.specs.Outcome.{Outcome, Question, outcome}
 use Rattle.sm_account.specs.States.{Base, state_at}
 use Rattle.sm_lock.specs.Handles.{built_with, entered, holder, seen}
-use Rattle.sm_seat_traces.specs.SeatTraces.{History}
+use Rattle.sm_account.specs.SeatTraces.{History}
 use Rattle.sm_session.proofs.HoldLemmas.{at_most_one}
-use Rattle.sm_seat_traces.proofs.OriginLemmas.{origin_of, origin_stays, same_base}
+use Rattle.sm_account.proofs.OriginLemmas.{origin_of, origin_stays, same_base}
 use Rattle.sm_session.proofs.holding.hold_once.Goals as goal
 
 pub leave-requires-clause-origin : goal.leave-requires-clause-origin

@@ -4,7 +4,7 @@ use Rattle.sm_lock.specs.Story.{made_by, Grows, entries_of}
 use Rattle.sm_lock.proofs.Stories.{grows-trans, grows-none, entries-append, drop-front, begins-grows, begins-length, since, since-grows, made-none}
 use Rattle.sm_model.specs.declared.entry.Mark.{Mark}
 use Rattle.sm_account.specs.History.{by_seat}
-use Rattle.sm_seat_traces.specs.SeatTraces.{History, Shape, behind, SeatTrace, marks_in}
+use Rattle.sm_account.specs.SeatTraces.{History, Shape, behind, SeatTrace, marks_in}
 
 -- a gap may be nothing, and two in a row are one
 pub record Joins (gap : History → History → Type 0) : Type 0 where

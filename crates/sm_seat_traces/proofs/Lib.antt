@@ -1,3 +1,0 @@
-pub mod SeatTraceLaws
-pub mod KnownLemmas
-pub mod OriginLemmas
