@@ -1,0 +1,4 @@
+pub mod Visits
+pub mod Standing
+pub mod Histories
+pub mod Laws
