@@ -1,26 +1,27 @@
-//! The workers of a server: a porter and connection workers over one listener, and rotation workers.
+//! The workers of a server: connection workers over one listener, and rotation workers.
 ghost use Rattle.std.specs.Prelude.{◌≡◌, ◌+◌, ◌≤◌, All, OnOk, vec_len};
 ghost use Rattle.sm_workers.specs.Workers.{IsFresh};
 
-use crate::entrance::{ConnectionWorker, Entrance};
+use crate::connections::Connections;
 use crate::entropy::SaidRandom;
-use crate::hall::Hall;
-use crate::porter::Porter;
+use crate::event_loop::EventLoop;
+use crate::loop_edge::LoopEdge;
 use crate::reports::Reports;
 use crate::rotators::MakeRotator;
-use crate::welcome::Welcome;
 use sm_account::Account;
 use sm_disk::Disk;
-use sm_io::{ListenerEdge, SystemClock, SystemRandom};
+use sm_io::{SystemClock, SystemRandom};
 use sm_model::NoMemory;
 use sm_rotator::Rotator;
 use sm_workers::WorkerBy;
+use std::io;
+use std::io::ErrorKind;
 use std::net::TcpListener;
 use std::sync::Wait;
 
 /// A worker of the server, with the system's clock and random source.
 pub type Hand<'a, H, D: Disk, R: Rotator> = WorkerBy<
-    ListenerEdge<Entrance<'a, H>>,
+    LoopEdge<'a, H>,
     SystemClock<&'a HostRuntime>,
     SystemRandom<SaidRandom<'a>>,
     R,
@@ -32,10 +33,35 @@ pub type Hand<'a, H, D: Disk, R: Rotator> = WorkerBy<
 pub struct Ground<'a, H> {
     pub rt: &'a HostRuntime,
     pub threads: &'a H,
-    pub hall: &'a Hall,
+    pub connections: &'a Connections<'a>,
+    pub listener: &'a TcpListener,
     pub reports: &'a Reports<'a>,
     /// Whether each request gets a line.
     pub log: bool,
+}
+
+/// What lacks where a worker can't be made.
+#[derive(Drop)]
+pub enum Lack {
+    Memory,
+    /// The system makes no event loop.
+    System(io::Error),
+}
+
+impl From<NoMemory> for Lack {
+    fn from(_: NoMemory) -> Lack {
+        Lack::Memory
+    }
+}
+
+impl From<io::Error> for Lack {
+    fn from(error: io::Error) -> Lack {
+        if error.kind() == ErrorKind::OutOfMemory {
+            Lack::Memory
+        } else {
+            Lack::System(error)
+        }
+    }
 }
 
 /// A random source of a worker's own.
@@ -57,18 +83,24 @@ fn add<'a, H, D: Disk + Drop, R: Rotator + Drop>(
     Ok(())
 }
 
-/// Adds one that stands at the entrance.
-fn add_at_entrance<'a, H: Wait, D: Disk + Drop, R: Rotator + Drop>(
+/// Adds a connection worker with an event loop of its own.
+fn add_connection_worker<'a, H: Wait, D: Disk + Drop, R: Rotator + Drop>(
     ground: &Ground<'a, H>,
     workers: &mut Vec<Hand<'a, H, D, R>>,
-    entrance: Entrance<'a, H>,
-) -> Result<(), NoMemory>
+) -> Result<(), Lack>
     requires all { All IsFresh workers.old.items }
     ensures all { All IsFresh workers.new.items }
     ensures long { OnOk result (vec_len workers.new ≡ vec_len workers.old + 1) }
 {
+    let connections = EventLoop::new(
+        ground.rt,
+        ground.threads,
+        ground.connections,
+        ground.listener,
+        ground.log,
+    )?;
     let worker = WorkerBy::door(
-        ListenerEdge::new(entrance),
+        LoopEdge::new(connections),
         SystemClock::new(ground.rt),
         words_of(ground.rt, ground.reports),
     );
@@ -76,46 +108,18 @@ fn add_at_entrance<'a, H: Wait, D: Disk + Drop, R: Rotator + Drop>(
     Ok(())
 }
 
-/// Adds a porter, who brings what a listener accepts into the hall.
-pub fn add_porter<'a, H: Wait, D: Disk + Drop, R: Rotator + Drop>(
-    ground: &Ground<'a, H>,
-    workers: &mut Vec<Hand<'a, H, D, R>>,
-    listener: &'a TcpListener,
-    welcome: &'a Welcome<'a>,
-) -> Result<(), NoMemory>
-    requires all { All IsFresh workers.old.items }
-    ensures all { All IsFresh workers.new.items }
-    ensures long { OnOk result (vec_len workers.new ≡ vec_len workers.old + 1) }
-{
-    let porter = Porter {
-        rt: ground.rt,
-        threads: ground.threads,
-        hall: ground.hall,
-        listener,
-        welcome,
-    };
-    add_at_entrance(ground, workers, Entrance::Porter(porter))?;
-    Ok(())
-}
-
-/// Adds so many connection workers, which share a hall.
+/// Adds so many connection workers.
 pub fn add_connection_workers<'a, H: Wait, D: Disk + Drop, R: Rotator + Drop>(
     ground: &Ground<'a, H>,
     workers: &mut Vec<Hand<'a, H, D, R>>,
     count: u32,
-) -> Result<(), NoMemory>
+) -> Result<(), Lack>
     requires all { All IsFresh workers.old.items }
     ensures all { OnOk result (All IsFresh workers.new.items) }
     ensures long { OnOk result (vec_len workers.new ≡ vec_len workers.old + count) }
 {
     for number in 0..count {
-        let worker = ConnectionWorker {
-            rt: ground.rt,
-            threads: ground.threads,
-            hall: ground.hall,
-            log: ground.log,
-        };
-        add_at_entrance(ground, workers, Entrance::ConnectionWorker(worker))?;
+        add_connection_worker(ground, workers)?;
     }
     Ok(())
 }

@@ -8,34 +8,34 @@
 #![tactic(auto)]
 
 mod accepting;
+mod client;
+mod connections;
 mod crew;
 mod ending;
-mod entrance;
 mod entropy;
+mod event_loop;
 mod folder_disk;
-mod hall;
-mod logged_stream;
+mod loop_edge;
 mod naming;
 mod opening;
 mod orders;
-mod parting;
 mod peer;
 mod peer_outcome;
 mod people_file;
 mod people_line;
-mod porter;
 mod probing;
 mod reader;
 mod reports;
 mod request_line;
 mod request_log;
 mod rotators;
-mod served_stream;
 mod serving;
 mod side;
+mod stage;
 mod starting;
-mod timed_stream;
+mod unsent;
 mod upstreams;
+mod visit;
 mod welcome;
 
 ghost use Rattle.sm_command_line.specs.Reading.{IsInBounds};

@@ -1,10 +1,9 @@
 //! Mode agent: a caching reader at an address of its own.
-use crate::accepting::next_guest;
-use crate::hall::Hall;
+use crate::connections::Connections;
+use crate::event_loop::EventLoop;
 use crate::reports::Reports;
-use crate::served_stream::ServedStream;
+use crate::serving::bind;
 use crate::side::Side;
-use crate::timed_stream::TimedStream;
 use crate::upstreams::SaidUpstream;
 use sm_agent::Agent;
 use sm_command_line::Settings;
@@ -14,7 +13,7 @@ use sm_server::{Status, agent_of_words, answer_connection};
 use std::alloc::Global;
 use std::cell::RefCell;
 use std::io::{Read, Write};
-use std::net::{OpenStream, TcpListener, TcpStream};
+use std::net::TcpListener;
 use std::sync::Wait;
 
 /// Where a caching reader listens.
@@ -60,7 +59,7 @@ fn read_with<H: Wait>(rt: &HostRuntime, threads: &H, settings: &Settings, agent:
 
 /// Listens, and says so, and whom it asks.
 fn listen<H: Wait>(rt: &HostRuntime, threads: &H, settings: &Settings, reader: Reader) -> Status {
-    match TcpListener::bind(rt, ADDRESS) {
+    match bind(rt, ADDRESS) {
         Ok(listener) => {
             let server = settings.listen.as_str();
             let _ = eprintln!(rt;
@@ -75,33 +74,43 @@ fn listen<H: Wait>(rt: &HostRuntime, threads: &H, settings: &Settings, reader: R
     }
 }
 
-/// Answers connections, one after the other, until no more can be accepted.
+/// Answers connections with an event loop, until no more can be accepted.
 fn answer_all<H: Wait>(
     rt: &HostRuntime,
     threads: &H,
     listener: &TcpListener,
     reader: Reader,
 ) -> Status {
-    let hall = Hall::new();
+    let connections = Connections::new(rt, None, 1);
+    match EventLoop::new(rt, threads, &connections, listener, false) {
+        Ok(connections) => answer_visits(rt, threads, connections, reader),
+        Err(error) => {
+            let _ = eprintln!(rt; "secretsd: connections can't be polled: {error}");
+            Status::EdgeFault
+        }
+    }
+}
+
+/// Answers the visits of an event loop. However one ends, the next one is answered.
+fn answer_visits<H: Wait>(
+    rt: &HostRuntime,
+    threads: &H,
+    connections: EventLoop<H>,
+    reader: Reader,
+) -> Status {
+    let mut connections = connections;
     let mut reader = reader;
     for _ in threads.forever() {
-        match next_guest(rt, threads, &hall, listener) {
-            Ok((stream, _)) => answer(rt, &hall, stream, &mut reader),
+        match connections.next_visit() {
+            Ok(visit) => connections.end_visit(answer(rt.alloc(), visit, &mut reader)),
             Err(_) => return Status::EdgeFault,
         }
     }
     unreachable!()
 }
 
-/// Answers the requests of a connection. However it ends, the next one is answered.
-fn answer(rt: &HostRuntime, hall: &Hall, stream: TcpStream, reader: &mut Reader) {
-    let _ = stream.set_nodelay(true);
-    let stream = ServedStream::new(TimedStream::new(rt, hall, stream));
-    answer_over(rt.alloc(), stream, reader);
-}
-
-/// Answers the requests of a stream.
-fn answer_over<S: Read + Write + Drop>(alloc: Global, stream: S, reader: &mut Reader) {
+/// Answers the requests of a stream, and gives it back.
+fn answer<S: Read + Write + Drop>(alloc: Global, stream: S, reader: &mut Reader) -> S {
     let stream = RefCell::new(stream);
     let mut source = StreamSource::new(Side { stream: &stream });
     let mut sink = StreamSink::new(Side { stream: &stream });
@@ -113,4 +122,7 @@ fn answer_over<S: Read + Write + Drop>(alloc: Global, stream: S, reader: &mut Re
         &mut reader.upstream,
         &mut reader.clock,
     );
+    drop(source);
+    drop(sink);
+    stream.into_inner()
 }

@@ -79,7 +79,7 @@ impl<'a> RequestLog<'a> {
     /// Lets go of so many bytes of the front.
     fn skip(&mut self, size: usize) {
         if size >= self.heard.len() {
-            self.heard.clear();
+            self.heard = Vec::new(self.rt.alloc());
             return;
         }
         match Vec::from_slice(self.rt.alloc(), self.heard.as_slice().split_at(size).1) {
@@ -91,7 +91,7 @@ impl<'a> RequestLog<'a> {
     /// Keeps nothing any more.
     fn forget(&mut self) {
         self.is_whole = false;
-        self.heard.clear();
+        self.heard = Vec::new(self.rt.alloc());
     }
 }
 

@@ -3,9 +3,9 @@ ghost use Rattle.std.specs.Prelude.{◌≡◌, ◌+◌, All, OnOk, vec_len};
 ghost use Rattle.sm_command_line.specs.Reading.{IsInBounds};
 ghost use Rattle.sm_workers.specs.Workers.{IsFresh};
 
-use crate::crew::{Ground, Hand, add_connection_workers, add_porter, add_rotation_workers};
+use crate::connections::Connections;
+use crate::crew::{Ground, Hand, Lack, add_connection_workers, add_rotation_workers};
 use crate::folder_disk::FolderDisk;
-use crate::hall::Hall;
 use crate::opening::Opening;
 use crate::orders::{Orders, empty_disk};
 use crate::probing::has_threads;
@@ -16,7 +16,9 @@ use sm_disk::Disk;
 use sm_gather::Gathered;
 use sm_model::NoMemory;
 use sm_server::{RanBy, Status, run_server};
-use std::net::TcpListener;
+use std::io;
+use std::io::ErrorKind;
+use std::net::{TcpListener, ToSocketAddrs};
 use std::sync::Wait;
 use std::thread::Threads;
 
@@ -24,8 +26,8 @@ use std::thread::Threads;
 pub fn serve<H: Threads + Wait + Sync>(rt: &HostRuntime, threads: &H, orders: &Orders) -> Status
     requires { IsInBounds orders.now.settings.now }
 {
-    // This thread works too, so one for the porter is not counted.
-    let count = orders.settings.connections + orders.settings.workers;
+    // This thread works too.
+    let count = orders.settings.connections + orders.settings.workers - 1;
     if has_threads(threads, count) {
         listen(rt, threads, orders)
     } else {
@@ -41,13 +43,26 @@ fn listen<H: Threads + Wait + Sync>(rt: &HostRuntime, threads: &H, orders: &Orde
     requires { IsInBounds orders.now.settings.now }
 {
     let address = orders.settings.listen.as_str();
-    match TcpListener::bind(rt, address) {
+    match bind(rt, address) {
         Ok(listener) => serve_disk(rt, threads, orders, &listener),
         Err(error) => {
             let _ = eprintln!(rt; "secretsd: can't listen on {address}: {error}");
             Status::EdgeFault
         }
     }
+}
+
+/// A listener at the first address of a host and a port where one can be, which doesn't block. As many connections wait
+/// there as the system allows.
+pub fn bind(rt: &HostRuntime, address: &str) -> io::Result<TcpListener> {
+    let mut failed = io::Error::from(ErrorKind::AddrNotAvailable);
+    for place in address.to_socket_addrs(rt)? {
+        match mio::net::TcpListener::bind(rt, place) {
+            Ok(listener) => return Ok(TcpListener::from(listener)),
+            Err(error) => failed = error,
+        }
+    }
+    Err(failed)
 }
 
 /// What a server stands on.
@@ -128,34 +143,28 @@ fn serve_with<D: Disk + Drop + Send, M: MakeRotator, H: Threads + Wait + Sync>(
 ) -> Status
     requires { IsInBounds site.now.orders.now.settings.now }
 {
-    let hall = Hall::new();
     let welcome = Welcome {
         settings: site.orders.settings,
         opening: site.opening,
     };
+    let workers = site.orders.settings.connections as usize;
+    let connections = Connections::new(site.rt, Some(&welcome), workers);
     let ground = Ground {
         rt: site.rt,
         threads: site.threads,
-        hall: &hall,
+        connections: &connections,
+        listener: site.listener,
         reports: site.orders.reports,
         log: site.orders.settings.log,
     };
-    serve_on(
-        &ground,
-        site.orders,
-        site.listener,
-        &welcome,
-        disk,
-        rotators,
-    )
+    serve_on(&ground, site.orders, site.opening, disk, rotators)
 }
 
 /// Serves with workers that stand on this ground.
 fn serve_on<'a, D: Disk + Drop + Send, M: MakeRotator, H: Threads + Wait + Sync>(
     ground: &Ground<'a, H>,
     orders: &'a Orders<'a>,
-    listener: &'a TcpListener,
-    welcome: &'a Welcome<'a>,
+    opening: &'a Opening<'a>,
     disk: D,
     rotators: &M,
 ) -> Status
@@ -164,8 +173,8 @@ fn serve_on<'a, D: Disk + Drop + Send, M: MakeRotator, H: Threads + Wait + Sync>
     let alloc = ground.rt.alloc();
     let mut workers: Vec<Hand<'a, H, D, M::Made>> = Vec::new(alloc);
     let settings = orders.settings;
-    if let Err(NoMemory) = add_all(ground, &mut workers, listener, welcome, rotators, settings) {
-        return Status::Memory;
+    if let Err(lack) = add_all(ground, &mut workers, rotators, settings) {
+        return say_lack(ground.rt, lack);
     }
     let ran = run_server(
         ground.threads,
@@ -174,7 +183,7 @@ fn serve_on<'a, D: Disk + Drop + Send, M: MakeRotator, H: Threads + Wait + Sync>
         workers.as_mut_slice(),
         disk,
         orders.people,
-        welcome.opening,
+        opening,
     );
     match ran {
         RanBy::Opened(status, _) => status,
@@ -182,20 +191,28 @@ fn serve_on<'a, D: Disk + Drop + Send, M: MakeRotator, H: Threads + Wait + Sync>
     }
 }
 
-/// Adds all workers that the settings ask for: a porter, connection workers and rotation workers.
+/// Says what lacks, where that is not memory.
+fn say_lack(rt: &HostRuntime, lack: Lack) -> Status {
+    match lack {
+        Lack::Memory => Status::Memory,
+        Lack::System(error) => {
+            let _ = eprintln!(rt; "secretsd: connections can't be polled: {error}");
+            Status::EdgeFault
+        }
+    }
+}
+
+/// Adds all workers that the settings ask for: connection workers and rotation workers.
 fn add_all<'a, H: Wait, D: Disk + Drop, M: MakeRotator>(
     ground: &Ground<'a, H>,
     workers: &mut Vec<Hand<'a, H, D, M::Made>>,
-    listener: &'a TcpListener,
-    welcome: &'a Welcome<'a>,
     rotators: &M,
     settings: &Settings,
-) -> Result<(), NoMemory>
+) -> Result<(), Lack>
     requires none { vec_len workers.old ≡ 0 }
     ensures all { OnOk result (All IsFresh workers.new.items) }
-    ensures long { OnOk result (vec_len workers.new ≡ 1 + settings.now.connections + settings.now.workers) }
+    ensures long { OnOk result (vec_len workers.new ≡ settings.now.connections + settings.now.workers) }
 {
-    add_porter(ground, workers, listener, welcome)?;
     add_connection_workers(ground, workers, settings.connections)?;
     add_rotation_workers(ground, workers, rotators, settings.workers)?;
     Ok(())
