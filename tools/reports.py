@@ -79,6 +79,23 @@ def fault_of_opening(program):
     return None
 
 
+def fault_of_listening(program):
+    """With port 0 the line `listening` names the port that the system chose, in the form that others' tools read."""
+    front = r"secretsd: listening on 127\.0\.0\.1:([1-9]\d*), data in "
+    workers = ", 4 connections, 2 rotation workers"
+    with tempfile.TemporaryDirectory() as folder:
+        kept = f", 0 secrets and 0 entries in 9 of {JOURNAL_LIMIT} journal bytes"
+        for words, back in [([], f"memory{workers}"), (["--data", folder], f"{folder}{workers}{kept}")]:
+            with Serving(program, *words) as server:
+                found = re.fullmatch(front + re.escape(back), server.said[0])
+                client = Client(int(found[1]) if found else server.port)
+                is_answered = client.ask() == 200
+                client.close()
+                if not found or not is_answered:
+                    return f"at port 0 it said {server.said}"
+    return None
+
+
 def fault_of_folder_sync(program):
     """A folder is not served that can't be synced itself: the name of a file that was made may be lost there."""
     want_strace()
@@ -401,6 +418,7 @@ def fault_of_terminal(program):
 # Those of a row are tried side by side.
 CASES = [
     {
+        "listening": fault_of_listening,
         "opening": fault_of_opening,
         "long opening": fault_of_long_opening,
         "removed folder": fault_of_removed_folder,
