@@ -52,6 +52,9 @@ pub fn mode<'a>(alloc: Global) -> Arg<'a>
          is stopped, check says what a folder holds, and agent answers at 127.0.0.1:2773 what it reads from a server \
          and keeps for a while; drill answers 10,000 messages that it makes of a number, and says how that went; ship \
          writes what brings a replica to the state of a folder, and follow is such a replica, of standard input.\n\
+         Monitoring can use the first line of check, as in 'secrets 1 versions 1 entries 1', and its status: 0 where \
+         the folder is whole, 3 where its journal is damaged, and 4 where it can't be opened or another program has \
+         it.\n\
          Example: --mode serve",
     )
     .value_parser(ValueParser::Names(MODES.as_slice()))
@@ -124,7 +127,7 @@ pub fn rotator<'a>(alloc: Global) -> Arg<'a>
     .default_value(ROTATOR)
 }
 
-/// `--connections`: how many connections are served at a time.
+/// `--connections`: how many workers serve connections.
 pub fn connections<'a>(alloc: Global) -> Arg<'a>
     ensures rule { rule_of result ≡ connections_rule }
     ensures global { result.global ≡ false }
@@ -133,8 +136,9 @@ pub fn connections<'a>(alloc: Global) -> Arg<'a>
         alloc,
         "connections",
         "1 to 64",
-        "How many connections are served at a time, in mode serve",
-        "How many connections are served at a time, in mode serve. Further ones wait for their turn.\n\
+        "How many workers serve connections, in mode serve",
+        "How many workers serve connections, in mode serve. Each is a thread that serves many connections, and answers \
+         one request at a time. It is no limit of connections: the limit of open files is one.\n\
          Example: --connections 16",
     )
     .value_parser(ValueParser::unsigned(1, CONNECTION_WORKERS_LIMIT as u64))

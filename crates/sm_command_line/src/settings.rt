@@ -33,7 +33,7 @@ pub struct Settings {
     pub listen: Text,
     /// `local`, or the address of the one who makes new values.
     pub rotator: Text,
-    /// How many connections are served at a time.
+    /// How many workers serve connections.
     pub connections: u32,
     /// How many workers rotate secrets.
     pub workers: u32,
