@@ -11,7 +11,7 @@ use std::alloc::Global;
 use std::marker::Model;
 
 /// How much room there is at first.
-const FIRST_ROOM: usize = 16_384;
+const FIRST_ROOM: usize = 4_096;
 
 /// What a take behind the bytes answers.
 #[derive(Clone, Copy, Debug, PartialEq, Eq)]

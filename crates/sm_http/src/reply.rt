@@ -9,8 +9,8 @@ use arrayvec::ArrayVec;
 use itoa::Buffer;
 use sm_io::{Sink, Wrote, put_all};
 
-/// How long the first piece of a reply is at most.
-const PIECE_LIMIT: usize = 65_536;
+/// How long the first piece of a reply is at most. Most replies fit, and it costs little to make.
+const PIECE_LIMIT: usize = 8_192;
 
 /// Room for the first piece of a reply: its head, and as much of the body as fits. It is made once, and used for any
 /// number of replies.
@@ -77,7 +77,7 @@ fn put_both<K: Sink>(sink: &mut K, front: &[u8], back: &[u8]) -> Wrote
 
 /// Adds bytes to a piece that has room for them.
 fn extend(piece: &mut Piece, bytes: &[u8])
-    requires { array_vec_len piece.old + length bytes.now ≤ 65536 }
+    requires { array_vec_len piece.old + length bytes.now ≤ 8192 }
     ensures items { piece.new.items ≡ piece.old.items ++ bytes.now }
     ensures len { array_vec_len piece.new ≡ array_vec_len piece.old + length bytes.now }
 {
@@ -86,7 +86,7 @@ fn extend(piece: &mut Piece, bytes: &[u8])
 
 /// Adds a number in decimal.
 fn extend_decimal(piece: &mut Piece, number: u64)
-    requires { array_vec_len piece.old + 20 ≤ 65536 }
+    requires { array_vec_len piece.old + 20 ≤ 8192 }
     ensures items { piece.new.items ≡ piece.old.items ++ decimal number }
     ensures len { array_vec_len piece.new ≤ array_vec_len piece.old + 20 }
 {
