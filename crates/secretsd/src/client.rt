@@ -41,8 +41,12 @@ pub struct Client<'a> {
     stage: Stage,
     /// When the stage began, by the clock that never goes back.
     since: Duration,
-    /// Whether the socket may have bytes, or the end. A poll says so again only once a read has found none.
+    /// Whether the socket may have bytes, or the end. A poll says so again only once a read has found fewer than it
+    /// would have taken.
     may_read: bool,
+    /// Whether a poll has told that the client has sent all that it sends, or that the socket failed. It tells so once:
+    /// all reads up to the end are made then.
+    sees_end: bool,
     /// Whether the client has sent all that it sends.
     has_ended: bool,
     /// Whether nothing follows what is still to be sent.
@@ -72,6 +76,7 @@ impl<'a> Client<'a> {
             stage: Stage::Idle,
             since: now,
             may_read: true,
+            sees_end: false,
             has_ended: false,
             is_last: false,
             is_ready: false,
@@ -103,6 +108,7 @@ impl<'a> Client<'a> {
     /// Notes what a poll says of its socket.
     pub fn wake(&mut self, event: &Event) {
         self.may_read |= event.is_readable() || event.is_error();
+        self.sees_end |= event.is_read_closed() || event.is_error();
     }
 
     /// Has it have a turn, and gives whether it was to have none before.
@@ -163,9 +169,10 @@ impl<'a> Client<'a> {
         self.opened = 0;
     }
 
-    /// Opens what comes next, where nothing is open.
+    /// Opens what comes next, where nothing is open. Where nothing waits, and more may come, nothing is looked for.
     fn open(&mut self) -> Opened {
-        if self.arrivals.is_open() {
+        let is_empty = self.arrivals.len() == 0 && !self.has_ended;
+        if is_empty || self.arrivals.is_open() {
             return Opened::Nothing;
         }
         let opened = self.arrivals.open(self.has_ended);
@@ -181,7 +188,8 @@ impl<'a> Client<'a> {
         !self.arrivals.is_over() && self.opened < VISIT_LIMIT
     }
 
-    /// Reads once. What came waits to be given.
+    /// Reads once. What came waits to be given. Fewer bytes than there is room for are all that the socket has, unless
+    /// its client sends urgent data: for more, and for an end of which no poll has told, there is an event.
     fn read(&mut self, buffer: &mut [u8]) -> io::Result<()> {
         match self.socket.read(buffer) {
             Ok(0) => {
@@ -190,6 +198,9 @@ impl<'a> Client<'a> {
             }
             Ok(count) => {
                 let count = count.min(buffer.len());
+                if count < buffer.len() && !self.sees_end {
+                    self.may_read = false;
+                }
                 if let Err(NoMemory) = self.arrivals.push(&buffer[..count]) {
                     return Err(io::Error::from(ErrorKind::OutOfMemory));
                 }
