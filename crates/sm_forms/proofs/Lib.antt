@@ -20,3 +20,4 @@ pub mod PolicyLemmas
 pub mod PutResourcePolicyLemmas
 pub mod RotateSecretLemmas
 pub mod ValidateResourcePolicyLemmas
+pub mod MemberOrderLemmas

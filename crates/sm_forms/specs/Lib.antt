@@ -20,3 +20,4 @@ pub mod PutResourcePolicy
 pub mod RotateSecret
 pub mod ValidateResourcePolicy
 pub mod Forms
+pub mod MemberOrder

@@ -4,7 +4,7 @@ ghost use Rattle.sm_forms.specs.Members.{form_unless};
 ghost use Rattle.sm_forms.specs.BatchGetSecretValue.{are_ids, has_ids_or_filters, has_page_of_ids, batch_joint, batch_forms};
 ghost use Rattle.sm_model.specs.Bounds.{fits};
 
-use crate::members::{first, form_unless};
+use crate::members::{first_refusal, form_unless};
 use crate::paging::{filters_form, max_form, next_form};
 use sm_base::limits::BATCH_LIMIT;
 use sm_listing::SECRETS;
@@ -14,15 +14,12 @@ use sm_model::{BatchGetSecretValue, List, Text, Why};
 pub fn batch_forms(batch: &BatchGetSecretValue) -> Option<Why>
     ensures { result ≡ batch_forms batch.now }
 {
-    first(
+    first_refusal!(
         filters_form(&batch.filters),
-        first(
-            max_form(BATCH_LIMIT, batch.max_results),
-            first(
-                next_form(SECRETS, &batch.next_token),
-                first(ids_form(&batch.secret_id_list), batch_joint(batch)),
-            ),
-        ),
+        max_form(BATCH_LIMIT, batch.max_results),
+        next_form(SECRETS, &batch.next_token),
+        ids_form(&batch.secret_id_list),
+        batch_joint(batch),
     )
 }
 
@@ -43,7 +40,7 @@ fn ids_form(ids: &Option<List<Text>>) -> Option<Why>
 fn batch_joint(batch: &BatchGetSecretValue) -> Option<Why>
     ensures { result ≡ batch_joint batch.now }
 {
-    first(
+    first_refusal!(
         form_unless(has_ids_or_filters(batch), "SecretIdList"),
         form_unless(!has_page_of_ids(batch), "MaxResults"),
     )

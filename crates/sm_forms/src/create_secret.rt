@@ -3,7 +3,7 @@ ghost use Rattle.std.specs.Prelude.{◌≡◌};
 ghost use Rattle.sm_forms.specs.CreateSecret.{create_value, create_texts, create_forms};
 
 use crate::members::{
-    bytes_form, description_form, first, form_unless, has_both, token_form, value_form,
+    bytes_form, description_form, first_refusal, form_unless, has_both, token_form, value_form,
 };
 use crate::tags::tags_form;
 use sm_base::spelled::is_name;
@@ -14,7 +14,7 @@ use sm_versions::regions::are_regions;
 pub fn create_forms(create: &CreateSecret) -> Option<Why>
     ensures { result ≡ create_forms create.now }
 {
-    first(
+    first_refusal!(
         form_unless(are_regions(create.regions.as_slice()), "AddReplicaRegions"),
         create_texts(create),
     )
@@ -24,18 +24,12 @@ pub fn create_forms(create: &CreateSecret) -> Option<Why>
 fn create_texts(create: &CreateSecret) -> Option<Why>
     ensures { result ≡ create_texts create.now }
 {
-    first(
+    first_refusal!(
         token_form(&create.client_request_token, "ClientRequestToken"),
-        first(
-            description_form(&create.description, "Description"),
-            first(
-                description_form(&create.kms_key_id, "KmsKeyId"),
-                first(
-                    form_unless(is_name(create.name.as_bytes()), "Name"),
-                    create_value(create),
-                ),
-            ),
-        ),
+        description_form(&create.description, "Description"),
+        description_form(&create.kms_key_id, "KmsKeyId"),
+        form_unless(is_name(create.name.as_bytes()), "Name"),
+        create_value(create),
     )
 }
 
@@ -43,17 +37,13 @@ fn create_texts(create: &CreateSecret) -> Option<Why>
 fn create_value(create: &CreateSecret) -> Option<Why>
     ensures { result ≡ create_value create.now }
 {
-    first(
+    first_refusal!(
         bytes_form(&create.secret_binary, "SecretBinary"),
-        first(
-            value_form(&create.secret_string, "SecretString"),
-            first(
-                tags_form(&create.tags),
-                form_unless(
-                    !has_both(&create.secret_string, &create.secret_binary),
-                    "SecretString",
-                ),
-            ),
+        value_form(&create.secret_string, "SecretString"),
+        tags_form(&create.tags),
+        form_unless(
+            !has_both(&create.secret_string, &create.secret_binary),
+            "SecretString"
         ),
     )
 }

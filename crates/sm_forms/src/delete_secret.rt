@@ -2,7 +2,7 @@
 ghost use Rattle.std.specs.Prelude.{◌≡◌};
 ghost use Rattle.sm_forms.specs.DeleteSecret.{is_window, window_form, is_forced_with_window, delete_forms};
 
-use crate::members::{first, form_unless};
+use crate::members::{first_refusal, form_unless};
 use sm_base::limits::{LONGEST_WINDOW, SHORTEST_WINDOW};
 use sm_base::spelled::is_secret_id;
 use sm_model::{DeleteSecret, Why};
@@ -11,12 +11,10 @@ use sm_model::{DeleteSecret, Why};
 pub fn delete_forms(delete: &DeleteSecret) -> Option<Why>
     ensures { result ≡ delete_forms delete.now }
 {
-    first(
+    first_refusal!(
         window_form(delete.recovery_window_in_days),
-        first(
-            form_unless(is_secret_id(delete.secret_id.as_bytes()), "SecretId"),
-            form_unless(!is_forced_with_window(delete), "ForceDeleteWithoutRecovery"),
-        ),
+        form_unless(is_secret_id(delete.secret_id.as_bytes()), "SecretId"),
+        form_unless(!is_forced_with_window(delete), "ForceDeleteWithoutRecovery"),
     )
 }
 

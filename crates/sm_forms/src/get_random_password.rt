@@ -8,7 +8,7 @@ ghost use Rattle.sm_base.specs.Texts.{has_at_most};
 ghost use Rattle.sm_base.specs.declared.limits.TheConstants.{PASSWORD_LIMIT};
 ghost use Rattle.sm_password.specs.Classes.{classes};
 
-use crate::members::{first, form_unless};
+use crate::members::{first_refusal, form_unless};
 use crate::paging::is_count;
 use sm_base::limits::{EXCLUDED_LIMIT, PASSWORD_LENGTH, PASSWORD_LIMIT};
 use sm_base::text::has_at_most;
@@ -20,10 +20,11 @@ use sm_password::{Asked, class_count};
 pub fn password_forms(get: &GetRandomPassword) -> Option<Why>
     ensures { result ≡ password_forms get.now }
 {
-    match excluded_form(&get.exclude_characters) {
-        Some(why) => Some(why),
-        None => first(length_form(get.password_length), joint_form(get)),
-    }
+    first_refusal!(
+        excluded_form(&get.exclude_characters),
+        length_form(get.password_length),
+        joint_form(get),
+    )
 }
 
 /// The form of ExcludeCharacters.
@@ -53,7 +54,7 @@ fn joint_form(get: &GetRandomPassword) -> Option<Why>
     ensures { result ≡ password_joint (password_ask get.now) }
 {
     let count = class_count_of(get);
-    first(
+    first_refusal!(
         form_unless(count != 0, "ExcludeCharacters"),
         form_unless(is_long_enough(get, count), "PasswordLength"),
     )

@@ -2,7 +2,7 @@
 ghost use Rattle.std.specs.Prelude.{◌≡◌};
 ghost use Rattle.sm_forms.specs.GetSecretValue.{get_forms};
 
-use crate::members::{first, form_unless, label_form, token_form};
+use crate::members::{first_refusal, form_unless, label_form, token_form};
 use sm_base::spelled::is_secret_id;
 use sm_model::{GetSecretValue, Why};
 
@@ -10,11 +10,9 @@ use sm_model::{GetSecretValue, Why};
 pub fn get_forms(get: &GetSecretValue) -> Option<Why>
     ensures { result ≡ get_forms get.now }
 {
-    first(
+    first_refusal!(
         form_unless(is_secret_id(get.secret_id.as_bytes()), "SecretId"),
-        first(
-            token_form(&get.version_id, "VersionId"),
-            label_form(&get.version_stage, "VersionStage"),
-        ),
+        token_form(&get.version_id, "VersionId"),
+        label_form(&get.version_stage, "VersionStage"),
     )
 }

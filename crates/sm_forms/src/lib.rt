@@ -8,6 +8,7 @@ pub mod delete_secret;
 pub mod get_random_password;
 pub mod get_secret_value;
 mod key_order;
+pub mod laws;
 pub mod list_secret_version_ids;
 pub mod list_secrets;
 mod members;

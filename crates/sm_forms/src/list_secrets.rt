@@ -3,7 +3,7 @@ ghost use Rattle.std.specs.Prelude.{◌≡◌, codes};
 ghost use Rattle.sm_forms.specs.Members.{form_of};
 ghost use Rattle.sm_forms.specs.ListSecrets.{is_order, list_forms};
 
-use crate::members::{first, form_unless};
+use crate::members::{first_refusal, form_unless};
 use crate::paging::{filters_form, max_form, next_form};
 use sm_base::limits::PAGE_LIMIT;
 use sm_listing::SECRETS;
@@ -13,15 +13,11 @@ use sm_model::{ListSecrets, Text, Why};
 pub fn list_forms(list: &ListSecrets) -> Option<Why>
     ensures { result ≡ list_forms list.now }
 {
-    first(
+    first_refusal!(
         filters_form(&list.filters),
-        first(
-            max_form(PAGE_LIMIT, list.max_results),
-            first(
-                next_form(SECRETS, &list.next_token),
-                order_form(&list.sort_order),
-            ),
-        ),
+        max_form(PAGE_LIMIT, list.max_results),
+        next_form(SECRETS, &list.next_token),
+        order_form(&list.sort_order),
     )
 }
 

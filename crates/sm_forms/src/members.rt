@@ -2,7 +2,7 @@
 ghost use Rattle.std.specs.Prelude.{◌≡◌, length};
 ghost use Rattle.std.specs.List.{list_all};
 ghost use Rattle.std.specs.Str.{chars};
-ghost use Rattle.sm_forms.specs.Members.{first_why, form_unless, form_of, is_value, has_both, has_one, are_labels, labels_form};
+ghost use Rattle.sm_forms.specs.Members.{form_unless, form_of, is_value, has_both, has_one, are_labels, labels_form};
 ghost use Rattle.sm_base.specs.Spelling.{is_token, is_label};
 ghost use Rattle.sm_model.specs.Bounds.{is_description};
 ghost use Rattle.sm_base.specs.Texts.{has_at_most};
@@ -12,15 +12,20 @@ use sm_base::spelled::{is_label, is_token};
 use sm_base::text::has_at_most;
 use sm_model::{Bytes, List, Text, Why};
 
-/// The first of two refusals.
-pub fn first(one: Option<Why>, next: Option<Why>) -> Option<Why>
-    ensures { result ≡ first_why one next }
-{
-    match one {
-        Some(why) => Some(why),
-        None => next,
-    }
+/// The first of the refusals that is one. The tests behind it are not made.
+macro_rules! first_refusal {
+    ($last:expr $(,)?) => {
+        $last
+    };
+    ($first:expr, $($next:expr),+ $(,)?) => {
+        match $first {
+            Some(why) => Some(why),
+            None => first_refusal!($($next),+),
+        }
+    };
 }
+
+pub(crate) use first_refusal;
 
 /// A refusal of the member, unless it is in its form.
 pub fn form_unless(fits: bool, name: &'static str) -> Option<Why>

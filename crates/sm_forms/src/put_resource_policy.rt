@@ -3,7 +3,7 @@ ghost use Rattle.std.specs.Prelude.{◌≡◌};
 ghost use Rattle.sm_forms.specs.Policies.{OrNoMemory};
 ghost use Rattle.sm_forms.specs.PutResourcePolicy.{put_policy_members, put_policy_forms};
 
-use crate::members::{first, form_unless};
+use crate::members::{first_refusal, form_unless};
 use crate::policies::{policy_flaw, policy_form};
 use sm_base::spelled::is_secret_id;
 use sm_model::{PutResourcePolicy, Why};
@@ -24,7 +24,7 @@ pub fn put_policy_forms(alloc: Global, put: &PutResourcePolicy) -> Option<Why>
 fn put_policy_members(put: &PutResourcePolicy) -> Option<Why>
     ensures { result ≡ put_policy_members put.now }
 {
-    first(
+    first_refusal!(
         policy_form(&put.resource_policy),
         form_unless(is_secret_id(put.secret_id.as_bytes()), "SecretId"),
     )

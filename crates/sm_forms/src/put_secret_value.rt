@@ -3,7 +3,7 @@ ghost use Rattle.std.specs.Prelude.{◌≡◌};
 ghost use Rattle.sm_forms.specs.PutSecretValue.{put_forms};
 
 use crate::members::{
-    bytes_form, first, form_unless, has_one, labels_form, token_form, value_form,
+    bytes_form, first_refusal, form_unless, has_one, labels_form, token_form, value_form,
 };
 use sm_base::spelled::is_secret_id;
 use sm_model::{PutSecretValue, Why};
@@ -12,23 +12,15 @@ use sm_model::{PutSecretValue, Why};
 pub fn put_forms(put: &PutSecretValue) -> Option<Why>
     ensures { result ≡ put_forms put.now }
 {
-    first(
+    first_refusal!(
         token_form(&put.client_request_token, "ClientRequestToken"),
-        first(
-            bytes_form(&put.secret_binary, "SecretBinary"),
-            first(
-                form_unless(is_secret_id(put.secret_id.as_bytes()), "SecretId"),
-                first(
-                    value_form(&put.secret_string, "SecretString"),
-                    first(
-                        labels_form(&put.version_stages),
-                        form_unless(
-                            has_one(&put.secret_string, &put.secret_binary),
-                            "SecretString",
-                        ),
-                    ),
-                ),
-            ),
+        bytes_form(&put.secret_binary, "SecretBinary"),
+        form_unless(is_secret_id(put.secret_id.as_bytes()), "SecretId"),
+        value_form(&put.secret_string, "SecretString"),
+        labels_form(&put.version_stages),
+        form_unless(
+            has_one(&put.secret_string, &put.secret_binary),
+            "SecretString"
         ),
     )
 }

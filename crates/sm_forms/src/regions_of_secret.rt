@@ -3,7 +3,7 @@
 ghost use Rattle.std.specs.Prelude.{◌≡◌};
 ghost use Rattle.sm_forms.specs.RegionsOfSecret.{regions_forms, replicate_forms, remove_regions_forms};
 
-use crate::members::{first, form_unless};
+use crate::members::{first_refusal, form_unless};
 use sm_base::spelled::is_secret_id;
 use sm_model::{RegionsOfSecret, Why};
 use sm_versions::regions::are_regions;
@@ -12,7 +12,7 @@ use sm_versions::regions::are_regions;
 fn regions_forms(of: &RegionsOfSecret, member: &'static str) -> Option<Why>
     ensures { result ≡ regions_forms member.now of.now }
 {
-    first(
+    first_refusal!(
         form_unless(are_regions(of.regions.as_slice()), member),
         form_unless(is_secret_id(of.secret_id.as_bytes()), "SecretId"),
     )

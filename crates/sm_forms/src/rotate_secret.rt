@@ -4,7 +4,7 @@ ghost use Rattle.sm_model.specs.Bounds.{fits};
 ghost use Rattle.sm_cron.specs.Spelling.{is_schedule_expression};
 ghost use Rattle.sm_forms.specs.RotateSecret.{is_period, name_both, are_rules, rules_form, rotate_forms};
 
-use crate::members::{description_form, first, form_unless, token_form};
+use crate::members::{description_form, first_refusal, form_unless, token_form};
 use sm_base::limits::DAYS_LIMIT;
 use sm_base::spelled::is_secret_id;
 use sm_cron::is_schedule_expression;
@@ -14,15 +14,11 @@ use sm_model::{RotateSecret, Rules, Text, Why};
 pub fn rotate_forms(rotate: &RotateSecret) -> Option<Why>
     ensures { result ≡ rotate_forms rotate.now }
 {
-    first(
+    first_refusal!(
         token_form(&rotate.client_request_token, "ClientRequestToken"),
-        first(
-            description_form(&rotate.rotation_lambda_arn, "RotationLambdaARN"),
-            first(
-                rules_form(&rotate.rotation_rules),
-                form_unless(is_secret_id(rotate.secret_id.as_bytes()), "SecretId"),
-            ),
-        ),
+        description_form(&rotate.rotation_lambda_arn, "RotationLambdaARN"),
+        rules_form(&rotate.rotation_rules),
+        form_unless(is_secret_id(rotate.secret_id.as_bytes()), "SecretId"),
     )
 }
 

@@ -3,7 +3,7 @@ ghost use Rattle.std.specs.Prelude.{◌≡◌};
 ghost use Rattle.std.specs.List.{list_all};
 ghost use Rattle.sm_forms.specs.UntagResource.{is_untag_key, are_untag_keys, untag_forms};
 
-use crate::members::{first, form_unless};
+use crate::members::{first_refusal, form_unless};
 use sm_base::limits::{TAG_KEY_LIMIT, TAGS_LIMIT};
 use sm_base::spelled::is_secret_id;
 use sm_base::text::{characters, has_at_most};
@@ -13,7 +13,7 @@ use sm_model::{Text, UntagResource, Why};
 pub fn untag_forms(untag: &UntagResource) -> Option<Why>
     ensures { result ≡ untag_forms untag.now }
 {
-    first(
+    first_refusal!(
         form_unless(is_secret_id(untag.secret_id.as_bytes()), "SecretId"),
         form_unless(are_untag_keys(untag.tag_keys.as_slice()), "TagKeys"),
     )

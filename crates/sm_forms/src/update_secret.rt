@@ -3,7 +3,7 @@ ghost use Rattle.std.specs.Prelude.{◌≡◌};
 ghost use Rattle.sm_forms.specs.UpdateSecret.{update_value, update_forms};
 
 use crate::members::{
-    bytes_form, description_form, first, form_unless, has_both, token_form, value_form,
+    bytes_form, description_form, first_refusal, form_unless, has_both, token_form, value_form,
 };
 use sm_base::spelled::is_secret_id;
 use sm_model::{UpdateSecret, Why};
@@ -12,15 +12,11 @@ use sm_model::{UpdateSecret, Why};
 pub fn update_forms(update: &UpdateSecret) -> Option<Why>
     ensures { result ≡ update_forms update.now }
 {
-    first(
+    first_refusal!(
         token_form(&update.client_request_token, "ClientRequestToken"),
-        first(
-            description_form(&update.description, "Description"),
-            first(
-                description_form(&update.kms_key_id, "KmsKeyId"),
-                update_value(update),
-            ),
-        ),
+        description_form(&update.description, "Description"),
+        description_form(&update.kms_key_id, "KmsKeyId"),
+        update_value(update),
     )
 }
 
@@ -28,17 +24,13 @@ pub fn update_forms(update: &UpdateSecret) -> Option<Why>
 fn update_value(update: &UpdateSecret) -> Option<Why>
     ensures { result ≡ update_value update.now }
 {
-    first(
+    first_refusal!(
         bytes_form(&update.secret_binary, "SecretBinary"),
-        first(
-            form_unless(is_secret_id(update.secret_id.as_bytes()), "SecretId"),
-            first(
-                value_form(&update.secret_string, "SecretString"),
-                form_unless(
-                    !has_both(&update.secret_string, &update.secret_binary),
-                    "SecretString",
-                ),
-            ),
+        form_unless(is_secret_id(update.secret_id.as_bytes()), "SecretId"),
+        value_form(&update.secret_string, "SecretString"),
+        form_unless(
+            !has_both(&update.secret_string, &update.secret_binary),
+            "SecretString"
         ),
     )
 }

@@ -2,7 +2,7 @@
 ghost use Rattle.std.specs.Prelude.{◌≡◌, ◌||◌, is_some};
 ghost use Rattle.sm_forms.specs.UpdateSecretVersionStage.{label_and_version, move_forms};
 
-use crate::members::{first, form_unless, token_form};
+use crate::members::{first_refusal, form_unless, token_form};
 use sm_base::spelled::{is_label, is_secret_id};
 use sm_model::{UpdateSecretVersionStage, Why};
 
@@ -10,15 +10,11 @@ use sm_model::{UpdateSecretVersionStage, Why};
 pub fn move_forms(update: &UpdateSecretVersionStage) -> Option<Why>
     ensures { result ≡ move_forms update.now }
 {
-    first(
+    first_refusal!(
         token_form(&update.move_to_version_id, "MoveToVersionId"),
-        first(
-            token_form(&update.remove_from_version_id, "RemoveFromVersionId"),
-            first(
-                form_unless(is_secret_id(update.secret_id.as_bytes()), "SecretId"),
-                label_and_version(update),
-            ),
-        ),
+        token_form(&update.remove_from_version_id, "RemoveFromVersionId"),
+        form_unless(is_secret_id(update.secret_id.as_bytes()), "SecretId"),
+        label_and_version(update),
     )
 }
 
@@ -26,7 +22,7 @@ pub fn move_forms(update: &UpdateSecretVersionStage) -> Option<Why>
 fn label_and_version(update: &UpdateSecretVersionStage) -> Option<Why>
     ensures { result ≡ label_and_version update.now }
 {
-    first(
+    first_refusal!(
         form_unless(is_label(update.version_stage.as_bytes()), "VersionStage"),
         form_unless(has_version(update), "MoveToVersionId"),
     )

@@ -4,7 +4,7 @@ ghost use Rattle.sm_base.specs.Spelling.{is_secret_id};
 ghost use Rattle.sm_forms.specs.Members.{form_of};
 ghost use Rattle.sm_forms.specs.ValidateResourcePolicy.{validate_forms};
 
-use crate::members::{first, form_unless};
+use crate::members::{first_refusal, form_unless};
 use crate::policies::policy_form;
 use sm_base::spelled::is_secret_id;
 use sm_model::{Text, ValidateResourcePolicy, Why};
@@ -13,7 +13,7 @@ use sm_model::{Text, ValidateResourcePolicy, Why};
 pub fn validate_forms(validate: &ValidateResourcePolicy) -> Option<Why>
     ensures { result ≡ validate_forms validate.now }
 {
-    first(
+    first_refusal!(
         policy_form(&validate.resource_policy),
         id_form(&validate.secret_id),
     )
