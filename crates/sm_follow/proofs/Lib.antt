@@ -8,3 +8,4 @@ pub mod FollowLemmas
 pub mod DiskLemmas
 pub mod RunLaws
 pub mod CatchUpLaws
+pub mod ActionLemmas

@@ -5,3 +5,4 @@ pub mod Disks
 pub mod Promotions
 pub mod Steps
 pub mod Laws
+pub mod Actions

@@ -1,4 +1,5 @@
-//! Laws of whole runs of a replica.
+//! Laws of whole runs of a replica, and of the action that a request asks for.
+ghost use Rattle.sm_follow.specs.Actions.{ActionsAreNamed};
 ghost use Rattle.sm_follow.specs.Laws.{CatchesUp, IsAPrefix, KeepsOrPromotes, RunsCatchUp, RunsLeavePrefix};
 
 use sm_disk::Disk;
@@ -28,4 +29,9 @@ pub fn a_replica_catches_up()
 /// holds what the account holds.
 pub fn a_run_catches_up<D: Disk>()
     ensures { RunsCatchUp D.Disk }
+{}
+
+/// The action that a request asks the policy of its secret for is `secretsmanager:` and the name of its operation.
+pub fn actions_are_named()
+    ensures { ActionsAreNamed }
 {}
