@@ -77,6 +77,12 @@ ANSWERS = {
     "another status": ([head("404 Not Found", "Content-Length: 0")], FAULT),
     "no length": ([head("200 OK") + b"{}"], FAULT),
     "a length that is none": ([head("200 OK", "Content-Length: x") + b"{}"], FAULT),
+    "two lengths": ([head("200 OK", "Content-Length: 2", "content-length: 2") + b"{}"], FAULT),
+    "a length with a sign": ([head("200 OK", "Content-Length: +2") + b"{}"], FAULT),
+    "a length of ten digits": ([head("200 OK", "Content-Length: 0000000002") + b"{}"], (200, "{}")),
+    "a length of eleven digits": ([head("200 OK", "Content-Length: 00000000002") + b"{}"], FAULT),
+    "a body in chunks": (
+        [head("200 OK", "Transfer-Encoding: chunked", "Content-Length: 12") + b"2\r\n{}\r\n0\r\n\r\n"], FAULT),
     "a body that is announced too long": ([head("200 OK", f"Content-Length: {BODY_LIMIT + 1}") + b"x"], FAULT),
     "no reply": ([b"220 ready\r\n"], FAULT),
     "a head that is too long": ([head("200 OK", "A: " + "a" * 16_384, "Content-Length: 0")], FAULT),

@@ -5,3 +5,5 @@ pub mod QueryLemmas
 pub mod JsonLemmas
 pub mod RunLemmas
 pub mod ExchangeLemmas
+pub mod ReceivedLemmas
+pub mod LinkLemmas

@@ -114,7 +114,9 @@ module _ (ttl : ℕ) (calls : List Call) (old : AgentState) (call : Call) (holds
     | inl kept ↦ subst (Holds ttl (calls ++ call ∷ [])) (sym kept)
         (with_asked (entries_with old.cache call.question (agent_moment old call.now) status body)
         (came_by status body is (status == 200) refl))
-    | inr same ↦ subst (Holds ttl (calls ++ call ∷ [])) (sym same.1) unchanged
+    | inr gone ↦ subst (Holds ttl (calls ++ call ∷ [])) (sym gone.1)
+        (with_asked (remove_entry (same_question call.question) old.cache.entries)
+        (λ e c. old_asked e (Contains-remove_entry (same_question call.question) old.cache.entries e c)))
   ]
   leaves_held Failed is new leaves = subst (Holds ttl (calls ++ call ∷ [])) (sym leaves) unchanged
   leaves_held Memory is new leaves = subst (Holds ttl (calls ++ call ∷ [])) (sym leaves) unchanged

@@ -70,13 +70,15 @@ entries_with cache question moment status body =
     else remove_entry (same_question question) cache.entries
 
 -- What a call leaves of the agent. A kept answer comes to the front. One that came is kept by its status; where there
--- was no memory to put it, nothing changes but the moment, and no more does at a fault or for want of memory.
+-- was no memory to put it, an older answer to the question goes. At a fault or out of memory nothing changes but the
+-- moment.
 abbrev pub Leaves : Question → ℕ → Given → AgentState → AgentState → Type 0
 Leaves question moment (Kept status body at) old new =
     new ≡ with_entries old moment (promoted (same_question question) old.cache.entries)
 Leaves question moment (Asked status body) old new =
     (new ≡ with_entries old moment (entries_with old.cache question moment status body))
-    ⊎ ((status ≡ 200) × (new ≡ record old { last = moment }))
+    ⊎ ((status ≡ 200)
+    × (new ≡ with_entries old moment (remove_entry (same_question question) old.cache.entries)))
 Leaves question moment Failed old new = new ≡ record old { last = moment }
 Leaves question moment Memory old new = new ≡ record old { last = moment }
 

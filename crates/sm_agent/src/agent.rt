@@ -146,12 +146,14 @@ impl Agent {
         }
     }
 
-    /// Puts an answer into the cache, where there is memory, and gives its body back.
+    /// Puts an answer into the cache, and gives its body back. Where there is no memory for it, an older answer to the
+    /// question goes.
     fn keep(&mut self, question: Question, body: Bytes) -> Bytes
         ensures body { result ≡ body }
         ensures kept { (self.new ≡ with_entries self.old self.old.last
             (put_entries same_question self.old.cache question (cached body self.old.last)))
-            ⊎ (self.new ≡ self.old) }
+            ⊎ (self.new ≡ with_entries self.old self.old.last
+            (remove_entry (same_question question) self.old.cache.entries)) }
     {
         match body.copy(self.alloc) {
             Ok(copy) => {
@@ -159,9 +161,12 @@ impl Agent {
                     body: copy,
                     at: self.last,
                 };
-                let _ = self.cache.put(question, answer);
+                match self.cache.put(question, answer) {
+                    Ok(older) => drop(older),
+                    Err(failed) => drop(self.cache.pop(&failed.value.0)),
+                }
             }
-            Err(NoMemory) => {}
+            Err(NoMemory) => drop(self.cache.pop(&question)),
         }
         body
     }

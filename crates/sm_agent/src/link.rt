@@ -1,7 +1,9 @@
 //! A server behind a TCP address: the trusted edge. What the peer answers is nobody's theorem.
-ghost use Rattle.std.specs.Prelude.{◌≡◌, ◌≤◌, IsTrue, IfOk, None, vec_len};
+ghost use Rattle.std.specs.Prelude.{◌≡◌, ◌≤◌, ◌<◌, ◌++◌, ℕ, List, length, IsTrue, IfOk, None, vec_len};
+ghost use Rattle.std.specs.Io.KnownBytes.{Consumes};
 ghost use Rattle.sm_base.specs.Faults.{Rose};
 ghost use Rattle.sm_agent.specs.Link.{link_faults};
+ghost use Rattle.sm_agent.specs.Received.{ReadsReply, WasRead};
 ghost use Rattle.sm_agent.specs.Upstreams.{is_status, IfGot, OnFailed, told_after};
 
 use crate::asking::asking;
@@ -9,7 +11,6 @@ use crate::question::Question;
 use crate::received::{BODY_LIMIT, HEAD_LIMIT, Received, reply_in};
 use crate::upstream::{Upped, Upstream};
 use crate::wire::{Trouble, connect, receive, send};
-use httparse::spans::EMPTY_HEADER_SPAN;
 use sm_base::{Bytes, NoMemory, Text};
 use std::alloc::Global;
 use std::io::Read;
@@ -18,9 +19,6 @@ use std::time::{Clock, Instant};
 
 /// The greatest length of a reply.
 const REPLY_LIMIT: usize = HEAD_LIMIT + BODY_LIMIT;
-
-/// How many fields a head may have.
-const FIELD_LIMIT: usize = 64;
 
 /// How many bytes are read at once.
 const PIECE: usize = 4_096;
@@ -48,6 +46,25 @@ impl<R> LinkUpstream<R> {
     }
 }
 
+/// Reads once, and adds what came to the bytes.
+fn gather<R: Clock, S: Read + OpenStream>(
+    system: &R,
+    stream: &mut S,
+    bytes: &mut Vec<u8>,
+    start: Instant,
+) -> Result<(), Trouble>
+    ensures { IfOk result (λ done. (came : List ℕ) × (0 < length came)
+        × Consumes (S.remaining stream.old) (S.remaining stream.new) came
+        × (bytes.new.items ≡ bytes.old.items ++ came)) }
+{
+    let mut piece = [0; PIECE];
+    let count = receive(system, stream, &mut piece, start)?;
+    match bytes.extend_from_slice(&piece[..count]) {
+        Ok(()) => Ok(()),
+        Err(_) => Err(Trouble::Memory),
+    }
+}
+
 /// The reply that the server writes.
 fn read_reply<R: Clock, S: Read + OpenStream>(
     alloc: Global,
@@ -55,17 +72,12 @@ fn read_reply<R: Clock, S: Read + OpenStream>(
     stream: &mut S,
     start: Instant,
 ) -> Result<(u16, Bytes), Trouble>
-    ensures { IfOk result (λ reply. IsTrue (is_status reply.0)) }
+    ensures { IfOk result (λ reply. ReadsReply (S.remaining stream.old) (S.remaining stream.new) reply.0 reply.1) }
 {
     let mut bytes = Vec::new(alloc);
-    let mut piece = [0; PIECE];
-    let mut room = [EMPTY_HEADER_SPAN; FIELD_LIMIT];
     while bytes.len() <= REPLY_LIMIT {
-        let count = receive(system, stream, &mut piece, start)?;
-        if bytes.extend_from_slice(&piece[..count]).is_err() {
-            return Err(Trouble::Memory);
-        }
-        match reply_in(bytes.as_slice(), &mut room) {
+        gather(system, stream, &mut bytes, start)?;
+        match reply_in(bytes.as_slice()) {
             Received::Whole(status, from, to) => {
                 let body = copied(alloc, &bytes.as_slice()[from..to])?;
                 return Ok((status, body));
@@ -78,7 +90,9 @@ fn read_reply<R: Clock, S: Read + OpenStream>(
 }
 
 /// A copy of a body.
-fn copied(alloc: Global, body: &[u8]) -> Result<Bytes, Trouble> {
+fn copied(alloc: Global, body: &[u8]) -> Result<Bytes, Trouble>
+    ensures { IfOk result (λ copy. copy ≡ body.now) }
+{
     match Bytes::from_slice(alloc, body) {
         Ok(body) => Ok(body),
         Err(NoMemory) => Err(Trouble::Memory),
@@ -92,7 +106,7 @@ fn exchange<R: Net + Clock>(
     address: &Text,
     question: &Question,
 ) -> Result<(u16, Bytes), Trouble>
-    ensures { IfOk result (λ reply. IsTrue (is_status reply.0)) }
+    ensures { IfOk result (λ reply. WasRead reply.0 reply.1) }
 {
     let Ok(start) = Instant::now(system) else {
         return Err(Trouble::Failed);
@@ -112,6 +126,7 @@ impl<R: Net + Clock> Upstream for LinkUpstream<R> {
 
     fn ask(&mut self, question: &Question) -> Upped
         ensures status { IfGot result (λ status body. IsTrue (is_status status)) }
+        ensures read { IfGot result WasRead }
         ensures failed { OnFailed result (Rose (link_faults self.old) (link_faults self.new)) }
         ensures later { link_faults self.old ≤ link_faults self.new }
         ensures told { None ≡ told_after question.now result None }

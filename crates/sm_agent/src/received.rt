@@ -1,15 +1,18 @@
 //! The reply at the front of the bytes that a server sent (RFC 9112).
-ghost use Rattle.std.specs.Prelude.{◌≡◌, ◌≤◌, length, All};
-ghost use Rattle.httparse.specs.Spans.{IsHeaderWithin};
+ghost use Rattle.std.specs.Prelude.{◌≡◌, ◌≤◌, length, map, All};
+ghost use Rattle.httparse.specs.Spans.{IsHeaderWithin, header_bytes};
 ghost use Rattle.sm_agent.specs.Upstreams.{is_status};
-ghost use Rattle.sm_agent.specs.Received.{Receives};
+ghost use Rattle.sm_agent.specs.Received.{IsFoundHead, Receives, body_length, length_in};
 
 use httparse::Status;
-use httparse::spans::{HeaderSpan, parse_response};
-use std::str;
+use httparse::spans::{EMPTY_HEADER_SPAN, HeaderSpan, ResponseSpans, parse_response};
+use sm_http::head::{find_field, length_of};
 
 /// The greatest length of a head.
 pub const HEAD_LIMIT: usize = 16_384;
+
+/// How many fields a head may have.
+pub const FIELD_LIMIT: usize = 64;
 
 /// The greatest length of a body.
 pub const BODY_LIMIT: usize = 524_288;
@@ -21,7 +24,7 @@ pub enum Received {
     Whole(u16, usize, usize),
     /// No whole reply yet.
     Partial,
-    /// No reply, or one of another status.
+    /// No reply, or one of another status, or one whose body has no length that is known before.
     Bad,
 }
 
@@ -32,53 +35,71 @@ pub(crate) fn is_status(status: u16) -> bool
     matches!(status, 200 | 400 | 413 | 500 | 503)
 }
 
-/// The length that the first Content-Length field of a head gives.
-fn content_length(head: &[u8], headers: &[HeaderSpan]) -> Option<usize>
-    requires { All (IsHeaderWithin (length head.now)) headers.now }
+/// The length of a reply's body: that of its one Content-Length, of 1 to 10 decimal digits, where it has no
+/// Transfer-Encoding.
+fn body_length(bytes: &[u8], headers: &[HeaderSpan]) -> Option<u64>
+    requires { All (IsHeaderWithin (length bytes.now)) headers.now }
+    ensures { result ≡ body_length (map (header_bytes bytes.now) headers.now) }
 {
-    for header in headers {
-        if header.name.of(head).eq_ignore_ascii_case(b"content-length") {
-            return number_in(header.value.of(head));
-        }
-    }
-    None
-}
-
-/// The number that a text writes in decimal.
-fn number_in(text: &[u8]) -> Option<usize> {
-    match str::from_utf8(text) {
-        Ok(text) => text.parse::<usize>().ok(),
-        Err(_) => None,
+    match find_field(bytes, headers, b"transfer-encoding") {
+        Some(_) => None,
+        None => only_length(bytes, headers),
     }
 }
 
-/// What stands at the front, of which so many bytes are a head of this status.
-fn with_body(bytes: &[u8], status: u16, start: usize, headers: &[HeaderSpan]) -> Received
-    requires start { start ≤ length bytes.now }
-    requires headers { All (IsHeaderWithin start) headers.now }
+/// The length that the one Content-Length gives.
+fn only_length(bytes: &[u8], headers: &[HeaderSpan]) -> Option<u64>
+    requires { All (IsHeaderWithin (length bytes.now)) headers.now }
+    ensures { result ≡ length_in (map (header_bytes bytes.now) headers.now) }
+{
+    match find_field(bytes, headers, b"content-length") {
+        Some((value, others)) => match find_field(bytes, others, b"content-length") {
+            Some(_) => None,
+            None => length_of(value),
+        },
+        None => None,
+    }
+}
+
+/// What stands at the front, where a head does whose parts are these.
+fn with_head(bytes: &[u8], spans: ResponseSpans, headers: &[HeaderSpan]) -> Received
+    requires { IsFoundHead bytes.now spans headers.now }
     ensures { Receives bytes.now result }
 {
-    match content_length(&bytes[..start], headers) {
-        Some(size) if size <= BODY_LIMIT && is_status(status) => {
-            if size <= bytes.len() - start {
-                Received::Whole(status, start, start + size)
+    if HEAD_LIMIT < spans.len {
+        return Received::Bad;
+    }
+    if !is_status(spans.code) {
+        return Received::Bad;
+    }
+    match body_length(bytes, headers) {
+        Some(size) if size <= BODY_LIMIT as u64 => {
+            let end = spans.len + size as usize;
+            if end <= bytes.len() {
+                Received::Whole(spans.code, spans.len, end)
             } else {
                 Received::Partial
             }
         }
-        _ => Received::Bad,
+        Some(_) => Received::Bad,
+        None => Received::Bad,
     }
 }
 
-/// What stands at the front of a server's bytes. The room is for the places of its fields.
-pub fn reply_in(bytes: &[u8], room: &mut [HeaderSpan]) -> Received
+/// What stands at the front of a server's bytes.
+pub fn reply_in(bytes: &[u8]) -> Received
     ensures { Receives bytes.now result }
 {
-    match parse_response(bytes, room) {
-        Ok(Status::Complete(head)) if head.len <= HEAD_LIMIT => {
-            with_body(bytes, head.code, head.len, &room[..head.headers])
+    let mut room = [EMPTY_HEADER_SPAN; FIELD_LIMIT];
+    match parse_response(bytes, &mut room) {
+        Ok(Status::Complete(spans)) => with_head(bytes, spans, &room[..spans.headers]),
+        Ok(Status::Partial) => {
+            if bytes.len() < HEAD_LIMIT {
+                Received::Partial
+            } else {
+                Received::Bad
+            }
         }
-        Ok(Status::Partial) if bytes.len() < HEAD_LIMIT => Received::Partial,
-        _ => Received::Bad,
+        Err(_) => Received::Bad,
     }
 }

@@ -1,5 +1,6 @@
 //! One exchange over a connection, in a limited time.
-ghost use Rattle.std.specs.Prelude.{◌<◌, ◌≤◌, length, IfOk};
+ghost use Rattle.std.specs.Prelude.{◌<◌, ◌≤◌, length, take, IfOk};
+ghost use Rattle.std.specs.Io.KnownBytes.{Appends, Consumes};
 
 use sm_base::Text;
 use std::io::{Read, Write};
@@ -50,7 +51,9 @@ pub(crate) fn send<R: Clock, S: Write + OpenStream>(
     stream: &mut S,
     bytes: &[u8],
     start: Instant,
-) -> Result<(), Trouble> {
+) -> Result<(), Trouble>
+    ensures { IfOk result (λ done. Appends (S.contents stream.old) (S.contents stream.new) bytes.now) }
+{
     let mut sent = 0;
     while sent < bytes.len() {
         let left = time_left(system, start)?;
@@ -73,7 +76,9 @@ pub(crate) fn receive<R: Clock, S: Read + OpenStream>(
     piece: &mut [u8],
     start: Instant,
 ) -> Result<usize, Trouble>
-    ensures { IfOk result (λ count. (0 < count) × (count ≤ length piece.new)) }
+    ensures count { IfOk result (λ count. (0 < count) × (count ≤ length piece.new)) }
+    ensures bytes { IfOk result (λ count. Consumes (S.remaining stream.old) (S.remaining stream.new)
+        (take count piece.new)) }
 {
     let left = time_left(system, start)?;
     if stream.set_read_timeout(Some(left)).is_err() {

@@ -5,7 +5,7 @@
 mod ahead;
 pub mod answer;
 mod excerpt;
-mod head;
+pub mod head;
 pub mod laws;
 pub mod message;
 mod owned;
