@@ -6,14 +6,15 @@ use mathlib.Core.Option.{some, none}
 use lib.ListN.{get_elem?}
 use lib.Seq.{set-get_or}
 use Rattle.std.proofs.lemmas.List.{get_or-set_same, get_or-set_other, length-set}
+use Rattle.std.proofs.lemmas.List.Elements.{All-set}
 use Rattle.atomic_table.specs.Table.{State, Me, step, keeps, Allows}
 use Rattle.atomic_table.proofs.Lists.{at_set, one_turn}
 use Rattle.sm_lock.specs.declared.view.QueuePlace.{QueuePlace}
-use Rattle.sm_lock.specs.declared.view.QueuePlace.TheVariants.{Out, Waiting, Flagged, Parked, Inside, Holding, Waking}
+use Rattle.sm_lock.specs.declared.view.QueuePlace.TheVariants.{Out, Waiting, Flagged, Parked, Inside, Holding, Waking, Rousing}
 use Rattle.sm_lock.specs.declared.view.View.{View}
 use Rattle.sm_lock.specs.View.{has_ticket, has, holds, parks, wakes, ticket, turned, saw}
-use Rattle.sm_lock.specs.Rule.{flag_word, flag, NoneSleepsOn}
-use Rattle.sm_lock.specs.Told.{flagged, looked_again, saw_flag, lowered}
+use Rattle.sm_lock.specs.Rule.{flag_word, flag, AreFlags, NoneSleepsOn}
+use Rattle.sm_lock.specs.Told.{flagged, looked_again, saw_flag, lowered, roused}
 use Rattle.sm_lock.proofs.Sums.{total-set, some_term, if_same, if_other}
 use Rattle.sm_lock.proofs.Moved.{Rule, slot_stays, flags_stay, moved, fits_turned, in_line, others_none, few_tickets}
 use Rattle.sm_lock.proofs.QueueSteps.{unmoved, is_served, lets_in}
@@ -26,10 +27,17 @@ parks-has n (Parked t) = omega arith
 parks-has n (Inside t) = omega arith
 parks-has n (Holding t) = omega arith
 parks-has n (Waking t) = omega arith
+parks-has n (Rousing t) = omega arith
 
 -- a ticket's flag is that of its remainder
 pub same_flag : (t n i : ℕ) → n ≡ t % 2 ^ 64 → i ≡ flag_word n → i ≡ flag_word t
 same_flag t n i is at = omega (arith, is, at)
+
+flags_set : (flags : List ℕ) (k x : ℕ) → x ≤ 1 → AreFlags flags → AreFlags (set flags k x)
+flags_set flags k x small are = (
+  length-set flags k x ∙ are.0,
+  All-set (λ (f : ℕ). f ≤ 1) flags k x small are.1,
+)
 
 third : (k : ℕ) → 3 + k ≡ suc (suc (suc k))
 third k = omega arith
@@ -84,7 +92,7 @@ module _ {T O E : Type 0} (org : T → O) (sty : T → List (ℕ × E)) (o : O) 
       (λ apart.
       let waking = r.none_sleeps_on
       (omega (arith, parked, rests, total-set (λ (x : V). parks r.served x.turn) s.views id v w me))
-      (sym (get_or-set_other r.flags (t % 128) (r.served % 128) 1 0 apart) ∙ up) in
+      (λ down. up (get_or-set_other r.flags (t % 128) (r.served % 128) 1 0 apart ∙ down)) in
       omega (arith, waking, sees, total-set (λ (x : V). wakes r.served x.turn) s.views id v w me))
 
   pub raises_flag : (n id : ℕ) (m : M) (t i : ℕ) → (m.0.turn ≡ Waiting t) ⊎ (m.0.turn ≡ Parked t) → seats ≤ 128
@@ -105,7 +113,8 @@ module _ {T O E : Type 0} (org : T → O) (sty : T → List (ℕ × E)) (o : O) 
         keeps,
         tt,
         moved org sty o built seats s r id v w (set s.words i 1) s.homes r.log r.added r.drawn r.served
-            (set r.flags (t % 128) 1) me (words_set s r t i 1 at) (length-set r.flags (t % 128) 1 ∙ r.all_flags)
+            (set r.flags (t % 128) 1) me (words_set s r t i 1 at)
+            (flags_set r.flags (t % 128) 1 (omega arith) r.all_flags)
             (raised_flag s r id v w t me (mine t ∙ if_same t t refl) refl sees few)
             (omega (arith, one)) (λ k. omega (arith, mine k))
             (slot_stays org sty o built seats s r (set s.words i 1) id v w me (sym none_held))
@@ -113,7 +122,7 @@ module _ {T O E : Type 0} (org : T → O) (sty : T → List (ℕ × E)) (o : O) 
             (fits_turned org sty o built seats r.log r.served r.next v (Flagged t) tt (omega (arith, one, f.numbered))
             f)
             (λ j u _ there. r.each j u there),
-        λ k. (turned (Flagged (sym its k)) v, m.1),
+        (refl, λ k. (turned (Flagged (sym its k)) v, m.1)),
       )
 
   -- who looks in vain with its flag raised may park
@@ -159,64 +168,93 @@ module _ {T O E : Type 0} (org : T → O) (sty : T → List (ℕ × E)) (o : O) 
         ),
       ))
 
-  -- once the flag of its ticket is down, who served that ticket is out
-  seen_to : (s : State (Option T) V) (r : R s) (id : ℕ) (v : V) (t i x : ℕ) (flags : List ℕ)
-      → get_elem? s.views id ≡ some v → v.turn ≡ Waking t → flag t flags ≢ 1
-      → ((k : ℕ) → k ≢ t % 128 → get_or flags k 0 ≡ get_or r.flags k 0) → length flags ≡ 128
-      → set s.words i x ≡ front s r flags
-      → R (record { words = set s.words i x; homes = s.homes; views = set s.views id (turned Out v) })
-  seen_to s r id v t i x flags me waking down others all words =
-      let f = r.each id v me in let w : V = turned Out v in
-      moved org sty o built seats s r id v w (set s.words i x) s.homes r.log r.added r.drawn r.served flags me words all
-      (λ parked up. dite (ℕ_discrete (r.served % 128) (t % 128))
-      (λ same. absurd (down (ap (λ (k : ℕ). get_or flags k 0) (sym same) ∙ up)))
+  -- once the flag of the ticket that it served is down, who served it need not see to that flag
+  seen_to : (s : State (Option T) V) (r : R s) (id : ℕ) (v w : V) (t : ℕ) (flags : List ℕ)
+      → get_elem? s.views id ≡ some v → v.turn ≡ Waking t → parks r.served w.turn ≡ 0 → flag t flags ≡ 0
+      → ((k : ℕ) → k ≢ t % 128 → get_or flags k 0 ≡ get_or r.flags k 0)
+      → NoneSleepsOn r.served flags (set s.views id w)
+  seen_to s r id v w t flags me waking rests down others = λ parked up.
+      dite (ℕ_discrete (r.served % 128) (t % 128))
+      (λ same. absurd (up (ap (λ (k : ℕ). get_or flags k 0) same ∙ down)))
       (λ apart.
-      let before = r.none_sleeps_on (omega (
-        arith,
-        parked,
-        total-set (λ (x : V). parks r.served x.turn) s.views id v w me,
-      )) (sym (others (r.served % 128) apart) ∙ up) in
+      let before = r.none_sleeps_on
+      (omega (arith, parked, rests, total-set (λ (x : V). parks r.served x.turn) s.views id v w me))
+      (λ was. up (others (r.served % 128) apart ∙ was)) in
       omega (
         arith,
         before,
         total-set (λ (x : V). wakes r.served x.turn) s.views id v w me,
         ap (wakes r.served) waking,
         if_other r.served t (λ e. apart (ap (λ (k : ℕ). k % 128) e)),
-      )))
-      (omega (arith, ap has_ticket waking)) (λ k. omega (arith, ap (has k) waking))
-      (slot_stays org sty o built seats s r (set s.words i x) id v w me (ap holds (sym waking)))
-      r.begins r.numbered refl refl
-      (fits_turned org sty o built seats r.log r.served r.next v Out tt (omega arith) f)
-      (λ j u _ there. r.each j u there)
+      ))
 
   pub sees_flag : (n id : ℕ) (m : M) (t i : ℕ) → m.0.turn ≡ Waking t → i ≡ flag_word t
       → Allows R n id m i (λ x. x) (saw_flag (step n i 0 0 none) m)
   sees_flag n id m t i waking at s r wide me _ =
-      let v = m.0 in
-      dite (ℕ_discrete (get_or s.words i 0) 1)
-      (λ up. (v, keeps, tt, unmoved org sty o built seats s r i id v me, ((λ _. refl), λ down. absurd (down up))))
+      let v = m.0 in let f = r.each id v me in let w : V = turned Out v in
+      dite (ℕ_discrete (get_or s.words i 0) 0)
       (λ down. (
-        turned Out v,
+        w,
         keeps,
         tt,
-        seen_to s r id v t i (get_or s.words i 0) r.flags me waking (λ up. down (words_get s r t i at ∙ up))
-            (λ _ _. refl) r.all_flags (set-get_or s.words i 0 ∙ r.words_are),
-        ((λ up. absurd (down up)), λ _. refl),
+        moved org sty o built seats s r id v w (set s.words i (get_or s.words i 0)) s.homes r.log r.added r.drawn
+            r.served r.flags me (set-get_or s.words i 0 ∙ r.words_are) r.all_flags
+            (seen_to s r id v w t r.flags me waking refl (sym (words_get s r t i at) ∙ down) (λ _ _. refl))
+            (omega (arith, ap has_ticket waking)) (λ k. omega (arith, ap (has k) waking))
+            (slot_stays org sty o built seats s r (set s.words i (get_or s.words i 0)) id v w me
+            (ap holds (sym waking)))
+            r.begins r.numbered refl refl
+            (fits_turned org sty o built seats r.log r.served r.next v Out tt (omega arith) f)
+            (λ j u _ there. r.each j u there),
+        ((t, waking, at), (λ up. absurd (up down)), λ _. refl),
+      ))
+      (λ up. (
+        v,
+        keeps,
+        tt,
+        unmoved org sty o built seats s r i id v me,
+        ((t, waking, at), (λ _. refl), λ down. absurd (up down)),
       ))
 
   pub lowers : (n id : ℕ) (m : M) (t i : ℕ) → m.0.turn ≡ Waking t → i ≡ flag_word t
       → Allows R n id m i (λ _. 0) (λ _. lowered (step n i 0 0 none) m 0)
   lowers n id m t i waking at s r wide me _ =
-      let v = m.0 in
-      let is_down : flag t (set r.flags (t % 128) 0) ≡ 0 =
-      get_or-set_same r.flags (t % 128) 0 0 (omega (arith, r.all_flags)) in (
-        turned Out v,
+      let v = m.0 in let f = r.each id v me in let w : V = turned (Rousing t) v in
+      let flags : List ℕ = set r.flags (t % 128) 0 in
+      let down : flag t flags ≡ 0 = get_or-set_same r.flags (t % 128) 0 0 (omega (arith, r.all_flags.0)) in (
+        w,
         keeps,
         tt,
-        seen_to s r id v t i 0 (set r.flags (t % 128) 0) me waking (λ up. absurd (omega (arith, is_down, up)))
-            (λ k apart. get_or-set_other r.flags (t % 128) k 0 0 apart)
-            (length-set r.flags (t % 128) 0 ∙ r.all_flags) (words_set s r t i 0 at),
-        refl,
+        moved org sty o built seats s r id v w (set s.words i 0) s.homes r.log r.added r.drawn r.served flags me
+            (words_set s r t i 0 at) (flags_set r.flags (t % 128) 0 (omega arith) r.all_flags)
+            (seen_to s r id v w t flags me waking refl down
+            (λ k apart. get_or-set_other r.flags (t % 128) k 0 0 apart))
+            (omega (arith, ap has_ticket waking)) (λ k. omega (arith, ap (has k) waking))
+            (slot_stays org sty o built seats s r (set s.words i 0) id v w me (ap holds (sym waking)))
+            r.begins r.numbered refl refl
+            (fits_turned org sty o built seats r.log r.served r.next v (Rousing t) tt (omega arith) f)
+            (λ j u _ there. r.each j u there),
+        ((t, waking, at), refl, λ k. (turned (Rousing (ap ticket (sym waking) k)) v, m.1)),
+      )
+
+  -- who has lowered a flag is out by a load of any word
+  pub rouses : (n id : ℕ) (m : M) (t i : ℕ) → m.0.turn ≡ Rousing t
+      → Allows R n id m i (λ x. x) (roused (step n i 0 0 none) m)
+  rouses n id m t i rousing s r wide me _ =
+      let v = m.0 in let f = r.each id v me in let w : V = turned Out v in (
+        w,
+        keeps,
+        tt,
+        moved org sty o built seats s r id v w (set s.words i (get_or s.words i 0)) s.homes r.log r.added r.drawn
+            r.served r.flags me (set-get_or s.words i 0 ∙ r.words_are) r.all_flags
+            (flags_stay org sty o built seats s r id v w me (omega arith) (omega (arith, ap (wakes r.served) rousing)))
+            (omega (arith, ap has_ticket rousing)) (λ k. omega (arith, ap (has k) rousing))
+            (slot_stays org sty o built seats s r (set s.words i (get_or s.words i 0)) id v w me
+            (ap holds (sym rousing)))
+            r.begins r.numbered refl refl
+            (fits_turned org sty o built seats r.log r.served r.next v Out tt (omega arith) f)
+            (λ j u _ there. r.each j u there),
+        ((t, rousing), refl),
       )
 
 module _ {T O E : Type 0} where

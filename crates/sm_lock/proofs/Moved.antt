@@ -6,11 +6,11 @@ use lib.ListN.{get_elem?}
 use Rattle.atomic_table.specs.Table.{State}
 use Rattle.atomic_table.proofs.Lists.{at_set}
 use Rattle.sm_lock.specs.declared.view.QueuePlace.{QueuePlace}
-use Rattle.sm_lock.specs.declared.view.QueuePlace.TheVariants.{Out, Waiting, Flagged, Parked, Inside, Holding, Waking}
+use Rattle.sm_lock.specs.declared.view.QueuePlace.TheVariants.{Out, Waiting, Flagged, Parked, Inside, Holding, Waking, Rousing}
 use Rattle.sm_lock.specs.declared.view.View.{View}
 use Rattle.sm_lock.specs.Story.{times, made_by}
 use Rattle.sm_lock.specs.View.{has_ticket, has, holds, parks, wakes, numbers}
-use Rattle.sm_lock.specs.Rule.{total, within, Fits, IsServed, IsHome, IsAway, NoneSleepsOn, Counted}
+use Rattle.sm_lock.specs.Rule.{total, within, Fits, IsServed, IsHome, IsAway, AreFlags, NoneSleepsOn, Counted}
 use Rattle.sm_lock.proofs.Sums.{total-set, term_le, terms_le, total_le, if_same, within_le, within-is}
 
 module _ {T O E : Type 0} (org : T → O) (sty : T → List (ℕ × E)) (o : O) (built : List (ℕ × E)) (seats : ℕ) where
@@ -61,7 +61,7 @@ module _ {T O E : Type 0} (org : T → O) (sty : T → List (ℕ × E)) (o : O) 
       (drawn' served' : ℕ) (flags' : List ℕ)
       → get_elem? s.views id ≡ some v
       → words' ≡ (drawn' % 2 ^ 64) ∷ (served' % 2 ^ 64) ∷ length log' ∷ flags'
-      → length flags' ≡ 128
+      → AreFlags flags'
       → NoneSleepsOn served' flags' (set s.views id w)
       → drawn' + r.served + has_ticket v.turn ≡ r.drawn + served' + has_ticket w.turn
       → ((t : ℕ) → within served' drawn' t + has t v.turn ≡ within r.served r.drawn t + has t w.turn)
@@ -144,6 +144,7 @@ module _ {T O E : Type 0} (org : T → O) (sty : T → List (ℕ × E)) (o : O) 
   elsewhere log log' seen served served' (Inside t) h f = absurd (omega (arith, h, if_same served t (sym f.0)))
   elsewhere log log' seen served served' (Holding t) h f = absurd (omega (arith, h, if_same served t (sym f.0)))
   elsewhere log log' seen served served' (Waking t) h f = tt
+  elsewhere log log' seen served served' (Rousing t) h f = tt
 
   -- who has the value has the ticket that is served
   pub holder_served : (log seen : List (ℕ × E)) (served : ℕ) (turn : QueuePlace) → 0 < holds turn
@@ -155,3 +156,4 @@ module _ {T O E : Type 0} (org : T → O) (sty : T → List (ℕ × E)) (o : O) 
   holder_served log seen served (Inside t) h f = absurd (omega arith)
   holder_served log seen served (Holding t) h f = if_same served t (sym f.0)
   holder_served log seen served (Waking t) h f = absurd (omega arith)
+  holder_served log seen served (Rousing t) h f = absurd (omega arith)

@@ -10,12 +10,12 @@ use lib.Seq.{set-get_or}
 use Rattle.atomic_table.specs.Table.{State, Me, step, keeps, Allows, Splits, Joins, opening, Final, Seen}
 use Rattle.atomic_table.proofs.Lists.{at_snoc, set_again, set_else}
 use Rattle.sm_lock.specs.declared.view.QueuePlace.{QueuePlace}
-use Rattle.sm_lock.specs.declared.view.QueuePlace.TheVariants.{Out, Waiting, Flagged, Parked, Inside, Holding, Waking}
+use Rattle.sm_lock.specs.declared.view.QueuePlace.TheVariants.{Out, Waiting, Flagged, Parked, Inside, Holding, Waking, Rousing}
 use Rattle.sm_lock.specs.declared.view.View.{View}
 use Rattle.sm_lock.specs.declared.view.Known.{Known}
 use Rattle.sm_lock.specs.Story.{times, made_by, Grows}
 use Rattle.sm_lock.specs.View.{has_ticket, has, holds, parks, wakes, nothing, numbers, first_view, spent, counted_up, newcomer, noted, beside, merged}
-use Rattle.sm_lock.specs.Rule.{total, Fits, IsServed, IsHome, IsAway}
+use Rattle.sm_lock.specs.Rule.{total, Fits, IsServed, IsHome, IsAway, AreFlags}
 use Rattle.sm_lock.specs.Told.{took_in}
 use Rattle.sm_lock.proofs.Sums.{total-append, total-set, terms_le, some_term, times-append, times-length, within-in, within-more, within-after}
 use Rattle.sm_lock.proofs.Stories.{grows-nil, grows-none, joins}
@@ -32,7 +32,7 @@ module _ {T O E : Type 0} (org : T → O) (sty : T → List (ℕ × E)) (o : O) 
   R = Rule org sty o built seats
 
   -- the table at the start
-  pub opens : (words flags : List ℕ) (value : T) → words ≡ 0 ∷ 0 ∷ length built ∷ flags → length flags ≡ 128
+  pub opens : (words flags : List ℕ) (value : T) → words ≡ 0 ∷ 0 ∷ length built ∷ flags → AreFlags flags
       → sty value ≡ built → org value ≡ o
       → R (opening words (Some value ∷ []) (first_view o built))
   opens words flags value words_are all_flags list origin = record {
@@ -308,6 +308,7 @@ module _ {T O E : Type 0} (org : T → O) (sty : T → List (ℕ × E)) (o : O) 
   holds-ticket (Inside t) = omega arith
   holds-ticket (Holding t) = omega arith
   holds-ticket (Waking t) = omega arith
+  holds-ticket (Rousing t) = omega arith
 
   -- what the last state shows to a seat that has all numbers
   pub closes : (id : ℕ) (v : V) (ws : List ℕ) (xs : List (Option T)) → v.turn ≡ Out → v.told ≡ nothing

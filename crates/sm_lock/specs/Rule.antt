@@ -1,10 +1,10 @@
 -- What holds of the words, the slot and all views between any two steps.
-use Rattle.std.specs.Prelude.{◌≡◌, ◌⊎◌, ℕ, ◌+◌, ◌%◌, ◌^◌, ◌<◌, ◌≤◌, List, [], ◌∷◌, ◌++◌, length, Option, Some, None, if◌then◌else◌, nat_lt, slice_index}
+use Rattle.std.specs.Prelude.{◌≡◌, ◌≢◌, ◌⊎◌, ℕ, ◌+◌, ◌%◌, ◌^◌, ◌<◌, ◌≤◌, List, [], ◌∷◌, ◌++◌, length, Option, Some, None, if◌then◌else◌, nat_lt, slice_index, All}
 use mathlib.Core.Option.{some, none}
 use lib.ListN.{get_elem?}
 use Rattle.atomic_table.specs.Table.{State}
 use Rattle.sm_lock.specs.declared.view.QueuePlace.{QueuePlace}
-use Rattle.sm_lock.specs.declared.view.QueuePlace.TheVariants.{Out, Waiting, Flagged, Parked, Inside, Holding, Waking}
+use Rattle.sm_lock.specs.declared.view.QueuePlace.TheVariants.{Out, Waiting, Flagged, Parked, Inside, Holding, Waking, Rousing}
 use Rattle.sm_lock.specs.declared.view.View.{View}
 use Rattle.sm_lock.specs.Story.{times, made_by, Grows}
 use Rattle.sm_lock.specs.View.{has_ticket, has, holds, parks, wakes, numbers}
@@ -27,6 +27,7 @@ IsServed log served seen (Parked t) = Unit {0}
 IsServed log served seen (Inside t) = (t ≡ served) × (seen ≡ log)
 IsServed log served seen (Holding t) = (t ≡ served) × (seen ≡ log)
 IsServed log served seen (Waking t) = Unit {0}
+IsServed log served seen (Rousing t) = Unit {0}
 
 -- the word that has a ticket's flag, and the flag among all of them
 abbrev pub flag_word : ℕ → ℕ
@@ -34,6 +35,10 @@ flag_word t = 3 + t % 128
 
 abbrev pub flag : ℕ → List ℕ → ℕ
 flag t flags = slice_index flags (t % 128)
+
+-- all flags, of which each is 1 where it is up, and 0 where it is down
+abbrev pub AreFlags : List ℕ → Type 0
+AreFlags flags = (length flags ≡ 128) × All (λ f. f ≤ 1) flags
 
 -- what holds of each view
 pub record Fits {O E : Type 0} (origin : O) (built log : List (ℕ × E)) (served next : ℕ) (v : View O E) : Type 0 where
@@ -52,7 +57,7 @@ pub record Fits {O E : Type 0} (origin : O) (built log : List (ℕ × E)) (serve
 -- to see to that flag
 abbrev pub NoneSleepsOn : {O E : Type 0} → ℕ → List ℕ → List (View O E) → Type 0
 NoneSleepsOn served flags views =
-    0 < total (λ v. parks served v.turn) views → flag served flags ≡ 1 → 0 < total (λ v. wakes served v.turn) views
+    0 < total (λ v. parks served v.turn) views → flag served flags ≢ 0 → 0 < total (λ v. wakes served v.turn) views
 
 module _ {T O E : Type 0} where
   -- the value is with one seat
@@ -78,7 +83,7 @@ pub record Counted {T O E : Type 0} (origin_of : T → O) (story_of : T → List
   -- the flags of the tickets
   pub flags : List ℕ
   pub words_are : s.words ≡ (drawn % 2 ^ 64) ∷ (served % 2 ^ 64) ∷ length log ∷ flags
-  pub all_flags : length flags ≡ 128
+  pub all_flags : AreFlags flags
   pub none_sleeps_on : NoneSleepsOn served flags s.views
   -- the tickets held are the numbers from `served` up to `drawn`, each once
   pub queue : drawn ≡ served + total (λ v. has_ticket v.turn) s.views

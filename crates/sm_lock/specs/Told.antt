@@ -1,8 +1,9 @@
 -- What each step tells its seat: of the step, the seat before, the word that was found and the seat after.
 use Rattle.std.specs.Prelude.{◌≡◌, ◌≢◌, ℕ, ◌+◌, ◌%◌, ◌^◌, List, ◌∷◌, length, Option, Some}
 use Rattle.atomic_table.specs.Table.{Me, Step, rest}
-use Rattle.sm_lock.specs.declared.view.QueuePlace.TheVariants.{Out, Waiting, Flagged, Parked, Inside, Holding, Waking}
+use Rattle.sm_lock.specs.declared.view.QueuePlace.TheVariants.{Out, Waiting, Flagged, Parked, Inside, Holding, Waking, Rousing}
 use Rattle.sm_lock.specs.declared.view.View.{View}
+use Rattle.sm_lock.specs.Rule.{flag_word}
 use Rattle.sm_lock.specs.Story.{Grows}
 use Rattle.sm_lock.specs.View.{turned, saw, merged, ticket}
 
@@ -24,9 +25,9 @@ module _ {T O E : Type 0} where
       × (m' ≡ (turned (Inside t) (saw log m.0), m.1)))
       × (found ≢ t % 2 ^ 64 → m' ≡ m)
 
-  -- its ticket's flag was raised
+  -- its ticket's flag was raised, which is to write 1
   abbrev pub flagged : At T → Sat T O E → ℕ → Sat T O E → Type 0
-  flagged st m found m' = m' ≡ (turned (Flagged (ticket m.0.turn)) m.0, m.1)
+  flagged st m found m' = (found ≡ 1) × (m' ≡ (turned (Flagged (ticket m.0.turn)) m.0, m.1))
 
   -- the same as `looked`, with its flag raised: where its ticket is not served, it may park
   abbrev pub looked_again : At T → Sat T O E → ℕ → Sat T O E → Type 0
@@ -57,13 +58,22 @@ module _ {T O E : Type 0} where
   served st m found m' = (t : ℕ) → m.0.turn ≡ Inside t
       → (found ≡ t % 2 ^ 64) × (m' ≡ (turned (Waking (t + 1)) m.0, m.1))
 
-  -- it is out, but for where the flag was up
-  abbrev pub saw_flag : At T → Sat T O E → ℕ → Sat T O E → Type 0
-  saw_flag st m found m' = (found ≡ 1 → m' ≡ m) × (found ≢ 1 → m' ≡ (turned Out m.0, m.1))
+  -- it has yet to see to the flag of the ticket that it served, and the step is on this flag
+  abbrev pub IsOnItsFlag : At T → Sat T O E → Type 0
+  IsOnItsFlag st m = (t : ℕ) × (m.0.turn ≡ Waking t) × (st.word ≡ flag_word t)
 
-  -- the flag was lowered, and it is out
+  -- where the flag was down, it is out
+  abbrev pub saw_flag : At T → Sat T O E → ℕ → Sat T O E → Type 0
+  saw_flag st m found m' = IsOnItsFlag st m × (found ≢ 0 → m' ≡ m) × (found ≡ 0 → m' ≡ (turned Out m.0, m.1))
+
+  -- the flag was lowered, which is to write 0, and it has yet to wake who is parked on it
   abbrev pub lowered : At T → Sat T O E → ℕ → Sat T O E → Type 0
-  lowered st m found m' = m' ≡ (turned Out m.0, m.1)
+  lowered st m found m' =
+      IsOnItsFlag st m × (found ≡ 0) × (m' ≡ (turned (Rousing (ticket m.0.turn)) m.0, m.1))
+
+  -- it has lowered a flag, and is out
+  abbrev pub roused : At T → Sat T O E → ℕ → Sat T O E → Type 0
+  roused st m found m' = ((t : ℕ) × (m.0.turn ≡ Rousing t)) × (m' ≡ (turned Out m.0, m.1))
 
   -- what it was told is taken in, and the list that it has then extends both
   abbrev pub took_in : At T → Sat T O E → ℕ → Sat T O E → Type 0

@@ -1,7 +1,7 @@
 -- What a seat knows, and what it knows after each step.
 use Rattle.std.specs.Prelude.{ℕ, ◌+◌, List, [], ◌∷◌, ◌++◌, Some, None, if◌then◌else◌, ◌==◌}
 use Rattle.sm_lock.specs.declared.view.QueuePlace.{QueuePlace}
-use Rattle.sm_lock.specs.declared.view.QueuePlace.TheVariants.{Out, Waiting, Flagged, Parked, Inside, Holding, Waking}
+use Rattle.sm_lock.specs.declared.view.QueuePlace.TheVariants.{Out, Waiting, Flagged, Parked, Inside, Holding, Waking, Rousing}
 use Rattle.sm_lock.specs.declared.view.Known.{Known}
 use Rattle.sm_lock.specs.declared.view.View.{View}
 use Rattle.sm_lock.specs.Story.{longer}
@@ -15,6 +15,7 @@ has_ticket (Parked t) = 1
 has_ticket (Inside t) = 1
 has_ticket (Holding t) = 1
 has_ticket (Waking t) = 0
+has_ticket (Rousing t) = 0
 
 -- 1 where its ticket is n, and else 0
 abbrev pub has : ℕ → QueuePlace → ℕ
@@ -25,6 +26,7 @@ has n (Parked t) = if n == t then 1 else 0
 has n (Inside t) = if n == t then 1 else 0
 has n (Holding t) = if n == t then 1 else 0
 has n (Waking t) = 0
+has n (Rousing t) = 0
 
 -- 1 where the value is with it, and else 0
 abbrev pub holds : QueuePlace → ℕ
@@ -35,6 +37,7 @@ holds (Parked t) = 0
 holds (Inside t) = 0
 holds (Holding t) = 1
 holds (Waking t) = 0
+holds (Rousing t) = 0
 
 -- 1 where it may be parked with ticket n, and else 0
 abbrev pub parks : ℕ → QueuePlace → ℕ
@@ -45,6 +48,7 @@ parks n (Parked t) = if n == t then 1 else 0
 parks n (Inside t) = 0
 parks n (Holding t) = 0
 parks n (Waking t) = 0
+parks n (Rousing t) = 0
 
 -- 1 where it has yet to see to the flag of ticket n, and else 0
 abbrev pub wakes : ℕ → QueuePlace → ℕ
@@ -55,6 +59,7 @@ wakes n (Parked t) = 0
 wakes n (Inside t) = 0
 wakes n (Holding t) = 0
 wakes n (Waking t) = if n == t then 1 else 0
+wakes n (Rousing t) = 0
 
 -- its ticket, or the one that it served, and 0 where there is none
 abbrev pub ticket : QueuePlace → ℕ
@@ -65,6 +70,7 @@ ticket (Parked t) = t
 ticket (Inside t) = t
 ticket (Holding t) = t
 ticket (Waking t) = t
+ticket (Rousing t) = t
 
 module _ {E : Type 0} where
   -- a list that was seen, with the numbers whose entries are all in it

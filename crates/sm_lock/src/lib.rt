@@ -11,6 +11,7 @@ mod notes;
 pub mod pass;
 mod plays;
 mod reads;
+mod rousing;
 pub mod storied;
 mod turns;
 pub mod view;

@@ -15,6 +15,8 @@ pub enum QueuePlace {
     Holding(u64),
     /// It has served this ticket, and has yet to see to its flag.
     Waking(u64),
+    /// It has lowered the flag of this ticket, and has yet to wake who is parked on it.
+    Rousing(u64),
 }
 
 /// A list that was seen, and numbers whose entries are all in it.

@@ -131,10 +131,10 @@ impl<T: Storied> Gate<T> {
     {
         let flag = flag_of(ticket);
         let shared = &self.board.shared;
-        if shared.load::<SeeFlag>(place, flag) != UP {
+        if shared.load::<SeeFlag>(place, flag) == DOWN {
             return;
         }
         shared.store::<Lower>(place, flag, DOWN);
-        shared.wake_one(flag);
+        self.rouse(place, flag);
     }
 }

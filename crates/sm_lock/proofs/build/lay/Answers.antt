@@ -1,5 +1,6 @@
-use Rattle.std.proofs.Common.{◌≡◌, ℕ, [], ◌∷◌, ap, ◌∙◌, sym, subst, List, Option, Some, length, replicate, Box, Global}
+use Rattle.std.proofs.Common.{◌≡◌, ℕ, ◌≤◌, ◌∷◌, ap, ◌∙◌, sym, subst, List, Option, length, replicate, Box, Global, arith}
 use Rattle.std.proofs.lemmas.List.{length-replicate}
+use Rattle.std.proofs.lemmas.List.Elements.{All-replicate}
 use Rattle.atomic_table.specs.Table.{opening}
 use Rattle.sm_lock.specs.Boxed.{boxed}
 use Rattle.sm_lock.specs.Rule.{Counted}
@@ -18,7 +19,9 @@ new-requires g c =
     subst (λ (l : List (Option (Box g.row.T.Denot Global))). Counted (boxed org) (boxed sty) (org value) (sty value)
     c.args.seats (opening words l (first_view (org value) (sty value)))) (sym slot.1)
     (opens (boxed org) (boxed sty) (org value) (sty value) c.args.seats words flags slot.0
-    (ap (λ n. 0 ∷ 0 ∷ n ∷ flags) count) (length-replicate {A = ℕ} 128 0) (ap sty same) (ap org same))
+    (ap (λ n. 0 ∷ 0 ∷ n ∷ flags) count)
+    (length-replicate {A = ℕ} 128 0, All-replicate (λ (f : ℕ). f ≤ 1) 128 0 (omega arith))
+    (ap sty same) (ap org same))
 
 pub only-requires : goal.only-requires
 only-requires g c =

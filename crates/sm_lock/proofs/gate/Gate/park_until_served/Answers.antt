@@ -17,7 +17,7 @@ store-requires g c = let few = c.args.self.now.counted in let v = c.args.place.n
 pub load-again-requires : goal.load-again-requires
 load-again-requires g c =
     let few = c.args.self.now.counted in let m = c.args.place.now.me in
-    let raised = flag_raised m c.loop.place.me c.store.new.seat.me c.loop.invariant.1 c.store.ensures.2 in (
+    let raised = flag_raised m c.loop.place.me c.store.new.seat.me c.loop.invariant.1 c.store.ensures.2.1 in (
       c.store.ensures.0 ∙ c.loop.invariant.0 ∙ c.requires.gate,
       search rules,
       looks_again (boxed g.T.Storied.origin) (boxed g.T.Storied.story) _ _ _ _ _ c.store.new.seat.me (ticket m.0.turn)

@@ -15,7 +15,7 @@ load-requires g c = let v = c.args.place.now.me.0 in (
 
 pub store-requires : goal.store-requires
 store-requires g c =
-    let v = c.args.place.now.me.0 in let same = c.load.ensures.2.0 c.if-load-ne-UP.false in (
+    let v = c.args.place.now.me.0 in let same = c.load.ensures.2.1 c.if-load-eq-DOWN.false in (
       c.load.ensures.0 ∙ c.requires.gate,
       search rules,
       lowers (boxed g.T.Storied.origin) (boxed g.T.Storied.story) _ _ _ _ _ c.load.new.seat.me (ticket v.turn) _
