@@ -8,3 +8,4 @@ pub mod Settled
 pub mod Flushes
 pub mod Changes
 pub mod Kepts
+pub mod Amongs

@@ -25,6 +25,13 @@ others_stay w (suc (suc zero)) p lt other ne =
     (cond-false (eqb other 2) p _ (ne_eqb other 2 ne) ∙ sym (cond-false (eqb other 2) w.root _ (ne_eqb other 2 ne)))
 others_stay w (suc (suc (suc n))) p lt other ne = absurd (omega arith)
 
+-- with what is pending of it already it is the same
+pub put_same : (w : Waiting) (file : ℕ) → file < 3 → with_pending w file (pending_of w file) ≡ w
+put_same w zero lt = refl
+put_same w (suc zero) lt = refl
+put_same w (suc (suc zero)) lt = refl
+put_same w (suc (suc (suc n))) lt = absurd (omega arith)
+
 -- what is taken out and put back is put there
 pub put_back : (file : ℕ) → file < 3 → (w taken again : Waiting) (q p : Pending) → taken ≡ with_pending w file q
     → again ≡ with_pending taken file p → again ≡ with_pending w file p

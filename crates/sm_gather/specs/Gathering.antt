@@ -84,6 +84,28 @@ module _ {D : Type 0} (sight : D → Sight) where
   LeftSince [] t c = ⊥
   LeftSince (now ∷ earlier) t c = (t ≤ length earlier) × ImagesOver (sight now.0) now.1 c ⊎ LeftSince earlier t c
 
+  -- The disk below was at this moment of its own at the told moment of that number.
+  abbrev pub BelowAt : List (D × Waiting) → ℕ → ℕ → Type 0
+  BelowAt [] t m = ⊥
+  BelowAt (now ∷ earlier) t m = (t ≡ length earlier) × (m ≡ (sight now.0).moment) ⊎ BelowAt earlier t m
+
+  -- What a crash at any moment since one of these might have left of the disk below: what it may leave of it now, or
+  -- what is told of these moments from that one on.
+  pub record AmongTold (disk : D) (past : List (D × Waiting)) : Type 0 where
+    pub later : (t m : ℕ) → BelowAt past t m → m ≤ (sight disk).moment
+    pub left : (t m : ℕ) → BelowAt past t m → (c : Image) → (sight disk).left_since m c
+        → (sight disk).images c ⊎ LeftSince past t c
+
+  -- a call goes on that began at the last of these moments: what a crash now may leave of the disk below was told then
+  abbrev pub WasTold : D → List (D × Waiting) → Type 0
+  WasTold disk [] = ⊥
+  WasTold disk (last ∷ earlier) = (c : Image) → (sight disk).images c → ImagesOver (sight last.0) last.1 c
+
+  -- what a crash at any moment since a told one might have left of the disk below is told from that moment on
+  abbrev pub TellsBelow : D → Waiting → List (D × Waiting) → Type 0
+  TellsBelow disk waiting past = (t m : ℕ) → BelowAt ((disk, waiting) ∷ past) t m → (c : Image)
+      → (sight disk).left_since m c → LeftSince ((disk, waiting) ∷ past) t c
+
   -- what is told of the disk below, of what is pending, and of the moments before
   abbrev pub gathered_sight : D → Waiting → List (D × Waiting) → Sight
   gathered_sight disk waiting past = record {

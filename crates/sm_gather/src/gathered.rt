@@ -1,7 +1,7 @@
 //! The disk that gathers.
 ghost use Rattle.std.specs.Prelude.{◌≡◌, ◌<◌, ◌≤◌, ℕ, IsTrue, false, length, OnOk, OnErr};
 ghost use Rattle.sm_disk.specs.Sight.{Image};
-ghost use Rattle.sm_gather.specs.Gathering.{Placed};
+ghost use Rattle.sm_gather.specs.Gathering.{Placed, AmongTold};
 
 use crate::one_reading::OneReading;
 use crate::past::Past;
@@ -18,6 +18,8 @@ use std::alloc::Global;
 /// Where something that is pending can't be done below, the call that wanted it done fails. It stays pending, and the
 /// next such call tries it again. A cut takes away what is pending behind its end, so a write for which the disk has
 /// no room can be taken back.
+///
+/// What a crash leaves of the disk below, within a call too, is among what this disk tells.
 #[derive(Drop)]
 pub struct Gathered<D: OneReading> {
     alloc: Global,
@@ -25,12 +27,13 @@ pub struct Gathered<D: OneReading> {
     waiting: Waiting,
     past: Past<D, Waiting>,
     ghost placed: { Placed (D.sight disk) waiting },
+    ghost among: { ∥ AmongTold (λ below. D.sight below) disk past.items ∥₁ },
 }
 
 impl<D: OneReading> Gathered<D> {
     ghost use Rattle.sm_disk.specs.Steps.{Holds, Torn, IsCut, CutOrNot, OnFile, Same, Follows, ReadsFollow, GoesOnTelling, Keeps};
     ghost use Rattle.sm_disk.specs.Faults.{HasCause};
-    ghost use Rattle.sm_gather.specs.Gathering.{IsBehind, pending_of, over};
+    ghost use Rattle.sm_gather.specs.Gathering.{IsBehind, pending_of, over, WasTold, TellsBelow};
     ghost use Rattle.sm_gather.specs.declared.pending.Pending.TheVariants.{Nothing};
 
     /// A disk over this one, of which nothing is pending. It allocates what it gathers by this.
@@ -48,7 +51,8 @@ impl<D: OneReading> Gathered<D> {
 
     /// The disk below. What is pending is lost, as by a crash.
     pub fn into_disk(self) -> D
-        ensures { result ≡ self.disk }
+        ensures disk { result ≡ self.disk }
+        ensures told { ∥ TellsBelow (λ disk. D.sight disk) self.disk self.waiting self.past.items ∥₁ }
     {
         let Gathered { disk, .. } = self;
         disk
@@ -56,8 +60,10 @@ impl<D: OneReading> Gathered<D> {
 
     /// Does what is pending of a file. Where that fails it stays pending.
     fn flush(&mut self, file: u8) -> Result<(), DiskFailed>
-        requires { file < 3 }
+        requires file { file < 3 }
+        requires told { WasTold (λ disk. D.sight disk) self.old.disk self.old.past.items }
         ensures nothing { OnOk result (pending_of self.new.waiting file ≡ Nothing) }
+        ensures stays { OnErr result (self.new.waiting ≡ self.old.waiting) }
         ensures reads { Keeps (over (D.sight self.old.disk) self.old.waiting)
             (over (D.sight self.new.disk) self.new.waiting) }
         ensures crash { Follows Same (over (D.sight self.old.disk) self.old.waiting).images
@@ -103,6 +109,7 @@ impl<D: OneReading> Gathered<D> {
     /// memory, it is written below.
     fn begin(&mut self, file: u8, at: u64, piece: &[u8]) -> Result<(), DiskFailed>
         requires file { file < 3 }
+        requires told { WasTold (λ disk. D.sight disk) self.old.disk self.old.past.items }
         requires nothing { pending_of self.old.waiting file ≡ Nothing }
         requires place { (s : Image) → (over (D.sight self.old.disk) self.old.waiting).reads s →
             at ≤ length (s file) }
@@ -129,7 +136,8 @@ impl<D: OneReading> Gathered<D> {
 
     /// Does what is pending of a file, unless a cut to a length takes it away.
     fn clear(&mut self, file: u8, end: u64) -> Result<(), DiskFailed>
-        requires { file < 3 }
+        requires file { file < 3 }
+        requires told { WasTold (λ disk. D.sight disk) self.old.disk self.old.past.items }
         ensures behind { OnOk result (IsBehind end (pending_of self.new.waiting file)) }
         ensures reads { Keeps (over (D.sight self.old.disk) self.old.waiting)
             (over (D.sight self.new.disk) self.new.waiting) }
@@ -147,6 +155,7 @@ impl<D: OneReading> Gathered<D> {
     /// A cut of a file is pending, and nothing else.
     fn hold_cut(&mut self, file: u8, end: u64) -> Result<(), DiskFailed>
         requires file { file < 3 }
+        requires told { WasTold (λ disk. D.sight disk) self.old.disk self.old.past.items }
         requires place { (s : Image) → (over (D.sight self.old.disk) self.old.waiting).reads s →
             end ≤ length (s file) }
         ensures cut { OnOk result (ReadsFollow (OnFile file (IsCut end))
@@ -156,6 +165,8 @@ impl<D: OneReading> Gathered<D> {
         ensures crash { Follows (OnFile file (CutOrNot end))
             (over (D.sight self.old.disk) self.old.waiting).images
             (over (D.sight self.new.disk) self.new.waiting).images }
+        ensures below { (c : Image) → (D.sight self.new.disk).images c →
+            (over (D.sight self.old.disk) self.old.waiting).images c }
         ensures tells { GoesOnTelling (over (D.sight self.old.disk) self.old.waiting)
             (over (D.sight self.new.disk) self.new.waiting) }
         ensures past { self.new.past ≡ self.old.past }

@@ -34,7 +34,8 @@ pub fn held(alloc: Global, at: u64, piece: &[u8]) -> Option<Pending>
 
 /// Where a piece lies within the bytes from another place on, or behind them, if both are short enough together.
 fn place_in(start: u64, run: &Run, at: u64, piece: &[u8]) -> Option<usize>
-    ensures { IfSome result (λ place. (at ≡ start + place) × (place ≤ length run.now)) }
+    ensures { IfSome result (λ place. (at ≡ start + place) × (place ≤ length run.now)
+        × (place + length piece.now ≤ 1048576)) }
 {
     if at < start || (run.len() as u64) < at - start {
         return None;

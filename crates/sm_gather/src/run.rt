@@ -1,27 +1,30 @@
 //! Bytes that are to be written in one piece.
-ghost use Rattle.std.specs.Prelude.{◌≡◌, ◌≤◌, length, IfOk, OnOk, OnErr};
+ghost use Rattle.std.specs.Prelude.{◌≡◌, ◌≤◌, ◌+◌, length, IfOk, OnOk, OnErr};
 ghost use Rattle.sm_gather.specs.Pieces.{laid};
 
 use std::alloc::{AllocError, Global};
 use std::marker::Model;
 
-/// Bytes that are to be written in one piece, which contracts see as their list.
+/// At most 1 MB of bytes that are to be written in one piece, which contracts see as their list.
 #[derive(Drop)]
 pub struct Run {
     bytes: Vec<u8>,
 }
 
 impl Model for Run {
-    ghost use Rattle.std.specs.Prelude.{List, ℕ};
+    ghost use Rattle.std.specs.Prelude.{List, ℕ, ◌≤◌, length};
 
     ghost Value = { List ℕ };
 
     ghost view = { λ r. r.bytes.items };
+
+    ghost invariant = { λ r. length r.bytes.items ≤ 1048576 };
 }
 
 impl Run {
     /// A copy of a slice.
     pub fn from_slice(alloc: Global, piece: &[u8]) -> Result<Run, AllocError>
+        requires { length piece.now ≤ 1048576 }
         ensures { IfOk result (λ run. run ≡ piece.now) }
     {
         Ok(Run {
@@ -31,7 +34,8 @@ impl Run {
 
     /// How many bytes there are.
     pub fn len(&self) -> usize
-        ensures { result ≡ length self.now }
+        ensures count { result ≡ length self.now }
+        ensures short { result ≤ 1048576 }
     {
         self.bytes.len()
     }
@@ -45,7 +49,8 @@ impl Run {
 
     /// Lays a piece over the bytes from a place on, and past their end. Without memory they stay.
     pub fn lay(&mut self, place: usize, piece: &[u8]) -> Result<(), AllocError>
-        requires { place ≤ length self.old }
+        requires within { place ≤ length self.old }
+        requires short { place + length piece.now ≤ 1048576 }
         ensures ok { OnOk result (self.new ≡ laid place piece.now self.old) }
         ensures err { OnErr result (self.new ≡ self.old) }
     {

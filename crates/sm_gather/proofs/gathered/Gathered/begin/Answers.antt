@@ -1,10 +1,11 @@
 use Rattle.std.proofs.Common.{◌≡◌, ◌≤◌, length, ap, arith}
 use Rattle.std.proofs.lemmas.Result.{on_ok_weaker, on_err_weaker}
-use Rattle.sm_disk.specs.Steps.{Holds, Torn}
+use Rattle.sm_disk.specs.Steps.{Holds, Torn, OnFile}
 use Rattle.sm_gather.specs.Gathering.{place}
 use Rattle.sm_gather.proofs.Settled.{tried_torn}
 use Rattle.sm_gather.proofs.Overs.{pending_tells, below_tells, below_reads, below_images}
 use Rattle.sm_gather.proofs.Flushes.{placed_changed, placed_below}
+use Rattle.sm_gather.proofs.Amongs.{among_stepped}
 use Rattle.sm_gather.proofs.Changes.{begun_reads, begun_images, place_below, nothing_behind}
 use Rattle.sm_gather.proofs.gathered.Gathered.begin.Goals as goal
 
@@ -16,6 +17,7 @@ invariant_of-self g c = record {
       (g.D.Disk.sight c.args.self.now.disk) c.args.self.now.waiting (nothing_behind c.args.at _ c.requires.nothing)
       c.args.self.now.placed c.requires.place x read in
       let same : place c.in-Some.write ≡ c.args.at = ap place c.in-Some.ensures in omega (arith, begins, same));
+  among = c.args.self.now.among;
 }
 
 pub write_at-requires-clause-place : goal.write_at-requires-clause-place
@@ -29,6 +31,9 @@ invariant_of-self-in-None g c = record {
       (tried_torn c.args.file c.args.at (g.D.Disk.sight c.args.self.now.disk).reads
       (g.D.Disk.sight c.write_at.new.self).reads c.write_at.result c.args.piece.now c.write_at.ensures.written
       c.write_at.ensures.tried) c.requires.nothing c.args.self.now.placed;
+  among = among_stepped g.D.Disk.sight (OnFile c.args.file (Torn c.args.at (length c.args.piece.now)))
+      c.args.self.now.disk c.write_at.new.self c.args.self.now.past.items c.write_at.ensures.crash c.requires.told
+      c.args.self.now.among;
 }
 
 pub returns-in-Some-clause-written : goal.returns-in-Some-clause-written

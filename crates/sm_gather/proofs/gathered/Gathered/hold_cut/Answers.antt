@@ -3,6 +3,7 @@ use Rattle.sm_disk.specs.Steps.{IsCut, CutOrNot, OnFile}
 use Rattle.sm_gather.specs.declared.pending.Pending.TheVariants.{Cut}
 use Rattle.sm_gather.proofs.Overs.{after_same, pending_tells}
 use Rattle.sm_gather.proofs.Flushes.{placed_changed}
+use Rattle.sm_gather.proofs.Amongs.{image_before}
 use Rattle.sm_gather.proofs.Changes.{cut_reads, cut_images, place_below}
 use Rattle.sm_gather.proofs.Kepts.{at_err, same_step, kept_follows, kept_tells, keeps_telling}
 use Rattle.sm_gather.proofs.gathered.Gathered.hold_cut.Goals as goal
@@ -28,6 +29,7 @@ invariant_of-self g c =
           (place_below c.args.file c.args.end (g.D.Disk.sight c.clear.new.self.disk) c.clear.new.self.waiting
           c.in_ok-clear.ensures.behind c.clear.new.self.placed
           (λ s read. c.requires.place s (c.clear.ensures.reads.nothing_new s read)));
+      among = c.clear.new.self.among;
     }
 
 pub returns-clause-cut : goal.returns-clause-cut
@@ -48,3 +50,13 @@ pub returns-clause-tells : goal.returns-clause-tells
 returns-clause-tells g c =
     kept_tells _ _ _ c.clear.ensures.reads
     (pending_tells (g.D.Disk.sight c.clear.new.self.disk) c.clear.new.self.waiting c.set.new.self)
+
+pub returns-in_err-clear-clause-below : goal.returns-in_err-clear-clause-below
+returns-in_err-clear-clause-below g c =
+    image_before (g.D.Disk.sight c.args.self.now.disk) (g.D.Disk.sight c.clear.new.self.disk)
+    c.args.self.now.waiting c.clear.new.self.waiting c.clear.ensures.crash
+
+pub returns-clause-below : goal.returns-clause-below
+returns-clause-below g c =
+    image_before (g.D.Disk.sight c.args.self.now.disk) (g.D.Disk.sight c.clear.new.self.disk)
+    c.args.self.now.waiting c.clear.new.self.waiting c.clear.ensures.crash

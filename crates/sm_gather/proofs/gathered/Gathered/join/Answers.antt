@@ -10,6 +10,7 @@ invariant_of-self g c =
           c.take.result c.join-pending.result.0 c.take.ensures.taken c.take.ensures.rest c.set.ensures.set c.args.at
           c.args.piece.now
           c.join-pending.result.1 c.join-pending.ensures.joined c.join-pending.ensures.left c.args.self.now.placed;
+      among = c.args.self.now.among;
     }
 
 pub returns-clause-written : goal.returns-clause-written

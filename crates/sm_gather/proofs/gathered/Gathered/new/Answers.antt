@@ -1,5 +1,6 @@
 use Rattle.std.proofs.Common.{◌≡◌, ap, arith}
 use Rattle.sm_gather.specs.Gathering.{place, pending_of}
+use Rattle.sm_gather.proofs.Amongs.{among_nothing}
 use Rattle.sm_gather.proofs.gathered.Gathered.new.Goals as goal
 
 pub invariant_of-result : goal.invariant_of-result
@@ -9,4 +10,5 @@ invariant_of-result g c = record {
         arith,
         none,
       );
+  among = among_nothing g.D.Disk.sight c.args.disk c.nothing-2.result.items c.nothing-2.ensures;
 }

@@ -4,8 +4,28 @@ use Rattle.sm_gather.specs.declared.past.Past.{Past}
 use Rattle.sm_gather.specs.declared.waiting.Waiting.{Waiting}
 use Rattle.sm_gather.proofs.Overs.{same_behind}
 use Rattle.sm_gather.proofs.Kepts.{at_err, at_ok, kept_step, follows_kept, tells_kept, cut_or_not}
+use Rattle.sm_gather.proofs.Amongs.{among_noted, told_noted, told_images}
 use Rattle.sm_gather.proofs.Pasts.{went}
 use Rattle.sm_gather.proofs.gathered.GatheredDisk.cut.Goals as goal
+
+pub invariant_of-self : goal.invariant_of-self
+invariant_of-self g c =
+    record {
+      placed = c.args.self.now.placed;
+      among = among_noted g.D.Disk.sight c.args.self.now.disk c.args.self.now.waiting c.args.self.now.past.items
+          c.noting-self.result.items c.noting-self.ensures (g.met.D.Disk.only_now c.args.self.now.disk)
+          c.args.self.now.among;
+    }
+
+pub hold_cut-requires-clause-told : goal.hold_cut-requires-clause-told
+hold_cut-requires-clause-told g c =
+    told_noted g.D.Disk.sight c.args.self.now.disk c.args.self.now.waiting c.args.self.now.past.items
+    c.noting-self.result.items c.noting-self.ensures
+
+pub flush-requires-clause-told : goal.flush-requires-clause-told
+flush-requires-clause-told g c =
+    told_images g.D.Disk.sight c.args.self.now.disk c.args.self.now.waiting c.args.self.now.past.items _
+    (ap (λ (p : Past _ Waiting). p.items) c.hold_cut.ensures.past ∙ c.noting-self.ensures) _ c.hold_cut.ensures.below
 
 pub returns-in_err-hold_cut-clause-tried : goal.returns-in_err-hold_cut-clause-tried
 returns-in_err-hold_cut-clause-tried g c =

@@ -4,8 +4,23 @@ use Rattle.sm_gather.specs.declared.past.Past.{Past}
 use Rattle.sm_gather.specs.declared.waiting.Waiting.{Waiting}
 use Rattle.sm_gather.proofs.Overs.{keeps_after, same_after_same, below_keeps, below_same}
 use Rattle.sm_gather.proofs.Kepts.{placed_kept, length_over}
+use Rattle.sm_gather.proofs.Amongs.{among_noted, told_noted, told_same, among_stepped}
 use Rattle.sm_gather.proofs.Pasts.{went, kept}
 use Rattle.sm_gather.proofs.gathered.GatheredDisk.length.Goals as goal
+
+pub invariant_of-self : goal.invariant_of-self
+invariant_of-self g c =
+    record {
+      placed = c.args.self.now.placed;
+      among = among_noted g.D.Disk.sight c.args.self.now.disk c.args.self.now.waiting c.args.self.now.past.items
+          c.noting-self.result.items c.noting-self.ensures (g.met.D.Disk.only_now c.args.self.now.disk)
+          c.args.self.now.among;
+    }
+
+pub flush-requires-clause-told : goal.flush-requires-clause-told
+flush-requires-clause-told g c =
+    told_noted g.D.Disk.sight c.args.self.now.disk c.args.self.now.waiting c.args.self.now.past.items
+    c.noting-self.result.items c.noting-self.ensures
 
 pub returns-in_err-flush-clause-reads : goal.returns-in_err-flush-clause-reads
 returns-in_err-flush-clause-reads g c =
@@ -18,7 +33,14 @@ returns-in_err-flush-clause-crash g c =
 
 pub invariant_of-self-2 : goal.invariant_of-self-2
 invariant_of-self-2 g c =
-    record { placed = placed_kept _ _ _ c.length.ensures.reads c.flush.new.self.placed }
+    record {
+      placed = placed_kept _ _ _ c.length.ensures.reads c.flush.new.self.placed;
+      among = among_stepped g.D.Disk.sight Same c.flush.new.self.disk c.length.new.self c.flush.new.self.past.items
+          c.length.ensures.crash
+          (told_same g.D.Disk.sight c.args.self.now.disk c.args.self.now.waiting c.args.self.now.past.items _
+          (ap (λ (p : Past _ Waiting). p.items) c.flush.ensures.past ∙ c.noting-self.ensures) c.flush.new.self.disk
+          c.flush.new.self.waiting c.flush.ensures.crash) c.flush.new.self.among;
+    }
 
 pub returns-clause-reads : goal.returns-clause-reads
 returns-clause-reads g c =

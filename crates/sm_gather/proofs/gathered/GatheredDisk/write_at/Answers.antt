@@ -6,8 +6,30 @@ use Rattle.sm_gather.specs.declared.past.Past.{Past}
 use Rattle.sm_gather.specs.declared.waiting.Waiting.{Waiting}
 use Rattle.sm_gather.proofs.Overs.{keeps_after, same_after_same, after_same}
 use Rattle.sm_gather.proofs.Kepts.{at_err, same_step, kept_step, kept_follows, kept_tells, keeps_telling}
+use Rattle.sm_gather.proofs.Amongs.{among_noted, told_same}
 use Rattle.sm_gather.proofs.Pasts.{went}
 use Rattle.sm_gather.proofs.gathered.GatheredDisk.write_at.Goals as goal
+
+pub invariant_of-self : goal.invariant_of-self
+invariant_of-self g c =
+    record {
+      placed = c.args.self.now.placed;
+      among = among_noted g.D.Disk.sight c.args.self.now.disk c.args.self.now.waiting c.args.self.now.past.items
+          c.noting-self.result.items c.noting-self.ensures (g.met.D.Disk.only_now c.args.self.now.disk)
+          c.args.self.now.among;
+    }
+
+pub flush-requires-clause-told : goal.flush-requires-clause-told
+flush-requires-clause-told g c =
+    told_same g.D.Disk.sight c.args.self.now.disk c.args.self.now.waiting c.args.self.now.past.items _
+    (ap (λ (p : Past _ Waiting). p.items) c.join.ensures.past ∙ c.noting-self.ensures) _ _
+    (c.join.ensures.left_crash c.if-join.false)
+
+pub begin-requires-clause-told : goal.begin-requires-clause-told
+begin-requires-clause-told g c =
+    told_same g.D.Disk.sight c.args.self.now.disk c.args.self.now.waiting c.args.self.now.past.items _
+    (ap (λ (p : Past _ Waiting). p.items) (c.flush.ensures.past ∙ c.join.ensures.past) ∙ c.noting-self.ensures) _ _
+    (same_after_same _ _ _ (c.join.ensures.left_crash c.if-join.false) c.flush.ensures.crash)
 
 pub returns-then-join-clause-written : goal.returns-then-join-clause-written
 returns-then-join-clause-written g c =
