@@ -1,9 +1,6 @@
 -- Where each character of a text stands.
-use Rattle.std.specs.Prelude.{◌≡◌, ℕ, ◌+◌, ◌/◌, ◌%◌, ◌<◌, ◌^◌, ◌==◌, ◌&&◌, ◌||◌, nat_lt, true, false, List, [], length, slice_index, slice_index_or}
-use Rattle.sm_policy.specs.Patterns.{letters}
+use Rattle.std.specs.Prelude.{◌≡◌, ℕ, ◌+◌, ◌/◌, ◌%◌, ◌<◌, ◌^◌, ◌==◌, ◌&&◌, ◌||◌, nat_lt, false, List, [], length, slice_index, slice_index_or}
 use Rattle.sm_policy.specs.PlaceSets.{has}
-use Rattle.sm_policy.specs.declared.pattern.Case.{Case}
-use Rattle.sm_policy.specs.declared.spread.Sought.{Sought}
 use Rattle.sm_policy.specs.declared.spread.Spread.{Spread}
 
 -- the lowest seven bits of a character, the next seven, and those behind them
@@ -50,9 +47,3 @@ pub record GoOn (text : List ℕ) (wanted : ℕ) (set new : List ℕ) : Type 0 w
   pub first : has new 0 ≡ false
   pub later : (place : ℕ) → place < length text
       → has new (place + 1) ≡ (has set place && (wanted == 63 || wanted == slice_index text place))
-
--- a text with these bytes, compared so; what is spread is this text, if it is whole
-pub record IsSought (case : Case) (text : List ℕ) (sought : Sought) : Type 0 where
-  pub case_is : sought.case ≡ case
-  pub text_is : sought.text.now ≡ text
-  pub spread_is : sought.is_whole ≡ true → Spreads (letters case text) sought.spread.now

@@ -2,6 +2,7 @@
 ghost use Rattle.std.specs.Prelude.{◌≡◌, ◌++◌, option_map};
 ghost use Rattle.std.specs.List.{list_any};
 ghost use Rattle.sm_base.specs.Texts.{same_text};
+ghost use Rattle.sm_policy.specs.declared.pattern.Case.TheVariants.{Exact, Folded};
 ghost use Rattle.sm_policy.specs.Patterns.{letters, wild};
 ghost use Rattle.sm_policy.specs.Decisions.{plain_question, account_in, root_of, is_for, is_like, is_action, tag_value, value_of, equals_one, like_one, test_holds, block_holds, condition_holds, matches, denies, allows, first_number, decision, is_everybody, is_open, public_number};
 
@@ -37,6 +38,16 @@ pub enum Decision {
     Deny(u32),
     /// No statement matches.
     Silent,
+}
+
+/// A question, with its texts as patterns are matched with them.
+#[derive(Clone, Copy)]
+struct Asked<'a> {
+    question: &'a Question<'a>,
+    action: Sought<'a>,
+    arn: Sought<'a>,
+    ghost action_is: { (action.case ≡ Folded) × (action.text.now ≡ question.now.action.now) },
+    ghost arn_is: { (arn.case ≡ Exact) × (arn.text.now ≡ question.now.row.now.arn) },
 }
 
 /// Whether a principal is everybody, the person's account, or the person with this ARN.
@@ -132,7 +143,7 @@ fn like_one_at_once(texts: &[Text], value: &[u8]) -> bool
 {
     let mut spread = nothing();
     let is_whole = spread_text(&mut spread, Case::Exact, value);
-    let sought = Sought::new(Case::Exact, value, &spread, is_whole);
+    let sought = Sought::spread(Case::Exact, value, &spread, is_whole);
     texts.iter().any(|text| sought.is_matched(text.as_bytes()))
 }
 
@@ -183,65 +194,48 @@ fn is_for_one(arn: &[u8], principals: &Principals) -> bool
 }
 
 /// Whether one of the patterns matches the text.
-fn is_like_pattern(case: Case, text: &[u8], patterns: &[Pattern]) -> bool
-    ensures { result ≡ list_any (λ p. wild (letters case p.0) (letters case text.now)) patterns.now }
+fn is_like_pattern(sought: &Sought<'_>, patterns: &[Pattern]) -> bool
+    ensures { result ≡ list_any (λ p. wild (letters sought.now.case p.0) (letters sought.now.case sought.now.text.now))
+        patterns.now }
 {
-    if patterns.iter().any(|pattern| has_gap(pattern.0.as_bytes())) {
-        return is_like_pattern_at_once(case, text, patterns);
-    }
-    patterns
-        .iter()
-        .any(|pattern| is_match(case, pattern.0.as_bytes(), text))
-}
-
-/// The same by a spread of the text, for which only this function has room.
-fn is_like_pattern_at_once(case: Case, text: &[u8], patterns: &[Pattern]) -> bool
-    ensures { result ≡ list_any (λ p. wild (letters case p.0) (letters case text.now)) patterns.now }
-{
-    let mut spread = nothing();
-    let is_whole = spread_text(&mut spread, case, text);
-    let sought = Sought::new(case, text, &spread, is_whole);
     patterns
         .iter()
         .any(|pattern| sought.is_matched(pattern.0.as_bytes()))
 }
 
-fn is_action_of_one(action: &[u8], patterns: &[Pattern]) -> bool
-    ensures { result ≡ list_any (is_action action.now) patterns.now }
+fn is_action_of_one(asked: &Asked<'_>, patterns: &[Pattern]) -> bool
+    ensures { result ≡ list_any (is_action asked.now.question.now.action.now) patterns.now }
 {
-    is_like_pattern(Case::Folded, action, patterns)
+    is_like_pattern(&asked.action, patterns)
 }
 
-fn is_like_one(text: &[u8], patterns: &[Pattern]) -> bool
-    ensures { result ≡ list_any (is_like text.now) patterns.now }
+fn is_like_one(asked: &Asked<'_>, patterns: &[Pattern]) -> bool
+    ensures { result ≡ list_any (is_like asked.now.question.now.row.now.arn) patterns.now }
 {
-    is_like_pattern(Case::Exact, text, patterns)
+    is_like_pattern(&asked.arn, patterns)
 }
 
 /// Whether a statement matches by its principal, its action, its resource and its condition.
 #[tactic(auto, unfolding(crate::specs::Decisions::matches))]
-fn matches(question: &Question<'_>, statement: &Statement) -> bool
-    ensures { result ≡ matches (plain_question question.now) statement.now }
+fn matches(asked: &Asked<'_>, statement: &Statement) -> bool
+    ensures { result ≡ matches (plain_question asked.now.question.now) statement.now }
 {
-    is_for_one(question.person.arn.as_bytes(), &statement.principals)
-        && is_action_of_one(question.action, statement.actions.as_slice())
-        && is_like_one(
-            question.row.arn.as_text().as_bytes(),
-            statement.resources.as_slice(),
-        )
-        && condition_holds(question, &statement.condition)
+    is_for_one(asked.question.person.arn.as_bytes(), &statement.principals)
+        && is_action_of_one(asked, statement.actions.as_slice())
+        && is_like_one(asked, statement.resources.as_slice())
+        && condition_holds(asked.question, &statement.condition)
 }
 
-fn denies(question: &Question<'_>, statement: &Statement) -> bool
-    ensures { result ≡ denies (plain_question question.now) statement.now }
+fn denies(asked: &Asked<'_>, statement: &Statement) -> bool
+    ensures { result ≡ denies (plain_question asked.now.question.now) statement.now }
 {
-    statement.effect == Effect::Deny && matches(question, statement)
+    statement.effect == Effect::Deny && matches(asked, statement)
 }
 
-fn allows(question: &Question<'_>, statement: &Statement) -> bool
-    ensures { result ≡ allows (plain_question question.now) statement.now }
+fn allows(asked: &Asked<'_>, statement: &Statement) -> bool
+    ensures { result ≡ allows (plain_question asked.now.question.now) statement.now }
 {
-    statement.effect == Effect::Allow && matches(question, statement)
+    statement.effect == Effect::Allow && matches(asked, statement)
 }
 
 /// Whether a statement allows everybody something, whatever is asked.
@@ -266,11 +260,11 @@ fn has_everybody(principals: &Principals) -> bool
 
 /// The number of the first statement that denies the question.
 #[tactic(auto, using(crate::proofs::DecisionLemmas::number_here, crate::proofs::DecisionLemmas::number_later, crate::proofs::DecisionLemmas::number_none))]
-fn first_denial(question: &Question<'_>, statements: &[Statement]) -> Option<u32>
-    ensures { result ≡ first_number (denies (plain_question question.now)) 0 statements.now }
+fn first_denial(asked: &Asked<'_>, statements: &[Statement]) -> Option<u32>
+    ensures { result ≡ first_number (denies (plain_question asked.now.question.now)) 0 statements.now }
 {
     for (place, statement) in statements.iter().enumerate() {
-        if denies(question, statement) {
+        if denies(asked, statement) {
             return Some(counted(place));
         }
     }
@@ -279,25 +273,96 @@ fn first_denial(question: &Question<'_>, statements: &[Statement]) -> Option<u32
 
 /// The number of the first statement that allows the question.
 #[tactic(auto, using(crate::proofs::DecisionLemmas::number_here, crate::proofs::DecisionLemmas::number_later, crate::proofs::DecisionLemmas::number_none))]
-fn first_allowance(question: &Question<'_>, statements: &[Statement]) -> Option<u32>
-    ensures { result ≡ first_number (allows (plain_question question.now)) 0 statements.now }
+fn first_allowance(asked: &Asked<'_>, statements: &[Statement]) -> Option<u32>
+    ensures { result ≡ first_number (allows (plain_question asked.now.question.now)) 0 statements.now }
 {
     for (place, statement) in statements.iter().enumerate() {
-        if allows(question, statement) {
+        if allows(asked, statement) {
             return Some(counted(place));
         }
     }
     None
 }
 
+/// Whether one of the patterns has a gap.
+fn has_gaps(patterns: &[Pattern]) -> bool {
+    patterns.iter().any(|pattern| has_gap(pattern.0.as_bytes()))
+}
+
 /// What the policy says: the first statement that denies, or else the first that allows. It takes no memory.
 pub fn decide(policy: &Policy, question: &Question<'_>) -> Decision
     ensures { result ≡ decision policy.now (plain_question question.now) }
 {
+    let person = question.person.arn.as_bytes();
+    let meets_gap = policy.statements.as_slice().iter().any(|statement| {
+        has_gaps(statement.actions.as_slice()) && is_for_one(person, &statement.principals)
+    });
+    if meets_gap {
+        decide_over_action(policy, question)
+    } else {
+        let action = Sought::walked(Case::Folded, question.action);
+        decide_by_action(policy, question, action)
+    }
+}
+
+/// The same by a spread of the action. Only this function has room for it, since room costs a function as much as to
+/// fill it.
+fn decide_over_action(policy: &Policy, question: &Question<'_>) -> Decision
+    ensures { result ≡ decision policy.now (plain_question question.now) }
+{
+    let mut spread = nothing();
+    let is_whole = spread_text(&mut spread, Case::Folded, question.action);
+    let action = Sought::spread(Case::Folded, question.action, &spread, is_whole);
+    decide_by_action(policy, question, action)
+}
+
+/// The same, with the action as patterns are matched with it.
+fn decide_by_action<'a>(policy: &Policy, question: &'a Question<'a>, action: Sought<'a>) -> Decision
+    requires { (action.case ≡ Folded) × (action.text.now ≡ question.now.action.now) }
+    ensures { result ≡ decision policy.now (plain_question question.now) }
+{
+    let person = question.person.arn.as_bytes();
+    let meets_gap = policy.statements.as_slice().iter().any(|statement| {
+        has_gaps(statement.resources.as_slice()) && is_for_one(person, &statement.principals)
+    });
+    if meets_gap {
+        decide_over_arn(policy, question, action)
+    } else {
+        let arn = Sought::walked(Case::Exact, question.row.arn.as_text().as_bytes());
+        let asked = Asked {
+            question,
+            action,
+            arn,
+        };
+        decide_asked(policy, &asked)
+    }
+}
+
+/// The same by a spread of the ARN, for which only this function has room.
+fn decide_over_arn<'a>(policy: &Policy, question: &'a Question<'a>, action: Sought<'a>) -> Decision
+    requires { (action.case ≡ Folded) × (action.text.now ≡ question.now.action.now) }
+    ensures { result ≡ decision policy.now (plain_question question.now) }
+{
+    let text = question.row.arn.as_text().as_bytes();
+    let mut spread = nothing();
+    let is_whole = spread_text(&mut spread, Case::Exact, text);
+    let arn = Sought::spread(Case::Exact, text, &spread, is_whole);
+    let asked = Asked {
+        question,
+        action,
+        arn,
+    };
+    decide_asked(policy, &asked)
+}
+
+/// The same, with both texts as patterns are matched with them.
+fn decide_asked(policy: &Policy, asked: &Asked<'_>) -> Decision
+    ensures { result ≡ decision policy.now (plain_question asked.now.question.now) }
+{
     let statements = policy.statements.as_slice();
-    match first_denial(question, statements) {
+    match first_denial(asked, statements) {
         Some(number) => Decision::Deny(number),
-        None => match first_allowance(question, statements) {
+        None => match first_allowance(asked, statements) {
             Some(number) => Decision::Allow(number),
             None => Decision::Silent,
         },

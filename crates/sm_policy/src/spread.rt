@@ -4,8 +4,9 @@
 //! many steps as the text's length times the pattern's. A set of places, a bit for each, takes a few words for each
 //! character of the pattern.
 ghost use Rattle.std.specs.Prelude.{◌≡◌, ◌<◌, ◌^◌, ◌++◌, ◌∷◌, ℕ, List, [], true, IfSome, length};
+ghost use Rattle.std.specs.Option.{ForSome};
 ghost use Rattle.sm_policy.specs.Patterns.{letters, wild};
-ghost use Rattle.sm_policy.specs.Spreads.{IsNoted, Spreads, Stand, GoOn, IsSought};
+ghost use Rattle.sm_policy.specs.Spreads.{IsNoted, Spreads, Stand, GoOn};
 
 use crate::pattern::{ANY, Case, STAR, first_letter, is_match};
 use crate::place_set::{PLACES, PlaceSet, WORDS, advance, fill_from, has, keep, lowest, put};
@@ -158,31 +159,52 @@ pub fn is_match_in(case: Case, pattern: &[u8], spread: &Spread) -> bool
 pub(crate) struct Sought<'a> {
     case: Case,
     text: &'a [u8],
-    /// Where its characters stand, if it is whole.
-    spread: &'a Spread,
-    is_whole: bool,
+    /// Where its characters stand, if it was spread.
+    spread: Option<&'a Spread>,
+    pub ghost spread_is: { ForSome spread (λ spread. Spreads (letters case text.now) spread.now) },
 }
 
 impl<'a> Sought<'a> {
-    /// The text, and where its characters stand, if that is whole.
-    pub(crate) fn new(case: Case, text: &'a [u8], spread: &'a Spread, is_whole: bool) -> Sought<'a>
-        ensures { (is_whole ≡ true → Spreads (letters case text.now) spread.now) → IsSought case text.now result }
+    /// The text, along which each pattern is walked.
+    pub(crate) fn walked(case: Case, text: &'a [u8]) -> Sought<'a>
+        ensures { (result.case ≡ case) × (result.text.now ≡ text.now) }
     {
         Sought {
             case,
             text,
-            spread,
-            is_whole,
+            spread: None,
+        }
+    }
+
+    /// The text with its spread, if that is whole.
+    pub(crate) fn spread(
+        case: Case,
+        text: &'a [u8],
+        spread: &'a Spread,
+        is_whole: bool,
+    ) -> Sought<'a>
+        requires { is_whole ≡ true → Spreads (letters case text.now) spread.now }
+        ensures { (result.case ≡ case) × (result.text.now ≡ text.now) }
+    {
+        if !is_whole {
+            return Sought::walked(case, text);
+        }
+        Sought {
+            case,
+            text,
+            spread: Some(spread),
         }
     }
 
     /// Whether the pattern matches the text.
     pub(crate) fn is_matched(&self, pattern: &[u8]) -> bool
-        ensures { (case : Case) (text : List ℕ) → IsSought case text self.now
-            → result ≡ wild (letters case pattern.now) (letters case text) }
+        ensures { result ≡ wild (letters self.now.case pattern.now) (letters self.now.case self.now.text.now) }
     {
-        if self.is_whole && has_gap(pattern) {
-            is_match_in(self.case, pattern, self.spread)
+        let Some(spread) = self.spread else {
+            return is_match(self.case, pattern, self.text);
+        };
+        if has_gap(pattern) {
+            is_match_in(self.case, pattern, spread)
         } else {
             is_match(self.case, pattern, self.text)
         }

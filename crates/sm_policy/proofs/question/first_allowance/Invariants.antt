@@ -5,5 +5,5 @@ use Rattle.sm_policy.proofs.question.first_allowance.Given as goal
 -- none of those that were passed does
 abbrev pub invariant-loop-place : goal.invariant-loop-place
 invariant-loop-place l =
-    first_number (allows (plain_question l.question)) 0 l.statements
-    ≡ first_number (allows (plain_question l.question)) l.place (drop l.place l.statements)
+    first_number (allows (plain_question l.asked.question.now)) 0 l.statements
+    ≡ first_number (allows (plain_question l.asked.question.now)) l.place (drop l.place l.statements)
