@@ -1,5 +1,6 @@
 -- Calls that may be made, one after the other.
-use Rattle.std.proofs.Common.{◌≡◌, ℕ, zero, suc, ◌+◌, ◌<◌, ◌≤◌, List, [], ◌∷◌, ◌++◌, length, take, get_or, ap, subst, sym, ◌∙◌, arith}
+use Rattle.std.proofs.Common.{◌≡◌, ◌↔◌, ℕ, Bool, false, true, zero, suc, ◌+◌, ◌<◌, ◌≤◌, List, [], ◌∷◌, ◌++◌, length, take, get_or, ap, subst, sym, ◌∙◌, arith}
+use Rattle.std.specs.Prelude.{IsTrue}
 use Rattle.std.proofs.lemmas.List.{take_all, take_more}
 use Rattle.sm_drive.specs.Asked.{MayBeMade, AllMayBeMade}
 use Rattle.sm_drive.specs.declared.call.Call.{Call}
@@ -25,3 +26,14 @@ pub made_at : (calls : List Call) (k : ℕ) (call : Call) → AllMayBeMade calls
 made_at [] k call all lt is = absurd (omega (arith, lt))
 made_at (c ∷ calls) zero call all lt is = subst MayBeMade (sym is) all.0
 made_at (c ∷ calls) (suc k) call all lt is = made_at calls k call all.1 (omega (arith, lt)) is
+
+pub refuted : (b : Bool) → b ≡ false → b ≡ true → ⊥
+refuted b refused passed = let no_more : false ≡ true = sym refused ∙ passed in cc
+
+-- where one of them may not be made, not all may
+pub one_refused : (calls : List Call) (k : ℕ) (call : Call) → k < length calls → call ≡ get_or calls k call
+    → (MayBeMade call → ⊥) → IsTrue false ↔ AllMayBeMade calls
+one_refused calls k call lt is refused = (
+  λ never. absurd (let none : false ≡ true = never in cc),
+  λ all. absurd (refused (made_at calls k call all lt is)),
+)

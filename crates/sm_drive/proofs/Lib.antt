@@ -6,3 +6,4 @@ mod StepLemmas
 mod CallLemmas
 mod DriveLemmas
 mod AskedLemmas
+mod AskingLemmas

@@ -8,6 +8,7 @@ pub mod Runs
 pub mod Disks
 pub mod Openings
 pub mod Working
+pub mod Askings
 pub mod RunInvariant
 pub mod Stepping
 pub mod Refused

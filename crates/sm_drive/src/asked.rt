@@ -1,5 +1,5 @@
 //! Which calls may be made.
-ghost use Rattle.std.specs.Prelude.{◌≤◌, IsTrue};
+ghost use Rattle.std.specs.Prelude.{◌≤◌, ◌↔◌, IsTrue};
 ghost use Rattle.sm_base.specs.declared.moment.TheConstants as readings;
 ghost use Rattle.sm_account.specs.Handling.{HasShortTexts};
 ghost use Rattle.sm_drive.specs.Asked.{MayBeMade, AllMayBeMade};
@@ -11,7 +11,7 @@ use sm_model::{Moment, Person, need};
 
 /// Whether all these calls may be made. It takes no memory.
 pub fn all_may_be_made(calls: &[Call]) -> bool
-    ensures { IsTrue result → AllMayBeMade calls.now }
+    ensures { IsTrue result ↔ AllMayBeMade calls.now }
 {
     for call in calls {
         if !may_be_made(call) {
@@ -24,7 +24,7 @@ pub fn all_may_be_made(calls: &[Call]) -> bool
 /// Whether a call may be made: its moment is one that a clock can give, and a request has as many random bytes as it
 /// needs, of a person whose key and ARN have at most 256 bytes each. It takes no memory.
 pub fn may_be_made(call: &Call) -> bool
-    ensures { IsTrue result → MayBeMade call.now }
+    ensures { IsTrue result ↔ MayBeMade call.now }
 {
     match call {
         Call::Handle(person, now, drawn, request) => {
@@ -39,14 +39,14 @@ pub fn may_be_made(call: &Call) -> bool
 
 /// Whether a clock can give this moment.
 fn is_reading(now: Moment) -> bool
-    ensures { IsTrue result → now.0 ≤ readings.LAST_READING }
+    ensures { IsTrue result ↔ (now.0 ≤ readings.LAST_READING) }
 {
     now.0 <= LAST_READING
 }
 
 /// Whether a person's key and ARN can stand with an entry.
 fn is_short(person: &Person) -> bool
-    ensures { IsTrue result → HasShortTexts person.now }
+    ensures { IsTrue result ↔ HasShortTexts person.now }
 {
     person.key.len() <= CALLER_LIMIT && person.arn.len() <= CALLER_LIMIT
 }

@@ -1,16 +1,18 @@
 //! Every run of calls with restarts.
 ghost use Rattle.std.specs.Prelude.{◌≡◌, ◌≤◌, [], IfOk, IfErr, length, vec_capacity};
 ghost use Rattle.sm_account.specs.Accounts as accounts;
-ghost use Rattle.sm_account.specs.Accounts.{all_of, failed};
+ghost use Rattle.sm_account.specs.Accounts.{all_of, doors, failed};
 ghost use Rattle.sm_account.specs.Crashes.{HoldsOnDisk};
 ghost use Rattle.sm_opening.specs.Openings.{IsRefused};
 ghost use Rattle.sm_store.specs.BaseStores.{disk_in};
 ghost use Rattle.sm_drive.specs.Asked.{AllMayBeMade};
+ghost use Rattle.sm_drive.specs.Askings.{AsksIn, askings};
 ghost use Rattle.sm_drive.specs.Disks.{GoesOver, disks_of};
 ghost use Rattle.sm_drive.specs.Drives.{Drives};
 ghost use Rattle.sm_drive.specs.Going.{IsFresh};
 ghost use Rattle.sm_drive.specs.Openings.{TellsAtRestarts};
 ghost use Rattle.sm_drive.specs.Refused.{IsStopped};
+ghost use Rattle.sm_drive.specs.Turns.{InTurn};
 
 use crate::call::Call;
 use crate::driven::Driven;
@@ -47,6 +49,14 @@ pub fn drive<D: Disk, R: Rotator>(
     // The disk's count of faults never falls from call to call, and it rose in each whose outcome is that the disk
     // failed.
     ensures over { IfOk result (λ driven. GoesOver D.Disk disk calls driven.outcomes (disks_of driven.account)) }
+
+    // A work asks the rotator at most once. Where the answer is kept, what the rotator tells grows by just that; out of
+    // memory the answer may be lost. No other call asks it.
+    ensures asked { IfOk result (λ driven. InTurn AsksIn calls driven.outcomes (askings R.Rotator rotator.old [])
+        (askings R.Rotator rotator.new driven.verdicts)) }
+
+    // The account has one open door at the end.
+    ensures one_door { IfOk result (λ driven. doors driven.account ≡ 1) }
 
     // Each image of the disk recovers to what the account has, or while the tail is unsure to this, or to it and the
     // entry whose write failed last.
@@ -89,6 +99,9 @@ fn run_over<D: Disk, R: Rotator>(
     ensures ran { IfOk result (λ driven. TellsAtRestarts calls.now (D.sight disk) →
         Drives D.Disk R.Rotator (D.sight disk) calls.now driven) }
     ensures over { IfOk result (λ driven. GoesOver D.Disk disk calls.now driven.outcomes (disks_of driven.account)) }
+    ensures asked { IfOk result (λ driven. InTurn AsksIn calls.now driven.outcomes
+        (askings R.Rotator rotator.old []) (askings R.Rotator rotator.new driven.verdicts)) }
+    ensures one_door { IfOk result (λ driven. doors driven.account ≡ 1) }
     ensures tail { IfOk result (λ driven.
         HoldsOnDisk (all_of driven.account) (failed driven.account) (D.sight (accounts.disk driven.account))) }
     ensures refused { IfErr result (IsStopped D.Disk R.replies disk calls.now) }
@@ -110,6 +123,7 @@ fn run_over<D: Disk, R: Rotator>(
 fn begin<D: Disk, R: Rotator>(alloc: Global, disk: D) -> Result<Run<D, R>, OpenRefused<D>>
     ensures fresh { IfOk result IsFresh }
     ensures began { IfOk result (λ run. accounts.began run.account ≡ disk) }
+    ensures one_door { IfOk result (λ run. doors run.account ≡ 1) }
     ensures refused { IfErr result (IsRefused D.Disk disk) }
 {
     match Account::open(alloc, disk, 1, JOURNAL_LIMIT) {

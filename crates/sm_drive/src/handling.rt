@@ -3,6 +3,7 @@ ghost use Rattle.std.specs.Prelude.{◌≡◌, ◌≤◌, length, true, false};
 ghost use Rattle.sm_base.specs.declared.moment.TheConstants.{LAST_READING};
 ghost use Rattle.sm_model.specs.Needed.{needed};
 ghost use Rattle.sm_account.specs.Handling.{HasShortTexts};
+ghost use Rattle.sm_account.specs.Accounts as accounts;
 ghost use Rattle.sm_drive.specs.Aims.{is_limit, refused_as};
 ghost use Rattle.sm_drive.specs.Outcomes.{answered_as, handled_as};
 ghost use Rattle.sm_drive.specs.Stepping.{Calls};
@@ -26,7 +27,9 @@ pub fn handle<D: Disk, R: Rotator>(
     requires bound { now.0 ≤ LAST_READING }
     requires drawn { length drawn.now ≡ needed request.now }
     requires person { HasShortTexts person.now }
-    ensures { Calls D.Disk R.Rotator run.old (calls.Handle person.now now drawn.now request.now) result run.new }
+    ensures calls { Calls D.Disk R.Rotator run.old (calls.Handle person.now now drawn.now request.now) result run.new }
+    ensures verdicts { run.new.verdicts ≡ run.old.verdicts }
+    ensures doors { accounts.doors run.new.account ≡ accounts.doors run.old.account }
 {
     let before = run.account.entries();
     let handled = run.account.handle(1, person, now, drawn, request);

@@ -11,7 +11,8 @@ pub enum Outcome {
     Refused,
     /// The verdict is on a step that is past, or on a secret or a version that is gone.
     Stale,
-    /// A refusal by a limit, or the entry would pass one.
+    /// A limit would be passed: of secrets, versions, labels, tags or regions by the request, or of entries or of the
+    /// journal's bytes by its entry or by that of a verdict or of a start.
     Limit,
     /// The disk failed where the entry was to be written.
     DiskFault,
@@ -19,7 +20,7 @@ pub enum Outcome {
     Asked,
     /// No step is ready, no verdict has this number, or no rotation is due.
     Nothing,
-    /// Memory was wanted. At most a claim was made.
+    /// Out of memory. At most a claim was made and the rotator was asked, whose answer is lost.
     Memory,
     /// The account was opened again.
     Reopened,

@@ -1,6 +1,7 @@
 //! Reports of a run.
 ghost use Rattle.std.specs.Prelude.{◌≡◌, ◌≤◌};
 ghost use Rattle.sm_base.specs.declared.moment.TheConstants.{LAST_READING};
+ghost use Rattle.sm_account.specs.Accounts as accounts;
 ghost use Rattle.sm_drive.specs.Outcomes.{reported_as};
 ghost use Rattle.sm_drive.specs.Stepping.{Calls};
 ghost use Rattle.sm_drive.specs.declared.call.Call.TheVariants as calls;
@@ -15,7 +16,9 @@ use sm_rotator::Rotator;
 /// Reports the verdict of this number, if there is one.
 pub fn report<D: Disk, R: Rotator>(run: &mut Run<D, R>, place: usize, now: Moment) -> Outcome
     requires { now.0 ≤ LAST_READING }
-    ensures { Calls D.Disk R.Rotator run.old (calls.Report place now) result run.new }
+    ensures calls { Calls D.Disk R.Rotator run.old (calls.Report place now) result run.new }
+    ensures verdicts { run.new.verdicts ≡ run.old.verdicts }
+    ensures doors { accounts.doors run.new.account ≡ accounts.doors run.old.account }
 {
     let next = place_of(run.account.entries(), run.first);
     match run.verdicts.get(place) {

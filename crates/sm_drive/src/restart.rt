@@ -1,7 +1,7 @@
 //! Restarts of a run.
 ghost use Rattle.std.specs.Prelude.{◌≡◌, IfOk, IfErr, false};
 ghost use Rattle.sm_opening.specs.Openings.{IsRefused};
-ghost use Rattle.sm_account.specs.Accounts.{disk};
+ghost use Rattle.sm_account.specs.Accounts.{disk, doors};
 ghost use Rattle.sm_drive.specs.Openings.{Tells};
 ghost use Rattle.sm_drive.specs.Refused.{is_damaged};
 ghost use Rattle.sm_drive.specs.Stepping.{Calls};
@@ -22,6 +22,8 @@ pub fn restart<D: Disk, R: Rotator>(
     run: Run<D, R>,
 ) -> Result<Run<D, R>, OpenRefused<D>>
     ensures calls { IfOk result (Calls D.Disk R.Rotator run calls.Restart outcomes.Reopened) }
+    ensures verdicts { IfOk result (λ now. now.verdicts ≡ run.verdicts) }
+    ensures one_door { IfOk result (λ now. doors now.account ≡ 1) }
     ensures refused { IfErr result (IsRefused D.Disk (disk run.account)) }
     ensures whole { IfErr result (λ refused. Tells (D.sight (disk run.account)) → is_damaged refused ≡ false) }
 {

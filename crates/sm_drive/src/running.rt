@@ -1,9 +1,11 @@
 //! The calls of a run, one after the other.
 ghost use Rattle.std.specs.Prelude.{◌≡◌, ◌≤◌, [], IfOk, IfErr, length, vec_capacity};
-ghost use Rattle.sm_account.specs.Accounts.{began};
+ghost use Rattle.sm_account.specs.Accounts.{began, doors};
 ghost use Rattle.sm_drive.specs.Asked.{AllMayBeMade};
+ghost use Rattle.sm_drive.specs.Askings.{AsksIn, askings};
 ghost use Rattle.sm_drive.specs.Going.{IsFresh, HasCome};
 ghost use Rattle.sm_drive.specs.Refused.{StopsBehind};
+ghost use Rattle.sm_drive.specs.Turns.{InTurn};
 
 use crate::call::Call;
 use crate::outcome::Outcome;
@@ -28,6 +30,9 @@ pub fn go_on<D: Disk, R: Rotator>(
     requires none { outcomes.old.items ≡ [] }
     requires room { length calls.now ≤ vec_capacity outcomes.old }
     ensures come { IfOk result (HasCome start calls.now outcomes.new.items) }
+    ensures asked { IfOk result (λ now. InTurn AsksIn calls.now outcomes.new.items
+        (askings R.Rotator rotator.old start.verdicts) (askings R.Rotator rotator.new now.verdicts)) }
+    ensures one_door { IfOk result (λ now. doors start.account ≡ 1 → doors now.account ≡ 1) }
     ensures refused { IfErr result (StopsBehind D.Disk R.replies (began start.account) calls.now) }
     ensures later { R.faults rotator.old ≤ R.faults rotator.new }
 {

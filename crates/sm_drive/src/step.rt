@@ -1,6 +1,8 @@
 //! One call of a run.
 ghost use Rattle.std.specs.Prelude.{◌≡◌, ◌≤◌, IfOk, IfErr};
+ghost use Rattle.sm_account.specs.Accounts as accounts;
 ghost use Rattle.sm_drive.specs.Asked.{MayBeMade};
+ghost use Rattle.sm_drive.specs.Askings.{AsksIn, askings};
 ghost use Rattle.sm_drive.specs.Refused.{IsRefusedAt};
 ghost use Rattle.sm_drive.specs.RunInvariant.{Stands};
 ghost use Rattle.sm_drive.specs.Stepping.{Calls};
@@ -27,6 +29,9 @@ pub fn step<D: Disk, R: Rotator>(
 ) -> Result<(Run<D, R>, Outcome), OpenRefused<D>>
     requires { MayBeMade call.now }
     ensures calls { IfOk result (λ to. Calls D.Disk R.Rotator run call.now to.1 to.0) }
+    ensures asks { IfOk result (λ to. AsksIn call.now to.1 (askings R.Rotator rotator.old run.verdicts)
+        (askings R.Rotator rotator.new to.0.verdicts)) }
+    ensures one_door { IfOk result (λ to. accounts.doors run.account ≡ 1 → accounts.doors to.0.account ≡ 1) }
     ensures before { Stands D.Disk R.Rotator run }
     ensures behind { IfOk result (λ to. Stands D.Disk R.Rotator to.0) }
     ensures refused { IfErr result (IsRefusedAt D.Disk R.Rotator run call.now) }

@@ -1,6 +1,8 @@
 //! Works of a run's rotator.
 ghost use Rattle.std.specs.Prelude.{◌≡◌, ◌≤◌, ◌++◌, ◌∷◌, [], true};
 ghost use Rattle.sm_base.specs.declared.moment.TheConstants.{LAST_READING};
+ghost use Rattle.sm_account.specs.Accounts as accounts;
+ghost use Rattle.sm_drive.specs.Askings.{AsksIn, WorksAs, askings};
 ghost use Rattle.sm_drive.specs.Stepping.{Calls};
 ghost use Rattle.sm_drive.specs.Working.{Asks, Keeps};
 ghost use Rattle.sm_drive.specs.declared.call.Call.TheVariants as calls;
@@ -17,6 +19,9 @@ use sm_rotator::{Asked, Rotator, Verdict, Work};
 pub fn work<D: Disk, R: Rotator>(run: &mut Run<D, R>, rotator: &mut R, now: Moment) -> Outcome
     requires { now.0 ≤ LAST_READING }
     ensures calls { Calls D.Disk R.Rotator run.old (calls.Work now) result run.new }
+    ensures asks { AsksIn (calls.Work now) result (askings R.Rotator rotator.old run.old.verdicts)
+        (askings R.Rotator rotator.new run.new.verdicts) }
+    ensures doors { accounts.doors run.new.account ≡ accounts.doors run.old.account }
     ensures later { R.faults rotator.old ≤ R.faults rotator.new }
 {
     match run.account.next_work(1, now) {
@@ -29,6 +34,8 @@ pub fn work<D: Disk, R: Rotator>(run: &mut Run<D, R>, rotator: &mut R, now: Mome
 /// Asks the rotator to do a work, and keeps its verdict.
 fn ask<R: Rotator>(verdicts: &mut List<Verdict<R>>, rotator: &mut R, work: Work) -> Outcome
     ensures asks { Asks R.Rotator work verdicts.old result verdicts.new }
+    ensures once { WorksAs result (askings R.Rotator rotator.old verdicts.old)
+        (askings R.Rotator rotator.new verdicts.new) }
     ensures later { R.faults rotator.old ≤ R.faults rotator.new }
 {
     match rotator.ask(&work) {

@@ -8,3 +8,6 @@ returns-in-Ok-clause-fresh g c =
 
 pub returns-in-Ok-clause-began : goal.returns-in-Ok-clause-began
 returns-in-Ok-clause-began g c = c.in-Ok.ensures.opened.began_is
+
+pub returns-in-Ok-clause-one_door : goal.returns-in-Ok-clause-one_door
+returns-in-Ok-clause-one_door g c = c.in-Ok.ensures.opened.doors_are

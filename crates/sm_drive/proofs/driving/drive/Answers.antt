@@ -1,8 +1,10 @@
-use Rattle.std.proofs.Common.{List, IfOk, IfErr, subst}
+use Rattle.std.proofs.Common.{List, [], IfOk, IfErr, subst}
+use Rattle.sm_drive.specs.Askings.{AsksIn, askings}
 use Rattle.sm_drive.specs.Disks.{GoesOver, disks_of}
 use Rattle.sm_drive.specs.Drives.{Drives}
 use Rattle.sm_drive.specs.Openings.{TellsAtRestarts}
 use Rattle.sm_drive.specs.Refused.{IsStopped}
+use Rattle.sm_drive.specs.Turns.{InTurn}
 use Rattle.sm_drive.specs.declared.call.Call.{Call}
 use Rattle.sm_drive.proofs.DriveLemmas.{wanting}
 use Rattle.sm_drive.proofs.driving.drive.Goals as goal
@@ -17,6 +19,12 @@ returns-in-Ok-clause-over g c =
     subst (λ (l : List Call). IfOk c.run_over.result
     (λ driven. GoesOver g.D.Disk c.args.disk l driven.outcomes (disks_of driven.account))) c.as_slice.ensures
     c.run_over.ensures.over
+
+pub returns-in-Ok-clause-asked : goal.returns-in-Ok-clause-asked
+returns-in-Ok-clause-asked g c =
+    subst (λ (l : List Call). IfOk c.run_over.result (λ driven. InTurn AsksIn l driven.outcomes
+    (askings g.R.Rotator c.args.rotator.now []) (askings g.R.Rotator c.run_over.new.rotator driven.verdicts)))
+    c.as_slice.ensures c.run_over.ensures.asked
 
 pub returns-in-Ok-clause-refused : goal.returns-in-Ok-clause-refused
 returns-in-Ok-clause-refused g c =

@@ -1,4 +1,5 @@
 use Rattle.std.proofs.Common.{inl}
+use Rattle.sm_drive.proofs.AskingLemmas.{asked_to, one_door}
 use Rattle.sm_drive.proofs.DriveLemmas.{drives_to, fallen_to, later_to, over_to, stopped}
 use Rattle.sm_drive.proofs.driving.run_over.Goals as goal
 
@@ -14,6 +15,16 @@ pub returns-in-Ok-go_on-clause-over : goal.returns-in-Ok-go_on-clause-over
 returns-in-Ok-go_on-clause-over g c =
     over_to g.D.Disk g.R.Rotator c.args.disk c.args.calls.now c.in-Ok.run' c.in-Ok-go_on.run' c.in-Ok.ensures.fresh
     c.in-Ok.ensures.began _ c.in-Ok-go_on.ensures.come c.end.result c.end.ensures.same
+
+pub returns-in-Ok-go_on-clause-asked : goal.returns-in-Ok-go_on-clause-asked
+returns-in-Ok-go_on-clause-asked g c =
+    asked_to c.in-Ok.run' c.in-Ok-go_on.run' c.in-Ok.ensures.fresh _ c.end.result c.end.ensures.same c.args.calls.now
+    c.args.rotator.now c.go_on.new.rotator c.in-Ok-go_on.ensures.asked
+
+pub returns-in-Ok-go_on-clause-one_door : goal.returns-in-Ok-go_on-clause-one_door
+returns-in-Ok-go_on-clause-one_door g c =
+    one_door c.in-Ok.run' c.in-Ok-go_on.run' c.in-Ok.ensures.fresh _ c.end.result c.end.ensures.same
+    (c.in-Ok-go_on.ensures.one_door c.in-Ok.ensures.one_door)
 
 pub returns-in-Ok-go_on-clause-tail : goal.returns-in-Ok-go_on-clause-tail
 returns-in-Ok-go_on-clause-tail g c = c.end.ensures.tail

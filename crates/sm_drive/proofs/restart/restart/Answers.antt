@@ -15,3 +15,6 @@ pub returns-in-Err-clause-whole : goal.returns-in-Err-clause-whole
 returns-in-Err-clause-whole g c =
     refused_whole g.D.Disk g.R.Rotator c.args.run g.met.D.Disk.reads_image c.invariants.ensures.on_disk c.close.result
     c.close.ensures c.in-Err.refused c.in-Err.ensures.refused
+
+pub returns-in-Ok-clause-one_door : goal.returns-in-Ok-clause-one_door
+returns-in-Ok-clause-one_door g c = c.in-Ok.ensures.opened.doors_are
