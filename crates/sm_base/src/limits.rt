@@ -119,7 +119,7 @@ pub const CALLER_LIMIT: usize = 256;
 /// How many seats one account may have: its connection workers and rotation workers.
 pub const SEATS_LIMIT: u32 = 128;
 
-/// How many connection workers a server may have, each of which serves one connection at a time.
+/// How many connection workers a server may have, each of which serves many connections.
 pub const CONNECTION_WORKERS_LIMIT: u32 = 64;
 
 /// How many rotation workers a server may have.
