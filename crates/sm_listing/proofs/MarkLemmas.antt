@@ -49,12 +49,34 @@ mark_stays text (value ∷ values) (mark ∷ marks) (suc i) below within begins 
     ap (λ (later : List Bool). (mark || starts_with nat_eq text (beginning_of value)) ∷ later)
     (mark_stays text values marks i (omega arith) (omega arith) begins)
 
+-- the mark is set already
+mark_kept : (text : List ℕ) (values : List (List ℕ)) (marks : List Bool) (i : ℕ) → i < length values →
+    i < length marks → get_or (marked text (take i values) marks) i false ≡ true →
+    marked text (take i values) marks ≡ marked text (take (suc i) values) marks
+mark_kept text [] marks i below within is = absurd (omega arith)
+mark_kept text (value ∷ values) [] i below within is = absurd (omega arith)
+mark_kept text (value ∷ values) (mark ∷ marks) zero below within is =
+    by mark (starts_with nat_eq text (beginning_of value)) is
+  where
+    by : (mark begins : Bool) → mark ≡ true → mark ∷ marks ≡ (mark || begins) ∷ marks
+    by true begins is = refl
+    by false begins is = absurd (false≢true is)
+mark_kept text (value ∷ values) (mark ∷ marks) (suc i) below within is =
+    ap (λ (later : List Bool). (mark || starts_with nat_eq text (beginning_of value)) ∷ later)
+    (mark_kept text values marks i (omega arith) (omega arith) is)
+
 -- the same, of marks so far
 pub begins_so_far : (text : List ℕ) (values : List (List ℕ)) (first marks : List Bool) (i : ℕ) →
     marks ≡ marked text (take i values) first → i < length values → length values ≤ length first →
     starts_with nat_eq text (beginning_at values i) ≡ true → set marks i true ≡ marked text (take (i + 1) values) first
 begins_so_far text values first marks i are below room begins =
     rw (are, add-one i) (mark_begins text values first i below (omega arith) begins)
+
+pub kept_so_far : (text : List ℕ) (values : List (List ℕ)) (first marks : List Bool) (i : ℕ) →
+    marks ≡ marked text (take i values) first → i < length values → length values ≤ length first →
+    get_or marks i false ≡ true → marks ≡ marked text (take (i + 1) values) first
+kept_so_far text values first marks i are below room is =
+    are ∙ rw (add-one i) (mark_kept text values first i below (omega arith) (rw (sym are) is))
 
 pub stays_so_far : (text : List ℕ) (values : List (List ℕ)) (first marks : List Bool) (i : ℕ) →
     marks ≡ marked text (take i values) first → i < length values → length values ≤ length first →

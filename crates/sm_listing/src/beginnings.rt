@@ -194,7 +194,8 @@ fn goes_along(value: Parted, text: Parted) -> bool
     value.bytes == text.bytes && value.next == text.next && value.next != 0
 }
 
-/// Marks the places of the values as which a text begins, beside those that are marked.
+/// Marks the places of the values as which a text begins, beside those that are marked. What is marked is not looked
+/// at again: values that begin each other are then compared once, and not once for each tag.
 fn mark(sought: &Sought, text: &[u8], marks: &mut [bool])
     requires sought { IsSought sought.now }
     requires room { length sought.now.values ≤ length marks.old }
@@ -203,6 +204,9 @@ fn mark(sought: &Sought, text: &[u8], marks: &mut [bool])
     let mut row = row_at(sought, 0);
     let mut here = parting(beginning_at(sought, 0), text);
     for place in 0..sought.values.len() {
+        if marks[place] {
+            continue;
+        }
         let there = row[place];
         if ends_within(there, here) {
             marks[place] = true;

@@ -1,7 +1,7 @@
 use Rattle.std.proofs.Common.{ℕ, List, ◌∙◌, sym, ap, arith}
 use Rattle.sm_listing.specs.Beginnings.{parting, beginning_at}
 use Rattle.sm_listing.proofs.PartingLemmas.{within_at, along_at, neither_at, gone_whole, gone_part}
-use Rattle.sm_listing.proofs.MarkLemmas.{begins_so_far, stays_so_far}
+use Rattle.sm_listing.proofs.MarkLemmas.{begins_so_far, kept_so_far, stays_so_far}
 use Rattle.sm_listing.proofs.beginnings.mark.Goals.{then-ends_within, else-ends_within+then-goes_along+then-here-beginning}
 use Rattle.sm_listing.proofs.beginnings.mark.Goals.{else-ends_within+then-goes_along+else-here-beginning, else-ends_within+else-goes_along}
 use Rattle.sm_listing.proofs.beginnings.mark.Goals as goal
@@ -15,6 +15,14 @@ parting_past-here-requires c =
     c.loop-place.invariant.0.2
     (omega (arith, c.loop-place-test.true, c.len-place-end.ensures))
     (sym c.if-goes_along.true ∙ c.goes_along.ensures))
+
+pub loop-place-preserved-then-marks-place : goal.loop-place-preserved-then-marks-place
+loop-place-preserved-then-marks-place c = (
+  c.loop-place.invariant.0,
+  kept_so_far c.args.text.now c.args.sought.now.values c.args.marks.now c.loop-place.marks c.loop-place.place
+      c.loop-place.invariant.1 (omega (arith, c.loop-place-test.true, c.len-place-end.ensures)) c.requires.room
+      c.if-marks-place.true,
+)
 
 pub loop-place-preserved : goal.loop-place-preserved
 loop-place-preserved c =
