@@ -1,0 +1,5 @@
+pub mod Words
+pub mod Parts
+pub mod Policies
+pub mod Faults
+pub mod Laws
