@@ -127,7 +127,8 @@ when false o json e = absurd (let f = e in cc)
 -- what a text is as JSON is ordered
 pub text_ordered : (text : List ℕ) (json : Data) → json_of text ≡ Some json → IsOrdered json
 text_ordered text json e =
-    let c = chained of_json (option_and_then (λ p. grammar.if_last p.0 p.1) (grammar.value max_depth (tokens text))) json
+    let c =
+    chained of_json (option_and_then (λ p. grammar.if_last p.0 p.1) (grammar.value max_depth (tokens text))) json
     (when (is_utf8 text) (read text) json e) in
     json_ordered c.0 json c.2
 

@@ -30,7 +30,8 @@ each_statement value ss (inr (found, list, each)) = (found, inr list, each)
 
 statements_each : (value : Data) (found : shapes.Items) (ss : List Statement) → AreStatements value found
     → AreEach IsStatement found ss → IsOneOrMore IsStatement value ss
-statements_each value found ss (inl (object, same)) each = lone ss (subst (λ (i : shapes.Items). AreEach IsStatement i ss) same each)
+statements_each value found ss (inl (object, same)) each =
+    lone ss (subst (λ (i : shapes.Items). AreEach IsStatement i ss) same each)
   where
     lone : (ss : List Statement) → AreEach IsStatement (shapes.item value shapes.no_items) ss
         → IsOneOrMore IsStatement value ss
@@ -117,7 +118,8 @@ policies text p = (
 
 pub one : PoliciesAreOne
 one text p q is also =
-    let f : (let r : Result Policy Flaw = Ok p in r) ≡ Ok q = sym ((policies text p).1 is) ∙ (policies text q).1 also in cc
+    let f : (let r : Result Policy Flaw = Ok p in r) ≡ Ok q = sym ((policies text p).1 is) ∙ (policies text q).1 also in
+    cc
 
 pub tested : PoliciesAreTested
 unfolding is_policy

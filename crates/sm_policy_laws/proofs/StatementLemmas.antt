@@ -136,8 +136,8 @@ pub statements_are : (place : ℕ) (items : shapes.Items) (ss : List Statement) 
 statements_are place shapes.no_items [] e = tt
 statements_are place shapes.no_items (s ∷ ss) e = absurd (let f = e in cc)
 statements_are place (shapes.item json items) ss e =
-    by (item_fault json) refl (statements_from (place + 1) items) refl (λ more f. statements_are (place + 1) items more f)
-    e
+    by (item_fault json) refl (statements_from (place + 1) items) refl
+    (λ more f. statements_are (place + 1) items more f) e
   where
     by : (o : Option (List ℕ)) → item_fault json ≡ o → (r : Result (List Statement) Flaw)
         → statements_from (place + 1) items ≡ r
