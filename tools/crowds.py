@@ -27,6 +27,7 @@ RESETS = 20
 HALF_SENT = 1_000
 STEADY = 300
 CONNECTS = 2_000
+NEWCOMERS = 20
 # So many that they take about so long.
 FEWEST_GREEDY, MOST_GREEDY, GREEDY_SECONDS = 10, 200, 3
 SENDERS, PAUSING = 8, 10
@@ -190,6 +191,33 @@ def fault_of_connects(program):
             if time.monotonic() - start > 1:
                 return f"client {call + 1} was answered after {time.monotonic() - start:.1f} seconds"
     return None
+
+
+def fault_of_busy_client(program):
+    """Beside a client that asks the one worker without a rest, each client that comes is answered within a second."""
+    with Serving(program, *ONE_WORKER) as server:
+        statuses, ends = [], threading.Event()
+
+        def ask_on():
+            client = Client(server.port)
+            while not ends.is_set():
+                statuses.append(client.ask())
+            client.close()
+
+        busy = threading.Thread(target=ask_on)
+        busy.start()
+        time.sleep(0.2)
+        slowest = 0
+        for _ in range(NEWCOMERS):
+            start, client = time.monotonic(), Client(server.port)
+            statuses.append(client.ask())
+            client.close()
+            slowest = max(slowest, time.monotonic() - start)
+        ends.set()
+        busy.join()
+    if set(statuses) != {200}:
+        return f"beside a busy client there were the statuses {sorted(set(statuses))}"
+    return f"beside a busy client a newcomer waited {slowest:.1f} seconds" if slowest > 1 else None
 
 
 def fault_of_pipelining(program):
@@ -378,12 +406,14 @@ def hoarded(server):
         with contextlib.suppress(OSError):
             connections[-1].sendall(part)
         most = max(most, memory_of(process, "VmRSS"))
-    # Until no further one is closed.
+    # Until at two looks in a row no further one is closed: on a busy machine the last may come late.
+    looks = 0
     for _ in range(40):
         time.sleep(0.5)
         before, kept = kept, sum(not is_cut(connection) for connection in connections)
         most = max(most, memory_of(process, "VmRSS"))
-        if kept == before:
+        looks = looks + 1 if kept == before else 0
+        if looks == 2:
             break
     for connection in connections:
         connection.close()
@@ -410,6 +440,7 @@ CASES = [
         "paused message": fault_of_paused_message,
         "byte senders": fault_of_byte_senders,
         "steady clients": fault_of_steady_clients,
+        "busy client": fault_of_busy_client,
     },
     {"half-sent messages": fault_of_half_sent},
     {"connects": fault_of_connects},

@@ -134,11 +134,11 @@ class Folder:
         edition, records, gate = formats.records_of(data, self.editions)
         self.cut(number, gate + 1)
         base, count = formats.base_of(records, edition) if self.bases else (None, 0)
-        behind = list(formats.entries_behind(records[count:], count, edition))
         if base is not None:
             self.stand_on(base)
-        made_again(self.account, behind, count)
-        if self.bases and (edition == 1 or len(behind) > MOST_BEHIND):
+        # Each entry is read after those before it were made again, so that the first fault is told.
+        made_again(self.account, formats.entries_behind(records[count:], count, edition), count)
+        if self.bases and (edition == 1 or self.behind() > MOST_BEHIND):
             self.replace(edition)
 
     def cut(self, number, end):

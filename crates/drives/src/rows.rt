@@ -3,9 +3,9 @@ use sm_account::Account;
 use sm_base::NoMemory;
 use sm_disk::Disk;
 use sm_encoded_size::note_spelled;
-use sm_frames::{EncodeRefused, Frame, encode};
 use sm_model::Moment;
 use sm_record::Base;
+use sm_replication::{EncodeRefused, Frame, encode};
 use sm_rotator::Rotator;
 use std::alloc::Global;
 

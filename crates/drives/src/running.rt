@@ -7,8 +7,8 @@ use sm_account::{Account, OpenRefused};
 use sm_base::{Bytes, Fails, List, NoMemory};
 use sm_disk::{Disk, MemoryDisk};
 use sm_drive::{Call, Driven, Outcome, all_may_be_made, drive};
-use sm_gather::Gathered;
 use sm_rotator::{LocalRotator, Rotator};
+use sm_write_buffer::Gathered;
 use std::alloc::Global;
 
 /// What comes of the calls, a line for each, and of the crashes.

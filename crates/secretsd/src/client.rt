@@ -3,17 +3,20 @@ use crate::request_log::RequestLog;
 use crate::stage::Stage;
 use crate::unsent::{Unsent, is_later, write_now};
 use mio::event::Event;
-use mio::net::TcpStream;
 use sm_model::NoMemory;
 use sm_visits::{Arrivals, Opened, VISIT_LIMIT};
 use std::alloc::Global;
 use std::io;
 use std::io::{ErrorKind, Read};
-use std::net::Shutdown;
+use std::net::{Shutdown, TcpStream};
 use std::time::Duration;
 
 /// How often is read in a row before other connections have their turn.
 const READS: u32 = 16;
+
+/// For how many milliseconds a read waits for a client that has its worker for itself, and a write to it. The system
+/// may wait a few more.
+const WAIT: u64 = 1;
 
 /// How many bytes of a client are dropped at most once its last reply was sent.
 const DROPPED: u64 = 16 << 20;
@@ -31,8 +34,8 @@ pub enum Turn {
     Close,
 }
 
-/// A connection: its socket, which never blocks, what arrived and was not answered, and the replies that the socket has
-/// not taken yet.
+/// A connection: its socket, which waits for nothing, or for a moment where `waits` says so, what arrived and was not
+/// answered, and the replies that the socket has not taken yet.
 #[derive(Drop)]
 pub struct Client<'a> {
     pub socket: TcpStream,
@@ -41,6 +44,9 @@ pub struct Client<'a> {
     stage: Stage,
     /// When the stage began, by the clock that never goes back.
     since: Duration,
+    /// Whether reads and writes wait for a moment, and whether the system knows for how long.
+    waits: bool,
+    has_limits: bool,
     /// Whether the socket may have bytes, or the end. A poll says so again only once a read has found fewer than it
     /// would have taken.
     may_read: bool,
@@ -75,6 +81,8 @@ impl<'a> Client<'a> {
             unsent: Unsent::new(alloc),
             stage: Stage::Idle,
             since: now,
+            waits: false,
+            has_limits: false,
             may_read: true,
             sees_end: false,
             has_ended: false,
@@ -135,6 +143,63 @@ impl<'a> Client<'a> {
             Ok(turn) => turn,
             Err(_) => Turn::Close,
         }
+    }
+
+    /// Waits a moment for the next message, where nothing else is to be done: a read that waits takes less time than a
+    /// poll and a read.
+    pub fn wait(&mut self, buffer: &mut [u8], now: Duration) -> Turn {
+        if !self.only_waits() || self.set_waits(true).is_err() {
+            return Turn::Wait;
+        }
+        let Ok(turn) = self.read_and_go_on(buffer, now) else {
+            return Turn::Close;
+        };
+        if turn == Turn::Visit && !self.may_read {
+            return turn;
+        }
+        match self.set_waits(false) {
+            Ok(()) => turn,
+            Err(_) => Turn::Close,
+        }
+    }
+
+    /// Reads once, which may wait, and does what can be done then without waiting.
+    fn read_and_go_on(&mut self, buffer: &mut [u8], now: Duration) -> io::Result<Turn> {
+        self.may_read = true;
+        self.read(buffer)?;
+        if self.may_read {
+            self.set_waits(false)?;
+        }
+        self.go_on(buffer, now)
+    }
+
+    /// Whether it only waits for the first byte of a message.
+    fn only_waits(&self) -> bool {
+        self.stage == Stage::Idle
+            && self.arrivals.len() == 0
+            && self.unsent.is_empty()
+            && !(self.is_ready || self.is_last || self.may_read || self.sees_end || self.has_ended)
+    }
+
+    /// Has reads and writes wait for nothing.
+    pub fn stop_waiting(&mut self) -> io::Result<()> {
+        self.set_waits(false)
+    }
+
+    /// Has reads and writes wait for a moment, or for nothing.
+    fn set_waits(&mut self, waits: bool) -> io::Result<()> {
+        if self.waits == waits {
+            return Ok(());
+        }
+        if !self.has_limits {
+            let limit = Some(Duration::from_millis(WAIT));
+            self.socket.set_read_timeout(limit)?;
+            self.socket.set_write_timeout(limit)?;
+            self.has_limits = true;
+        }
+        self.socket.set_nonblocking(!waits)?;
+        self.waits = waits;
+        Ok(())
     }
 
     /// Sends what is unsent, and then ends, or looks for messages.

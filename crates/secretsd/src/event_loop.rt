@@ -6,16 +6,15 @@ use crate::connections::Connections;
 use crate::request_log::RequestLog;
 use crate::visit::Visit;
 use mio::event::Event;
-use mio::net::TcpStream;
 use mio::unix::SourceFd;
 use mio::{Events, Interest, Poll, Token};
-use slab::Slab;
 use sm_model::NoMemory;
+use sm_visits::{ConnectionTable, HandedOut};
 use std::alloc::Global;
 use std::collections::VecDeque;
 use std::io;
 use std::io::ErrorKind;
-use std::net::TcpListener;
+use std::net::{TcpListener, TcpStream};
 use std::os::fd::AsRawFd;
 use std::sync::Wait;
 use std::time::{Clock, Duration};
@@ -35,6 +34,9 @@ const BUFFER: usize = 65_536;
 
 /// How many connections are accepted in a row before those that are there have their turn.
 const ACCEPTS: u32 = 64;
+
+/// For how many milliseconds at most a worker with one connection serves it without asking what else is ready.
+const ALONE: u64 = 1;
 
 /// How many milliseconds are waited where an accept may succeed later, or another worker has fewer connections.
 const SHORT: u64 = 1;
@@ -63,11 +65,15 @@ pub struct EventLoop<'a, H> {
     poll: Poll,
     events: Events,
     listener: &'a TcpListener,
-    /// The connections by their places. The one that was handed out has left its place empty.
-    clients: Slab<Option<Box<Client<'a>>>>,
+    /// The connections by their places. One is handed out at a time.
+    clients: ConnectionTable<Box<Client<'a>>>,
     /// The places of those that are to have a turn, and how many of these have it before the next poll.
     ready: VecDeque<usize>,
     turns: usize,
+    /// The place of the connection whose visit ended last, where nothing is to be done for it but to wait.
+    served: Option<usize>,
+    /// A connection is alone with its worker until this moment.
+    next_poll: Duration,
     buffer: Vec<u8>,
     /// How many bytes are held for all of them.
     held: usize,
@@ -108,9 +114,11 @@ impl<'a, H: Wait> EventLoop<'a, H> {
             poll,
             events: Events::with_capacity(alloc, EVENTS)?,
             listener,
-            clients: Slab::new(alloc),
+            clients: ConnectionTable::new(alloc),
             ready: VecDeque::new(alloc),
             turns: 0,
+            served: None,
+            next_poll: Duration::ZERO,
             buffer: Vec::from_elem(alloc, 0, BUFFER)?,
             held: 0,
             next_look: Duration::MAX,
@@ -130,6 +138,9 @@ impl<'a, H: Wait> EventLoop<'a, H> {
             if let Some(visit) = self.next_ready() {
                 return Ok(visit);
             }
+            if let Some(visit) = self.wait_alone() {
+                return Ok(visit);
+            }
             self.poll()?;
             self.accept_some()?;
             self.turns = self.ready.len();
@@ -139,18 +150,43 @@ impl<'a, H: Wait> EventLoop<'a, H> {
 
     /// Takes a connection back.
     pub fn end_visit(&mut self, visit: Visit<'a>) {
-        let place = visit.place;
-        if visit.has_failed() {
-            self.forget(place);
+        let has_failed = visit.has_failed();
+        let mut handed = visit.handed;
+        if has_failed {
+            self.forget(handed);
             return;
         }
-        let mut client = visit.client;
         self.read_clock();
-        let has_more = client.end_visit(self.now);
-        self.keep(place, client);
+        let has_more = handed.connection.end_visit(self.now);
+        let place = handed.place();
+        if has_more && handed.connection.stop_waiting().is_err() {
+            self.forget(handed);
+            return;
+        }
+        self.keep(handed);
         if has_more {
             self.give_turn(place);
+        } else {
+            self.served = Some(place);
         }
+    }
+
+    /// Waits a moment for the next message of the connection whose visit ended last, where the worker has no other one
+    /// and has asked what else is ready not long ago.
+    fn wait_alone(&mut self) -> Option<Visit<'a>> {
+        let place = self.served.take()?;
+        let mut handed = self.take(place)?;
+        let is_alone = self.clients.len() == 1 && self.ready.is_empty() && !self.may_accept;
+        if !is_alone || self.now >= self.next_poll {
+            if handed.connection.stop_waiting().is_ok() {
+                self.keep(handed);
+            } else {
+                self.forget(handed);
+            }
+            return None;
+        }
+        let turn = handed.connection.wait(self.buffer.as_mut_slice(), self.now);
+        self.end_turn(handed, turn)
     }
 
     /// Gives those their turn that are to have one before the next poll, until one has messages to be answered.
@@ -167,60 +203,70 @@ impl<'a, H: Wait> EventLoop<'a, H> {
 
     /// Gives the connection at a place its turn.
     fn turn(&mut self, place: usize) -> Option<Visit<'a>> {
-        let mut client = self.take(place)?;
-        match client.turn(self.buffer.as_mut_slice(), self.now) {
-            Turn::Visit => return Some(Visit::new(place, client)),
-            Turn::Wait => self.keep(place, client),
+        let mut handed = self.take(place)?;
+        let turn = handed.connection.turn(self.buffer.as_mut_slice(), self.now);
+        self.end_turn(handed, turn)
+    }
+
+    /// Does what a connection's turn came to, and gives the visit where it has messages.
+    fn end_turn(&mut self, handed: HandedOut<Box<Client<'a>>>, turn: Turn) -> Option<Visit<'a>> {
+        let place = handed.place();
+        match turn {
+            Turn::Visit => return Some(Visit::new(handed)),
+            Turn::Wait => self.keep(handed),
             Turn::Again => {
-                self.keep(place, client);
+                self.keep(handed);
                 self.give_turn(place);
             }
-            Turn::Close => self.forget(place),
+            Turn::Close => self.forget(handed),
         }
         None
     }
 
-    /// Takes the connection at a place out of it.
-    fn take(&mut self, place: usize) -> Option<Box<Client<'a>>> {
-        let client = self.clients.get_mut(place)?.take()?;
-        let count = client.held();
+    /// Hands out the connection at a place.
+    fn take(&mut self, place: usize) -> Option<HandedOut<Box<Client<'a>>>> {
+        let handed = self.clients.take(place)?;
+        let count = handed.connection.held();
         self.held = self.held.saturating_sub(count);
         self.connections.let_go(count);
-        Some(client)
+        Some(handed)
     }
 
-    /// Puts a connection back to its place.
-    fn keep(&mut self, place: usize, client: Box<Client<'a>>) {
-        let count = client.held();
+    /// Takes a connection back to its place.
+    fn keep(&mut self, handed: HandedOut<Box<Client<'a>>>) {
+        let count = handed.connection.held();
+        let deadline = handed.connection.deadline();
+        self.clients.put_back(handed);
+        self.note_kept(count, deadline);
+    }
+
+    /// Notes how much is held for a connection that is there, and when it is given up.
+    fn note_kept(&mut self, count: usize, deadline: Duration) {
         self.held = self.held.saturating_add(count);
         self.connections.hold(count);
-        self.next_look = self.next_look.min(client.deadline());
-        if let Some(slot) = self.clients.get_mut(place) {
-            *slot = Some(client);
-        }
+        self.next_look = self.next_look.min(deadline);
         if self.connections.holds_too_much(self.held) {
             self.close_largest();
         }
     }
 
-    /// Empties a place, whose connection was closed.
-    fn forget(&mut self, place: usize) {
-        self.clients.try_remove(place);
+    /// Closes a connection that was handed out.
+    fn forget(&mut self, handed: HandedOut<Box<Client<'a>>>) {
+        drop(self.clients.remove(handed));
         self.connections.remove();
     }
 
     /// Closes the connection at a place.
     fn close(&mut self, place: usize) {
-        drop(self.take(place));
-        self.forget(place);
+        if let Some(handed) = self.take(place) {
+            self.forget(handed);
+        }
     }
 
     /// Closes all connections.
     pub fn close_all(&mut self) {
-        for place in 0..self.clients.capacity() {
-            if self.clients.contains(place) {
-                self.close(place);
-            }
+        for place in 0..self.clients.end() {
+            self.close(place);
         }
     }
 
@@ -233,8 +279,7 @@ impl<'a, H: Wait> EventLoop<'a, H> {
 
     /// Has the connection at a place have a turn. Without memory to note that, it is closed.
     fn give_turn(&mut self, place: usize) {
-        if let Some(slot) = self.clients.get_mut(place)
-            && let Some(client) = slot
+        if let Some(client) = self.clients.get_mut(place)
             && client.get_ready()
             && self.ready.push_back(place).is_err()
         {
@@ -297,26 +342,29 @@ impl<'a, H: Wait> EventLoop<'a, H> {
     }
 
     /// Takes a connection that was accepted. Without memory for it, it is closed.
-    fn welcome(&mut self, stream: std::net::TcpStream) -> io::Result<()> {
+    fn welcome(&mut self, socket: TcpStream) -> io::Result<()> {
         let alloc = self.rt.alloc();
-        stream.set_nonblocking(true)?;
-        stream.set_nodelay(true)?;
+        socket.set_nonblocking(true)?;
+        socket.set_nodelay(true)?;
         let log = if self.log {
             Some(RequestLog::new(self.rt))
         } else {
             None
         };
-        let mut socket = TcpStream::from_std(stream);
-        self.clients.reserve(1)?;
+        let Ok(token) = self.clients.prepare() else {
+            return Err(io::Error::from(ErrorKind::OutOfMemory));
+        };
         self.poll.registry().register(
-            &mut socket,
-            Token(self.clients.vacant_key()),
+            &mut SourceFd(&socket.as_raw_fd()),
+            Token(token),
             Interest::READABLE | Interest::WRITABLE,
         )?;
         let client = Box::new(alloc, Client::new(alloc, socket, log, self.now))?;
-        let place = self.clients.insert_reserved(None);
+        let count = client.held();
+        let deadline = client.deadline();
+        let place = self.clients.insert(client);
         self.connections.add();
-        self.keep(place, client);
+        self.note_kept(count, deadline);
         self.give_turn(place);
         Ok(())
     }
@@ -348,24 +396,16 @@ impl<'a, H: Wait> EventLoop<'a, H> {
 
     /// The place of the connection that has been idle longest, if one is idle.
     fn longest_idle(&self) -> Option<usize> {
-        let mut longest = None;
-        for (place, slot) in self.clients.iter() {
-            if let Some(client) = slot
-                && let Some(since) = client.idle_since()
-                && longest.is_none_or(|(_, first)| since < first)
-            {
-                longest = Some((place, since));
-            }
-        }
-        longest.map(|(place, _)| place)
+        self.clients
+            .first_least(|client| client.idle_since().map(|since| since.as_nanos()))
     }
 
     /// Closes the connection for which most is held.
     fn close_largest(&mut self) {
         self.connections.say_memory();
         let mut largest = None;
-        for (place, slot) in self.clients.iter() {
-            if let Some(client) = slot
+        for place in 0..self.clients.end() {
+            if let Some(client) = self.clients.get(place)
                 && largest.is_none_or(|(_, most)| client.held() > most)
             {
                 largest = Some((place, client.held()));
@@ -382,6 +422,7 @@ impl<'a, H: Wait> EventLoop<'a, H> {
         let limit = self.longest_wait();
         self.poll.poll(&mut self.events, limit)?;
         self.read_clock();
+        self.next_poll = self.now.saturating_add(Duration::from_millis(ALONE));
         let events = &self.events;
         let count = events.iter().count();
         for event in events.iter() {
@@ -429,10 +470,8 @@ impl<'a, H: Wait> EventLoop<'a, H> {
     /// Gives up the connections whose time is over, and notes when the next one's is.
     fn look(&mut self) {
         self.next_look = Duration::MAX;
-        for place in 0..self.clients.capacity() {
-            if let Some(slot) = self.clients.get(place)
-                && let Some(client) = slot
-            {
+        for place in 0..self.clients.end() {
+            if let Some(client) = self.clients.get(place) {
                 let deadline = client.deadline();
                 if deadline > self.now {
                     self.next_look = self.next_look.min(deadline);
@@ -447,14 +486,12 @@ impl<'a, H: Wait> EventLoop<'a, H> {
 /// Notes what an event says of a connection, which is to have a turn then. Without memory to note that, it waits until
 /// its time is over.
 fn note<'a>(
-    clients: &mut Slab<Option<Box<Client<'a>>>>,
+    clients: &mut ConnectionTable<Box<Client<'a>>>,
     ready: &mut VecDeque<usize>,
     event: &Event,
 ) {
     let Token(place) = event.token();
-    if let Some(slot) = clients.get_mut(place)
-        && let Some(client) = slot
-    {
+    if let Some(client) = clients.get_mut(place) {
         client.wake(event);
         if client.get_ready() && ready.push_back(place).is_err() {
             client.miss_turn();

@@ -6,7 +6,7 @@ use crate::naming::{Folder, Named};
 use crate::opening::{Opening, name_of};
 use crate::reports::{Kind, Reports};
 use sm_disk::{Disk, DiskFailed, FolderRefused};
-use sm_gather::OneReading;
+use sm_write_buffer::OneReading;
 use std::alloc::Global;
 use std::fs::{File, OpenOptions, TryLockError};
 use std::io;

@@ -1,7 +1,7 @@
 //! The edge of a connection worker over its event loop.
 ghost use Rattle.std.specs.Prelude.{◌≡◌, ◌≤◌, None};
 ghost use Rattle.sm_base.specs.Faults.{Rose};
-ghost use Rattle.sm_io.specs.Edge.{HandsOut, NoneLeft, OnAcceptEnd, OnAcceptFailed, TakesFirst};
+ghost use Rattle.sm_io.specs.Edge.{HandsOut, NoneLeft, OnAcceptEnd, OnAcceptFailed, StaysUnlessAcceptFailed, TakesFirst};
 
 use crate::event_loop::EventLoop;
 use crate::visit::Visit;
@@ -43,6 +43,7 @@ impl<'a, H: Wait, N: Drop> Edge<N> for LoopEdge<'a, H> {
         ensures end { OnAcceptEnd result (NoneLeft {C = Visit} None) }
         ensures failed { OnAcceptFailed result (Rose self.old.faults self.new.faults) }
         ensures later { self.old.faults ≤ self.new.faults }
+        ensures no_other { StaysUnlessAcceptFailed result self.old.faults self.new.faults }
     {
         match self.connections.next_visit() {
             Ok(visit) => Accepted::Conn(visit),

@@ -53,13 +53,13 @@ use crate::serving::serve;
 use crate::starting::say_start;
 use sm_command_line::{Mode, Settings, WordsRefused, read_words, refusal_of};
 use sm_disk::Disk;
-use sm_gather::Gathered;
 use sm_io::{
     Clock, CountWords, FixedClock, StreamSink, StreamSource, SystemClock, SystemRandom, Words,
 };
 use sm_model::{Fails, Moment, NoMemory};
 use sm_rotator::Rotator;
 use sm_server::{Status, run_once};
+use sm_write_buffer::Gathered;
 use std::alloc::Global;
 use std::env::Env;
 use std::io::ErrorKind;

@@ -1,12 +1,13 @@
 //! A connection while its messages are answered.
 ghost use Rattle.std.specs.Prelude.{◌≡◌, ◌<◌, ◌≤◌, length, None};
 ghost use Rattle.sm_base.specs.Faults.{Rose};
-ghost use Rattle.sm_io.specs.Sink.{IfPut, OnPutFailed, Puts};
-ghost use Rattle.sm_io.specs.Source.{IfGot, OnEnd, OnTakeFailed, Takes};
+ghost use Rattle.sm_io.specs.Sink.{IfPut, OnPutFailed, Puts, StaysUnlessPutFailed};
+ghost use Rattle.sm_io.specs.Source.{IfGot, OnEnd, OnTakeFailed, StaysUnlessTakeFailed, Takes};
 ghost use Rattle.std.specs.Io.KnownBytes.{IsAtEnd};
 
 use crate::client::Client;
 use sm_io::{Conn, Gave, Sink, Source, Took};
+use sm_visits::HandedOut;
 use std::io;
 use std::io::{Read, Write};
 
@@ -14,19 +15,17 @@ use std::io::{Read, Write};
 /// end, and takes each reply whole: a worker never waits for its client. It tells no content.
 #[derive(Drop)]
 pub struct Visit<'a> {
-    /// Its place in the event loop.
-    pub place: usize,
-    pub client: Box<Client<'a>>,
+    /// The connection, with its place in the event loop.
+    pub handed: HandedOut<Box<Client<'a>>>,
     read_faults: u64,
     write_faults: u64,
 }
 
 impl<'a> Visit<'a> {
-    /// A visit of the connection at this place.
-    pub fn new(place: usize, client: Box<Client<'a>>) -> Visit<'a> {
+    /// A visit of a connection that was handed out.
+    pub fn new(handed: HandedOut<Box<Client<'a>>>) -> Visit<'a> {
         Visit {
-            place,
-            client,
+            handed,
             read_faults: 0,
             write_faults: 0,
         }
@@ -40,7 +39,7 @@ impl<'a> Visit<'a> {
 
 impl<'a> Read for Visit<'a> {
     fn read(&mut self, buf: &mut [u8]) -> io::Result<usize> {
-        let answer = self.client.give(buf);
+        let answer = self.handed.connection.give(buf);
         if answer.is_err() {
             self.read_faults = self.read_faults.saturating_add(1);
         }
@@ -50,7 +49,7 @@ impl<'a> Read for Visit<'a> {
 
 impl<'a> Write for Visit<'a> {
     fn write(&mut self, piece: &[u8]) -> io::Result<usize> {
-        let answer = self.client.reply(piece);
+        let answer = self.handed.connection.reply(piece);
         if answer.is_err() {
             self.write_faults = self.write_faults.saturating_add(1);
         }
@@ -78,12 +77,13 @@ impl<'a> Source for Visit<'a> {
         ensures end { OnEnd result (IsAtEnd None) }
         ensures failed { OnTakeFailed result (Rose self.old.read_faults self.new.read_faults) }
         ensures later { self.old.read_faults ≤ self.new.read_faults }
+        ensures no_other { StaysUnlessTakeFailed result self.old.read_faults self.new.read_faults }
         ensures beside { self.new.write_faults ≡ self.old.write_faults }
     {
         if buf.is_empty() {
             return Took::Got(0);
         }
-        match self.client.give(buf) {
+        match self.handed.connection.give(buf) {
             Ok(0) => Took::End,
             Ok(count) => Took::Got(count.min(buf.len())),
             Err(_) => {
@@ -107,12 +107,13 @@ impl<'a> Sink for Visit<'a> {
         ensures bytes { Puts result piece.now None None }
         ensures failed { OnPutFailed result (Rose self.old.write_faults self.new.write_faults) }
         ensures later { self.old.write_faults ≤ self.new.write_faults }
+        ensures no_other { StaysUnlessPutFailed result self.old.write_faults self.new.write_faults }
         ensures beside { self.new.read_faults ≡ self.old.read_faults }
     {
         if piece.is_empty() {
             return Gave::Put(0);
         }
-        match self.client.reply(piece) {
+        match self.handed.connection.reply(piece) {
             Ok(()) => Gave::Put(piece.len()),
             Err(_) => {
                 self.write_faults = self.write_faults.saturating_add(1);

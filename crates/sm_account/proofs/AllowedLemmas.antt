@@ -7,7 +7,7 @@ use Rattle.sm_model.specs.declared.rows.Rows.{Rows}
 use Rattle.sm_core.specs.Effects.{effect}
 use Rattle.sm_core.specs.Histories.{replay}
 use Rattle.sm_core.specs.Vouching.{EachAllowed}
-use Rattle.sm_opening.specs.Lawful.{made_of}
+use Rattle.sm_recovery.specs.Lawful.{made_of}
 use Rattle.sm_rotation.specs.Vouched.{Replies}
 use Rattle.sm_store.specs.Held.{Held}
 use Rattle.sm_account.specs.declared.account_state.AccountState.{AccountState}

@@ -22,6 +22,7 @@ nothing_done inner seat = record {
   any_moment = refl;
   later = omega arith;
   fault = tt;
+  no_other = refl;
 }
 
 -- only room was taken
@@ -40,6 +41,7 @@ module _ {D : Type 0} {G : Ghosts D} (old new : AccountState D G) (seat : ℕ)
     any_moment = ap (λ (b : AccountState D G). b.store) rest;
     later = omega (arith, ap (λ (b : AccountState D G). G.faults (disk_in b)) rest);
     fault = tt;
+    no_other = ap (λ (b : AccountState D G). G.faults (disk_in b)) rest;
   }
 
 -- a claim was added
@@ -60,6 +62,7 @@ module _ {D : Type 0} {G : Ghosts D} (old new : AccountState D G) (seat : ℕ)
     any_moment = ap (λ (b : AccountState D G). b.store) rest;
     later = omega (arith, ap (λ (b : AccountState D G). G.faults (disk_in b)) rest);
     fault = tt;
+    no_other = ap (λ (b : AccountState D G). G.faults (disk_in b)) rest;
   }
 
 -- room for an entry changes nothing that is told
@@ -99,6 +102,7 @@ module _ {D : Type 0} {G : Ghosts D} (old mid new : AccountState D G) (seat : �
         any_moment = leaves_at (tried_by call_outcome) r.any_moment;
         later = r.later;
         fault = r.fault;
+        no_other = r.no_other;
       }
 
 -- an entry was made, or the disk failed at it
@@ -107,8 +111,8 @@ module _ {D : Type 0} {G : Ghosts D} (old new : AccountState D G) (seat : ℕ) (
     (any_moment : Throughout G (all_held old) old.failed.value entry (disk_in old) (disk_in new))
     (later : G.faults (disk_in old) ≤ G.faults (disk_in new)) where
   pub entry_made : history_in new ≡ history_in old ++ (seat, Entry entry) ∷ [] → new.failed.value ≡ None
-      → Leaves G old new seat (Made entry)
-  entry_made history sure = record {
+      → G.faults (disk_in new) ≡ G.faults (disk_in old) → Leaves G old new seat (Made entry)
+  entry_made history sure same = record {
     history = history;
     origin = origin;
     stays = tt;
@@ -116,6 +120,7 @@ module _ {D : Type 0} {G : Ghosts D} (old new : AccountState D G) (seat : ℕ) (
     any_moment = any_moment;
     later = later;
     fault = tt;
+    no_other = same;
   }
 
   pub entry_failed : history_in new ≡ history_in old ++ (seat, Fault) ∷ [] → state_in new ≡ state_in old
@@ -129,6 +134,7 @@ module _ {D : Type 0} {G : Ghosts D} (old new : AccountState D G) (seat : ℕ) (
     any_moment = any_moment;
     later = later;
     fault = rose;
+    no_other = tt;
   }
 
 -- an entry whose write failed is there after a call only where one was before, or where the disk failed

@@ -14,8 +14,8 @@ use Rattle.sm_claims.proofs.LiveClaimLemmas.{ready_alike}
 use Rattle.sm_claims.specs.Works.{AreWorkOf, IsWorkOf, IsWorkOfJob}
 use Rattle.sm_rotation.specs.Step.{at_of}
 use Rattle.sm_rotator.specs.declared.work.Work.{Work}
-use Rattle.sm_opening.specs.Lawful.{IsLawful, MayFollowIf}
-use Rattle.sm_store.specs.BaseStores as stores
+use Rattle.sm_recovery.specs.Lawful.{IsLawful, MayFollowIf}
+use Rattle.sm_store.specs.Stores as stores
 use Rattle.sm_store.specs.Held.{Held}
 use Rattle.sm_account.specs.declared.account_state.AccountState.{AccountState}
 use Rattle.sm_account.specs.declared.next_work.NextWork.TheVariants as works

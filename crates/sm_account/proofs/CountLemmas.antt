@@ -4,11 +4,11 @@ use Rattle.std.proofs.Math.Logic.{∥∥₁_elim}
 use Rattle.std.proofs.Props.{props}
 use native.Mathlib.Bridge.{le_prop}
 use Rattle.sm_disk.specs.declared.disk.Disk.{Ghosts}
-use Rattle.sm_opening.specs.Lawful.{base_under}
+use Rattle.sm_recovery.specs.Lawful.{base_under}
 use Rattle.sm_record.specs.declared.base.Base.{Base}
-use Rattle.sm_opening.specs.Following.{entries_limit}
-use Rattle.sm_opening.proofs.FollowLemmas.{after_count}
-use Rattle.sm_sound.specs.Bases.{IsSound}
+use Rattle.sm_recovery.specs.Following.{entries_limit}
+use Rattle.sm_recovery.proofs.FollowLemmas.{after_count}
+use Rattle.sm_base_check.specs.Bases.{IsSound}
 use Rattle.sm_table.proofs.PropLemmas.{Sound-prop}
 use Rattle.sm_account.specs.declared.account_state.AccountState.{AccountState}
 use Rattle.sm_account.specs.AccountState.{Kept, history_in, state_in}

@@ -10,10 +10,12 @@ use Rattle.sm_account.specs.AccountState.{Kept}
 use Rattle.sm_account.specs.KeptOnce.{Kept-prop}
 
 pub doors_alone : {D R : Type 0} {G : Ghosts D} {V : RotatorGhosts R} (old new : Account D R G V) (doors : ℕ)
-    → new.inner ≡ old.inner → new.rotator ≡ old.rotator → new.doors ≡ doors → new ≡ record old { doors = doors }
-doors_alone {G = G} {V = V} old new doors inner rotator is = λ i. record {
+    → new.inner ≡ old.inner → new.rotator ≡ old.rotator → new.doors ≡ doors
+    → new.doors_at_opening ≡ old.doors_at_opening → new ≡ record old { doors = doors }
+doors_alone {G = G} {V = V} old new doors inner rotator is opening = λ i. record {
   inner = inner i;
   doors = is i;
+  doors_at_opening = opening i;
   rotator = rotator i;
   kept = is_prop→PathP (λ i. Kept G (inner i)) (λ i. Kept-prop (inner i)) new.kept old.kept i;
   allowed = is_prop→PathP (λ i. ∥ EntriesAllowed V.replies (inner i) ∥₁) (λ i. ∥∥₁_prop) new.allowed old.allowed i;

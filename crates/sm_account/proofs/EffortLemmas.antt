@@ -13,7 +13,7 @@ use Rattle.sm_model.specs.declared.entry.Answer.{Answer}
 use Rattle.sm_model.specs.declared.entry.At.{At}
 use Rattle.sm_model.specs.declared.entry.Entry.{Entry as entries}
 use Rattle.sm_model.specs.declared.rows.SecretRow.{SecretRow}
-use Rattle.sm_opening.specs.Following.{entries_limit}
+use Rattle.sm_recovery.specs.Following.{entries_limit}
 use Rattle.sm_rotator.specs.declared.work.Work.{Work}
 use Rattle.sm_table.specs.Found.{found_arn}
 use Rattle.sm_account.specs.declared.account_state.AccountState.{AccountState}

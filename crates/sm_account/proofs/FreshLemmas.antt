@@ -3,7 +3,7 @@ use Rattle.std.proofs.Common.{ℕ, Option, IfSome, sym, subst}
 use Rattle.sm_disk.specs.declared.disk.Disk.{Ghosts}
 use Rattle.sm_model.specs.declared.entry.Entry.{Entry}
 use Rattle.sm_core.specs.Vouching.{EachAllowed}
-use Rattle.sm_opening.specs.declared.opened.Opened.{Opened}
+use Rattle.sm_recovery.specs.declared.opened.Opened.{Opened}
 use Rattle.sm_rotation.specs.Vouched.{Replies}
 use Rattle.sm_account.specs.declared.account_state.AccountState.{AccountState}
 use Rattle.sm_account.specs.Allowed.{EntriesAllowed, IsAllowedAt}

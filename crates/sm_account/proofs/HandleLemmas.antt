@@ -10,9 +10,9 @@ use Rattle.sm_model.specs.declared.reply.Reply.{Reply}
 use Rattle.sm_model.specs.declared.why.What.TheVariants.{Entries, JournalBytes}
 use Rattle.sm_model.specs.declared.why.Why.{Why}
 use Rattle.sm_model.specs.declared.why.Why.TheVariants.{Limit}
-use Rattle.sm_judging.specs.declared.judged.Judged.{Judged}
-use Rattle.sm_judging.specs.declared.judged.Judged.TheVariants as judged
-use Rattle.sm_judging.specs.Judged.{judged_told}
+use Rattle.sm_judge_common.specs.declared.judged.Judged.{Judged}
+use Rattle.sm_judge_common.specs.declared.judged.Judged.TheVariants as judged
+use Rattle.sm_judge_common.specs.Judged.{judged_told}
 use Rattle.sm_account.specs.declared.account_state.AccountState.{AccountState}
 use Rattle.sm_account.specs.declared.entering.Entered.TheVariants as ends
 use Rattle.sm_account.specs.declared.entering.Passed.{Passed}

@@ -3,10 +3,10 @@ use Rattle.std.proofs.Common.{◌≡◌, ◌+◌, ◌≤◌, List, [], ◌∷◌
 use Rattle.sm_base.specs.declared.moment.TheConstants.{LAST_READING}
 use Rattle.sm_core.specs.Histories.{InTime, Legal, last_moment, replay}
 use Rattle.sm_model.specs.declared.entry.Entry.{Entry}
-use Rattle.sm_opening.specs.Lawful.{IsLawful, MayFollow, base_under, made_of}
+use Rattle.sm_recovery.specs.Lawful.{IsLawful, MayFollow, base_under, made_of}
 use Rattle.sm_record.specs.declared.base.Base.{Base}
-use Rattle.sm_opening.specs.Following.{after_all, after_entry}
-use Rattle.sm_opening.proofs.FollowLemmas.{after_count, after_joined, after_last, after_rows, come_more}
+use Rattle.sm_recovery.specs.Following.{after_all, after_entry}
+use Rattle.sm_recovery.proofs.FollowLemmas.{after_count, after_joined, after_last, after_rows, come_more}
 use Rattle.sm_store.specs.Held.{Held, with_entry}
 use Rattle.sm_account.specs.AccountState.{with_entries}
 

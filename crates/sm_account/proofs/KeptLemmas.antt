@@ -15,11 +15,11 @@ use Rattle.sm_table.specs.Sweep.{sweep}
 use Rattle.sm_core.specs.Effects.{effect}
 use Rattle.sm_core.specs.Histories.{LegalEntry}
 use Rattle.sm_disk.specs.declared.disk.Disk.{Ghosts}
-use Rattle.sm_opening.specs.Lawful.{IsLawful, MayFollow, MayFollowIf, base_under, made_of}
-use Rattle.sm_opening.specs.Following.{entries_limit}
-use Rattle.sm_opening.proofs.FollowLemmas.{one_comes}
-use Rattle.sm_store.specs.BaseAppends.{SamePlace}
-use Rattle.sm_store.specs.BaseStores as stores
+use Rattle.sm_recovery.specs.Lawful.{IsLawful, MayFollow, MayFollowIf, base_under, made_of}
+use Rattle.sm_recovery.specs.Following.{entries_limit}
+use Rattle.sm_recovery.proofs.FollowLemmas.{one_comes}
+use Rattle.sm_store.specs.Appends.{SamePlace}
+use Rattle.sm_store.specs.Stores as stores
 use Rattle.sm_store.specs.Held.{Held, with_entry}
 use Rattle.sm_account.specs.declared.account_state.AccountState.{AccountState}
 use Rattle.sm_account.specs.declared.writing.Written.TheVariants as written

@@ -8,17 +8,17 @@ use Rattle.sm_model.specs.declared.entry.Mark.TheVariants.{Entry, Fault}
 use Rattle.sm_table.specs.Changes.{changed}
 use Rattle.sm_table.specs.Sound.{Sound}
 use Rattle.sm_table.specs.Sweep.{sweep}
-use Rattle.sm_opening.specs.Lawful.{MayFollowIf}
-use Rattle.sm_store.specs.BaseAppends.{SamePlace}
-use Rattle.sm_store.specs.BaseStores as stores
-use Rattle.sm_store.specs.declared.base_store.BaseStore.{BaseStore}
+use Rattle.sm_recovery.specs.Lawful.{MayFollowIf}
+use Rattle.sm_store.specs.Appends.{SamePlace}
+use Rattle.sm_store.specs.Stores as stores
+use Rattle.sm_store.specs.declared.store.Store.{Store}
 use Rattle.sm_account.specs.declared.account_state.AccountState.{AccountState}
 use Rattle.sm_account.specs.declared.writing.Written.TheVariants as written
 use Rattle.sm_account.specs.AccountState.{history_in, disk_in, all_held, state_in, Kept, IsDueAt, SameOrigin}
 use Rattle.sm_account.specs.Writing.{WritesAs}
 use Rattle.sm_account.proofs.KeptLemmas.{Continues, kept_made, kept_faulted, state_stays, may_follow}
 
-module _ {D : Type 0} {G : Ghosts D} (old new : AccountState D G) (store : BaseStore D G) (seat : ℕ) (kept : Kept G old)
+module _ {D : Type 0} {G : Ghosts D} (old new : AccountState D G) (store : Store D G) (seat : ℕ) (kept : Kept G old)
     (place : SamePlace old.store store) where
   -- the entry was written, its change made, and the mark added
   module _ (entry : entries) (ready : List ℕ) (change : Change) (due : IsDueAt old entry ready change)

@@ -8,16 +8,16 @@ use Rattle.sm_journal.specs.Records.{size}
 use Rattle.sm_journal.specs.declared.format.Format.{Format}
 use Rattle.sm_journal.specs.declared.format.Format.TheVariants as formats
 use Rattle.sm_model.specs.declared.entry.Entry.{Entry}
-use Rattle.sm_opening.specs.Keeping.{StateStays}
-use Rattle.sm_opening.specs.Lawful.{IsLawful, MayFollowIf, base_under, made_of}
-use Rattle.sm_opening.specs.Openings.{Opens}
-use Rattle.sm_opening.specs.declared.opened.Opened.{Opened}
+use Rattle.sm_recovery.specs.Keeping.{StateStays}
+use Rattle.sm_recovery.specs.Lawful.{IsLawful, MayFollowIf, base_under, made_of}
+use Rattle.sm_recovery.specs.Openings.{Opens}
+use Rattle.sm_recovery.specs.declared.opened.Opened.{Opened}
 use Rattle.sm_record.specs.declared.base.Base.{Base}
 use Rattle.sm_rotator.specs.declared.rotator.Rotator.{Ghosts as RotatorGhosts}
-use Rattle.sm_sound.specs.Bases.{IsSound}
-use Rattle.sm_store.specs.BaseStores as stores
+use Rattle.sm_base_check.specs.Bases.{IsSound}
+use Rattle.sm_store.specs.Stores as stores
 use Rattle.sm_store.specs.Held.{Held, bodies_in, edition_of}
-use Rattle.sm_store.specs.declared.base_store.BaseStore.{BaseStore}
+use Rattle.sm_store.specs.declared.store.Store.{Store}
 use Rattle.sm_table.specs.Sound.{Sound}
 use Rattle.sm_account.specs.declared.account.Account.{Account}
 use Rattle.sm_account.specs.declared.account_state.AccountState.{AccountState}
@@ -67,7 +67,7 @@ module _ {D : Type 0} {G : Ghosts D} (opened : Opened D G) (limit : ℕ)
       let last = is.last ∙ ap (λ (b : Base). b.last) replayed in
       let before = ap (λ (t : Held). (made_of t).entries) is.taken_is in
       let bytes : stores.length_of inner.store ≡ 9 + size (bodies_in (edition_of formats.Second) opened.taken) + 0 =
-      omega (arith, ap (λ (s : BaseStore D G). stores.length_of s) is.store_is, length_is) in
+      omega (arith, ap (λ (s : Store D G). stores.length_of s) is.store_is, length_is) in
       let step : state_in inner ≡ state_after (base_of opened.taken limit) [] = λ i. record {
         rows = rows i;
         last = last i;
@@ -92,7 +92,7 @@ module _ {D : Type 0} {G : Ghosts D} (opened : Opened D G) (limit : ℕ)
   faults_is =
       let none : faults_in (history_in inner) ≡ 0 = ap faults_in is.history_is in
       let same : G.faults (disk_in inner) ≡ G.faults (stores.disk_of opened.store) =
-      ap (λ (s : BaseStore D G). G.faults (stores.disk_of s)) is.store_is in
+      ap (λ (s : Store D G). G.faults (stores.disk_of s)) is.store_is in
       omega (arith, none, same, later)
 
   pub opened_kept : Kept G inner
@@ -104,10 +104,10 @@ module _ {D : Type 0} {G : Ghosts D} (opened : Opened D G) (limit : ℕ)
     whole = is.entries_are ∙ sym (ap (λ (h : Held). h.entries) all_is);
     counted = is.marks ∙ ap length (sym is.history_is);
     limit = subst (λ (n : ℕ). (9 ≤ n) × (n ≤ JOURNAL_LIMIT)) (sym is.limit_is) limits;
-    under = ap (λ (s : BaseStore D G). stores.limit_of s) is.store_is ∙ store.under ∙ sym is.limit_is;
-    second = ap (λ (s : BaseStore D G). stores.format_of s) is.store_is ∙ second;
+    under = ap (λ (s : Store D G). stores.limit_of s) is.store_is ∙ store.under ∙ sym is.limit_is;
+    second = ap (λ (s : Store D G). stores.format_of s) is.store_is ∙ second;
     state = state_is;
-    sure = ap (λ (s : BaseStore D G). stores.is_unsure s) is.store_is ∙ store.sure ∙ ap is_some (sym is.failed);
+    sure = ap (λ (s : Store D G). stores.is_unsure s) is.store_is ∙ store.sure ∙ ap is_some (sym is.failed);
     holds = holds_is;
     lawful = ∣ subst IsLawful (sym all_is) lawful ∣₁;
     next = subst (λ f. ∥ MayFollowIf (all_held inner) f ∥₁) (sym is.failed) ∣ tt ∣₁;
@@ -128,25 +128,27 @@ module _ {D R : Type 0} {G : Ghosts D} {V : RotatorGhosts R} (opened : Opened D 
 
   disk_is : accounts.disk account ≡ stores.disk_of opened.store
   disk_is = ap (λ (b : AccountState D G). stores.disk_of b.store) same
-      ∙ ap (λ (s : BaseStore D G). stores.disk_of s) are.store_is
+      ∙ ap (λ (s : Store D G). stores.disk_of s) are.store_is
 
-  pub opened_over : account.doors ≡ doors → IsOpenedOver disk doors limit account
-  opened_over are_open = record {
+  pub opened_over : account.doors ≡ doors → account.doors_at_opening ≡ doors → IsOpenedOver disk doors limit account
+  opened_over are_open at_opening = record {
     history_is = ap history_in same ∙ are.history_is;
     base_is = ap (base_of (accounts.taken account)) (ap (λ (b : AccountState D G). b.limit) same ∙ are.limit_is);
     began_is = ap (λ (b : AccountState D G). b.began.value) same ∙ are.began_is;
     sure = ap (λ (b : AccountState D G). b.failed.value) same ∙ are.sure;
     doors_are = are_open;
+    doors_at_opening_are = at_opening;
   }
 
   pub taken_over : Opens disk limit opened → StateStays (G.sight disk) (G.sight (stores.disk_of opened.store))
-      → G.faults disk ≤ G.faults (stores.disk_of opened.store)
+      → G.faults (stores.disk_of opened.store) ≡ G.faults disk
       → TakenFrom G disk limit (accounts.taken account) (accounts.disk account)
-  taken_over opens stays later = record {
+  taken_over opens stays stay = record {
     format = opens.format;
     held = opens.held;
     found = opens.found;
     takes = taken_is ∙ opens.takes.taken;
     stays = subst (λ d. StateStays (G.sight disk) (G.sight d)) (sym disk_is) stays;
-    later = subst (λ d. G.faults disk ≤ G.faults d) (sym disk_is) later;
+    later = omega (arith, ap G.faults disk_is, stay);
+    no_other = ap G.faults disk_is ∙ stay;
   }

@@ -7,8 +7,8 @@ use Rattle.sm_model.specs.declared.entry.Change.{Change}
 use Rattle.sm_model.specs.declared.entry.Entry.{Entry}
 use Rattle.sm_model.specs.declared.reply.Reply.{Reply}
 use Rattle.sm_model.specs.declared.why.Why.{Why}
-use Rattle.sm_judging.specs.Judged.{judged_told, IfChange}
-use Rattle.sm_judging.specs.declared.judged.Judged.TheVariants as judged
+use Rattle.sm_judge_common.specs.Judged.{judged_told, IfChange}
+use Rattle.sm_judge_common.specs.declared.judged.Judged.TheVariants as judged
 use Rattle.sm_account.specs.declared.account_state.AccountState.{AccountState}
 use Rattle.sm_account.specs.declared.due.Due.{Due}
 use Rattle.sm_account.specs.declared.handled.Handled.{Handled}

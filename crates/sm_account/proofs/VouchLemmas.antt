@@ -8,11 +8,11 @@ use Rattle.sm_core.specs.Effects.{when_of, effect}
 use Rattle.sm_core.specs.Histories.{LegalEntry}
 use Rattle.sm_core.specs.Vouching.{EachAllowed, Vouched}
 use Rattle.sm_core.proofs.VouchedLemmas.{act_vouched, legal_vouched}
-use Rattle.sm_opening.specs.Lawful.{IsLawful, MayFollowIf, base_under, made_of}
+use Rattle.sm_recovery.specs.Lawful.{IsLawful, MayFollowIf, base_under, made_of}
 use Rattle.sm_record.specs.declared.base.Base.{Base}
-use Rattle.sm_opening.proofs.FollowLemmas.{come_front}
-use Rattle.sm_opening.proofs.SoundLaws.{come_sound}
-use Rattle.sm_sound.specs.Bases.{IsSound}
+use Rattle.sm_recovery.proofs.FollowLemmas.{come_front}
+use Rattle.sm_recovery.proofs.SoundLaws.{come_sound}
+use Rattle.sm_base_check.specs.Bases.{IsSound}
 use Rattle.sm_account.specs.declared.account_state.AccountState.{AccountState}
 use Rattle.sm_account.specs.Allowed.{EntriesAllowed, IsAllowedAt, StayVouched}
 use Rattle.sm_account.specs.AccountState.{Kept, all_held, base_in, history_in}

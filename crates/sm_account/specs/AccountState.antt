@@ -13,10 +13,10 @@ use Rattle.sm_core.specs.Histories.{LegalEntry}
 use Rattle.sm_disk.specs.declared.disk.Disk.{Ghosts}
 use Rattle.sm_journal.specs.Records.{body_limit}
 use Rattle.sm_journal.specs.declared.format.Format.TheVariants.{Second}
-use Rattle.sm_opening.specs.Lawful.{base_under, IsLawful, MayFollowIf}
-use Rattle.sm_opening.specs.Following.{entries_limit}
-use Rattle.sm_store.specs.BaseAppends.{IsReady}
-use Rattle.sm_store.specs.BaseStores as stores
+use Rattle.sm_recovery.specs.Lawful.{base_under, IsLawful, MayFollowIf}
+use Rattle.sm_recovery.specs.Following.{entries_limit}
+use Rattle.sm_store.specs.Appends.{IsReady}
+use Rattle.sm_store.specs.Stores as stores
 use Rattle.sm_store.specs.Held.{Held}
 use Rattle.sm_account.specs.declared.account_state.AccountState.{AccountState}
 use Rattle.sm_account.specs.Claims.{ClaimsReady, ClaimsStand}

@@ -5,7 +5,7 @@ use Rattle.sm_model.specs.declared.entry.Entry.{Entry}
 use Rattle.sm_model.specs.declared.entry.Mark.{Mark}
 use Rattle.sm_model.specs.declared.rows.Rows.{Rows}
 use Rattle.sm_rotator.specs.declared.rotator.Rotator.{Ghosts as RotatorGhosts}
-use Rattle.sm_store.specs.BaseStores as stores
+use Rattle.sm_store.specs.Stores as stores
 use Rattle.sm_store.specs.Held.{Held}
 use Rattle.sm_account.specs.AccountState as inner
 use Rattle.sm_account.specs.States.{Base, State, state_at}
@@ -53,9 +53,14 @@ module _ {D R : Type 0} {G : DiskGhosts D} {V : RotatorGhosts R} where
   abbrev pub doors : Account D R G V → ℕ
   doors account = account.doors
 
+  -- how many doors were open when it was opened
+  abbrev pub doors_at_opening : Account D R G V → ℕ
+  doors_at_opening account = account.doors_at_opening
+
   -- what an account began with stays, and so do its doors
   pub record SameOrigin (old new : Account D R G V) : Type 0 where
     pub taken_stays : taken new ≡ taken old
     pub began_stays : began new ≡ began old
     pub base_stays : base new ≡ base old
     pub doors_stay : doors new ≡ doors old
+    pub opening_stays : doors_at_opening new ≡ doors_at_opening old

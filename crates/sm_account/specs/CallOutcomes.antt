@@ -40,6 +40,13 @@ IfFailed (Claimed arn at moment) P = ⊤
 IfFailed (Made entry) P = ⊤
 IfFailed (Failed entry) P = P
 
+-- a fact where it did not fail
+abbrev pub UnlessFailed : CallOutcome → Type 0 → Type 0
+UnlessFailed Nothing P = P
+UnlessFailed (Claimed arn at moment) P = P
+UnlessFailed (Made entry) P = P
+UnlessFailed (Failed entry) P = ⊤
+
 module _ {D : Type 0} {G : Ghosts D} where
   -- where no entry was tried the state and the store stay, and where the disk failed the state does
   abbrev pub StaysBy : CallOutcome → AccountState D G → AccountState D G → Type 0
@@ -74,3 +81,4 @@ pub record Leaves {D : Type 0} (G : Ghosts D) (old new : AccountState D G) (seat
   pub any_moment : LeavesTried G (tried_by call_outcome) old new
   pub later : G.faults (disk_in old) ≤ G.faults (disk_in new)
   pub fault : IfFailed call_outcome (Rose (G.faults (disk_in old)) (G.faults (disk_in new)))
+  pub no_other : UnlessFailed call_outcome (G.faults (disk_in new) ≡ G.faults (disk_in old))

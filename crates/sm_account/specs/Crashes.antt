@@ -4,7 +4,7 @@ use Rattle.sm_disk.specs.AllFiles.{LeavesBy}
 use Rattle.sm_disk.specs.Sight.{Image, Sight}
 use Rattle.sm_disk.specs.declared.disk.Disk.{Ghosts}
 use Rattle.sm_model.specs.declared.entry.Entry.{Entry}
-use Rattle.sm_opening.specs.Lawful.{IsLawful, MayFollowIf}
+use Rattle.sm_recovery.specs.Lawful.{IsLawful, MayFollowIf}
 use Rattle.sm_store.specs.Held.{Held, RecoveredEither}
 
 -- a crash at any moment since old leaves each image with this, or with it and one entry more, if there is one

@@ -4,7 +4,7 @@ use Rattle.sm_disk.specs.declared.disk.Disk.{Ghosts}
 use Rattle.sm_journal.specs.Records.{body_limit}
 use Rattle.sm_model.specs.declared.entry.Change.{Change}
 use Rattle.sm_model.specs.declared.entry.Entry.{Entry}
-use Rattle.sm_store.specs.BaseAppends.{IsReady}
+use Rattle.sm_store.specs.Appends.{IsReady}
 use Rattle.sm_account.specs.declared.account_state.AccountState.{AccountState}
 use Rattle.sm_account.specs.declared.due.Due.{Due}
 

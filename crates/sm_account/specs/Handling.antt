@@ -12,7 +12,7 @@ use Rattle.sm_table.specs.Sweep.{sweep}
 use Rattle.sm_core.specs.Effects.{Makes}
 use Rattle.sm_core.specs.Histories.{LegalEntry}
 use Rattle.sm_encoded_size.specs.Spellable.{IsSpellable}
-use Rattle.sm_store.specs.BaseAppends.{IsReady}
+use Rattle.sm_store.specs.Appends.{IsReady}
 use Rattle.sm_account.specs.declared.account_state.AccountState.{AccountState}
 use Rattle.sm_account.specs.declared.due.Due.{Due}
 use Rattle.sm_account.specs.declared.handled.Handled.{Handled}

@@ -2,10 +2,10 @@
 use Rattle.std.specs.Prelude.{◌≡◌, ◌≤◌, ℕ, [], None}
 use Rattle.sm_disk.specs.declared.disk.Disk.{Ghosts}
 use Rattle.sm_journal.specs.declared.format.Format.{Format}
-use Rattle.sm_opening.specs.Keeping.{StateStays}
-use Rattle.sm_opening.specs.Openings.{IsFound}
-use Rattle.sm_opening.specs.Replacing.{taken_of}
-use Rattle.sm_opening.specs.declared.opened.Opened.{Opened}
+use Rattle.sm_recovery.specs.Keeping.{StateStays}
+use Rattle.sm_recovery.specs.Openings.{IsFound}
+use Rattle.sm_recovery.specs.Replacing.{taken_of}
+use Rattle.sm_recovery.specs.declared.opened.Opened.{Opened}
 use Rattle.sm_rotator.specs.declared.rotator.Rotator.{Ghosts as RotatorGhosts}
 use Rattle.sm_store.specs.Held.{Held}
 use Rattle.sm_account.specs.declared.account.Account.{Account}
@@ -23,9 +23,10 @@ pub record IsOpenedOver {D R : Type 0} {G : Ghosts D} {V : RotatorGhosts R} (dis
   pub began_is : accounts.began account ≡ disk
   pub sure : accounts.failed account ≡ None
   pub doors_are : accounts.doors account ≡ doors
+  pub doors_at_opening_are : accounts.doors_at_opening account ≡ doors
 
 -- What an opening of a disk took: what was found on it, or the state that this makes as a base; and a crash at any
--- moment of the opening leaves each image with the state that it had.
+-- moment of the opening leaves each image with the state that it had. The count of faults stays.
 pub record TakenFrom {D : Type 0} (G : Ghosts D) (old : D) (limit : ℕ) (taken : Held) (now : D) : Type 0 where
   pub format : Format
   pub held : Held
@@ -33,6 +34,7 @@ pub record TakenFrom {D : Type 0} (G : Ghosts D) (old : D) (limit : ℕ) (taken 
   pub takes : taken ≡ taken_of format limit held
   pub stays : StateStays (G.sight old) (G.sight now)
   pub later : G.faults old ≤ G.faults now
+  pub no_other : G.faults now ≡ G.faults old
 
 -- the account's state over a disk that was opened
 pub record IsAccountStateOver {D : Type 0} (G : Ghosts D) (opened : Opened D G) (began : D) (limit : ℕ)

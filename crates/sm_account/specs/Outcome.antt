@@ -15,12 +15,12 @@ use Rattle.sm_model.specs.declared.why.Why.TheVariants as whys
 use Rattle.sm_versions.specs.Prune.{pruning}
 use Rattle.sm_forms.specs.Forms.{forms_of}
 use Rattle.sm_access.specs.Admission.{admission}
-use Rattle.sm_judging.specs.declared.judged.Judged.{Judged}
-use Rattle.sm_judging.specs.declared.judged.Judged.TheVariants.{Accept, Refuse, Memory}
+use Rattle.sm_judge_common.specs.declared.judged.Judged.{Judged}
+use Rattle.sm_judge_common.specs.declared.judged.Judged.TheVariants.{Accept, Refuse, Memory}
 use Rattle.sm_core.specs.Effects.{entry_of}
 use Rattle.sm_core.specs.Histories.{later}
 use Rattle.sm_core.specs.Judging.{judgement_for}
-use Rattle.sm_opening.specs.Following.{entries_limit}
+use Rattle.sm_recovery.specs.Following.{entries_limit}
 use Rattle.sm_account.specs.States.{State, size_of}
 
 -- a refusal, or a reply and the entry that is due

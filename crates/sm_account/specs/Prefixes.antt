@@ -3,8 +3,8 @@ use Rattle.std.specs.Prelude.{List, ◌++◌}
 use Rattle.sm_core.specs.Histories.{InTime}
 use Rattle.sm_model.specs.declared.entry.Entry.{Entry}
 use Rattle.sm_record.specs.declared.base.Base.{Base}
-use Rattle.sm_opening.specs.Following.{after_all, MayCome}
-use Rattle.sm_sound.specs.Bases.{IsSound}
+use Rattle.sm_recovery.specs.Following.{after_all, MayCome}
+use Rattle.sm_base_check.specs.Bases.{IsSound}
 
 -- where all entries may follow a sound base, and a clock can give the moment of each, those up to any place may follow
 -- it, and what they make is sound

@@ -7,7 +7,7 @@ use Rattle.sm_model.specs.declared.rows.Rows.{Rows}
 use Rattle.sm_core.specs.Effects.{effect}
 use Rattle.sm_core.specs.Histories.{replay, last_moment}
 use Rattle.sm_journal.specs.Records.{record_size, size}
-use Rattle.sm_opening.specs.Lawful.{made_of}
+use Rattle.sm_recovery.specs.Lawful.{made_of}
 use Rattle.sm_record.specs.Spelling.{spelling}
 use Rattle.sm_record.specs.declared.edition.Edition.TheVariants.{Second}
 use Rattle.sm_store.specs.Held.{Held, bodies_in}

@@ -11,6 +11,7 @@ use crate::handling::handle;
 use crate::next_work::{NextWork, next_work};
 use crate::report::{Reported, report};
 use crate::start_due::{StartedDue, start_due};
+use crate::tested::TestedRequest;
 use sm_claims::has_due;
 use sm_disk::Disk;
 use sm_model::{Entry, Label, Moment, Person, Request, SecretId, Value};
@@ -25,6 +26,7 @@ use std::marker::PhantomData;
 pub struct Account<D: Disk, R: Rotator> {
     inner: AccountState<D>,
     doors: u32,
+    doors_at_opening: u32,
     rotator: PhantomData<R>,
     ghost kept: { Kept D.Disk inner } by { Kept-prop inner },
     ghost allowed: { ∥ EntriesAllowed R.replies inner ∥₁ },
@@ -36,6 +38,7 @@ impl<D: Disk + Drop, R: Rotator> Drop for Account<D, R> {
         let Account {
             inner: _,
             doors: _,
+            doors_at_opening: _,
             rotator: _,
         } = self;
     }
@@ -45,8 +48,8 @@ impl<D: Disk, R: Rotator> Account<D, R> {
     ghost use Rattle.std.specs.Prelude.{◌≡◌, ◌≤◌, ◌-◌, ◌++◌, length, is_some, option_copied, slice_get};
     ghost use Rattle.sm_base.specs.declared.moment.TheConstants.{LAST_READING};
     ghost use Rattle.sm_model.specs.Needed.{needed};
-    ghost use Rattle.sm_opening.specs.Lawful.{base_under, made_of};
-    ghost use Rattle.sm_sound.specs.Bases.{IsSound};
+    ghost use Rattle.sm_recovery.specs.Lawful.{base_under, made_of};
+    ghost use Rattle.sm_base_check.specs.Bases.{IsSound};
     ghost use Rattle.sm_table.specs.Sound.{Sound};
     ghost use Rattle.sm_account.specs.Accounts.{history, base, state, rows, disk, began, taken, all_of, failed, is_unsure, doors, SameOrigin};
     ghost use Rattle.sm_account.specs.AccountState.{FaultsBound, faults_of};
@@ -70,10 +73,12 @@ impl<D: Disk, R: Rotator> Account<D, R> {
         requires allowed { ∥ EntriesAllowed R.replies inner ∥₁ }
         ensures inner { result.inner ≡ inner }
         ensures doors { result.doors ≡ doors }
+        ensures at_opening { result.doors_at_opening ≡ doors }
     {
         Account {
             inner,
             doors,
+            doors_at_opening: doors,
             rotator: PhantomData,
         }
     }
@@ -113,7 +118,38 @@ impl<D: Disk, R: Rotator> Account<D, R> {
             (record { person = person.now; now = now; drawn = drawn.now; request = request.now }))) }
         ensures origin { SameOrigin self.old self.new }
     {
-        handle(&mut self.inner, seat, person, now, drawn, request)
+        let tested = TestedRequest::new(self.inner.alloc, request);
+        self.handle_tested(seat, person, now, drawn, tested)
+    }
+
+    /// Answers a request as `handle` does, whose forms were tested before.
+    pub fn handle_tested(
+        &mut self,
+        seat: u32,
+        person: &Person,
+        now: Moment,
+        drawn: &[u8],
+        tested: TestedRequest<'_>,
+    ) -> Handled
+        requires bound { now.0 ≤ LAST_READING }
+        requires drawn { length drawn.now ≡ needed (tested.request.now) }
+        requires person { HasShortTexts person.now }
+
+        // The answer is that at the history, and the history goes on by its mark.
+        ensures handled { HandledAs result (outcome (state self.old)
+            (record { person = person.now; now = now; drawn = drawn.now; request = tested.entry.request.now })) }
+        ensures history { history self.new ≡ history self.old ++ by_seat seat (marks_of result
+            (outcome (state self.old)
+            (record { person = person.now; now = now; drawn = drawn.now; request = tested.entry.request.now }))) }
+
+        // A refusal and want of memory leave rows, journal and disk. Once an entry is acknowledged the tail is sure; a
+        // fault of the disk leaves the rows, and the tail is unsure.
+        ensures leaves { Leaves D.Disk self.old.inner self.new.inner seat (handled_by result
+            (outcome (state self.old)
+            (record { person = person.now; now = now; drawn = drawn.now; request = tested.entry.request.now }))) }
+        ensures origin { SameOrigin self.old self.new }
+    {
+        handle(&mut self.inner, seat, person, now, drawn, tested)
     }
 
     /// Claims the first step of a rotation that is ready at a reading of the clock, in order of the secrets' creation:
@@ -266,6 +302,7 @@ impl<D: Disk, R: Rotator> Account<D, R> {
         let Account {
             inner,
             doors: _,
+            doors_at_opening: _,
             rotator: _,
         } = self;
         let AccountState { store, .. } = inner;

@@ -3,9 +3,9 @@ use crate::told::Told;
 use sm_claims::Claim;
 use sm_disk::Disk;
 use sm_model::{Entry, Moment};
-use sm_opening::Taken;
 use sm_record::Base;
-use sm_store::BaseStore;
+use sm_recovery::Taken;
+use sm_store::Store;
 use sm_table::Table;
 use std::alloc::Global;
 use std::snapshot::Snapshot;
@@ -15,7 +15,7 @@ use std::snapshot::Snapshot;
 pub struct AccountState<D: Disk> {
     pub alloc: Global,
     pub table: Table,
-    pub store: BaseStore<D>,
+    pub store: Store<D>,
     /// What the entries are counted from.
     pub base: Base,
     /// The entries behind the base: those that were taken from the disk at the opening, and then those made since.

@@ -1,7 +1,7 @@
 //! Entering what is due: an entry is made, unless it would pass a limit or the disk fails.
 ghost use Rattle.std.specs.Prelude.{◌≡◌, ◌≤◌, length, IfOk};
 ghost use Rattle.sm_journal.specs.Records.{body_limit};
-ghost use Rattle.sm_store.specs.BaseAppends.{IsReady};
+ghost use Rattle.sm_store.specs.Appends.{IsReady};
 ghost use Rattle.sm_account.specs.AccountState.{Kept, state_in};
 ghost use Rattle.sm_account.specs.CallOutcomes.{Leaves};
 ghost use Rattle.sm_account.specs.Growing.{HasCapacity};

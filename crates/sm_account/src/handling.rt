@@ -13,9 +13,10 @@ use crate::due::Due;
 use crate::entering::{Entered, enter_due};
 use crate::growing::grow_request;
 use crate::handled::Handled;
+use crate::tested::TestedRequest;
 use sm_core::Judged;
 use sm_disk::Disk;
-use sm_model::{Moment, Person, Reply, Request, Why};
+use sm_model::{Moment, Person, Reply, Why};
 use sm_table::Block;
 
 /// Answers a request of a person at a reading of the clock, with the random bytes that were drawn for it.
@@ -25,22 +26,23 @@ pub fn handle<D: Disk>(
     person: &Person,
     now: Moment,
     drawn: &[u8],
-    request: &Request,
+    tested: TestedRequest<'_>,
 ) -> Handled
     requires kept { Kept D.Disk inner.old }
     requires bound { now.0 ≤ LAST_READING }
-    requires drawn { length drawn.now ≡ needed request.now }
+    requires drawn { length drawn.now ≡ needed tested.request.now }
     requires person { HasShortTexts person.now }
     ensures kept { Kept D.Disk inner.new }
     ensures handles { Handles D.Disk inner.old inner.new seat result (outcome (state_in inner.old) (record {
       person = person.now;
       now = now;
       drawn = drawn.now;
-      request = request.now;
+      request = tested.entry.request.now;
     })) }
 {
     let moment = Moment(inner.last.0.max(now.0));
-    match consider(inner.alloc, &inner.table, person, moment, drawn, request) {
+    let request = tested.request;
+    match consider(inner.alloc, &inner.table, person, moment, drawn, tested) {
         Judged::Accept(reply, change) => match change {
             None => Handled::Answered(reply),
             Some(change) => match grow_request(inner, person, moment, drawn, request, change) {

@@ -18,6 +18,7 @@ mod opening;
 pub mod report;
 pub mod start_due;
 pub mod storied;
+pub mod tested;
 mod told;
 mod writing;
 
@@ -28,3 +29,4 @@ pub use report::Reported;
 pub use sm_journal::{Damage, OpenRefused};
 pub use start_due::StartedDue;
 pub use storied::Opened;
+pub use tested::TestedRequest;

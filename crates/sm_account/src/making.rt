@@ -10,9 +10,9 @@ ghost use Rattle.sm_account.specs.AccountState.{Kept, IsDueAt, SameOrigin, all_h
 ghost use Rattle.sm_account.specs.Crashes.{Throughout};
 ghost use Rattle.sm_account.specs.Growing.{HasCapacity};
 ghost use Rattle.sm_account.specs.Making.{mark_made};
-ghost use Rattle.sm_account.specs.Writing.{WritesAs, OnFault};
+ghost use Rattle.sm_account.specs.Writing.{WritesAs, OnFault, UnlessFault};
 ghost use Rattle.sm_base.specs.Faults.{Rose};
-ghost use Rattle.sm_store.specs.BaseAppends.{SamePlace};
+ghost use Rattle.sm_store.specs.Appends.{SamePlace};
 
 use crate::account_state::AccountState;
 use crate::due::Due;
@@ -68,6 +68,7 @@ fn write_ready<D: Disk>(inner: &mut AccountState<D>, due: &Due) -> Written
         (disk_in inner.old) (disk_in inner.new) }
     ensures later { D.faults (disk_in inner.old) ≤ D.faults (disk_in inner.new) }
     ensures failed { OnFault result (Rose (D.faults (disk_in inner.old)) (D.faults (disk_in inner.new))) }
+    ensures no_other { UnlessFault result (D.faults (disk_in inner.new) ≡ D.faults (disk_in inner.old)) }
 {
     write(&mut inner.store, &due.ready)
 }

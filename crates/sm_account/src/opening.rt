@@ -2,9 +2,9 @@
 ghost use Rattle.std.specs.Prelude.{◌≡◌, ◌≤◌, IfOk, IfErr};
 ghost use Rattle.sm_base.specs.declared.limits.TheConstants.{JOURNAL_LIMIT};
 ghost use Rattle.sm_journal.specs.declared.format.Format.TheVariants as formats;
-ghost use Rattle.sm_opening.specs.Lawful.{made_of, IsLawful};
-ghost use Rattle.sm_opening.specs.Openings.{IsRefused};
-ghost use Rattle.sm_store.specs.BaseStores as stores;
+ghost use Rattle.sm_recovery.specs.Lawful.{made_of, IsLawful};
+ghost use Rattle.sm_recovery.specs.Openings.{IsRefused};
+ghost use Rattle.sm_store.specs.Stores as stores;
 ghost use Rattle.sm_account.specs.Accounts as accounts;
 ghost use Rattle.sm_account.specs.Openings.{IsOpenedOver, TakenFrom, IsAccountStateOver};
 
@@ -13,7 +13,7 @@ use crate::account_state::AccountState;
 use crate::told::Told;
 use sm_disk::Disk;
 use sm_journal::OpenRefused;
-use sm_opening::{Opened, Taken, base_under, open};
+use sm_recovery::{Opened, Taken, base_under, open};
 use sm_rotator::Rotator;
 use std::alloc::Global;
 use std::snapshot::Snapshot;

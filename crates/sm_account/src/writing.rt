@@ -4,15 +4,15 @@ ghost use Rattle.sm_base.specs.Faults.{Rose};
 ghost use Rattle.sm_journal.specs.Records.{body_limit, record_size};
 ghost use Rattle.sm_journal.specs.declared.format.Format.TheVariants as formats;
 ghost use Rattle.sm_model.specs.declared.entry.Entry.{Entry};
-ghost use Rattle.sm_store.specs.BaseAppends.{IsReady, SamePlace};
-ghost use Rattle.sm_store.specs.BaseStores.{disk_of, format_of, is_unsure, length_of, limit_of, Holds};
+ghost use Rattle.sm_store.specs.Appends.{IsReady, SamePlace};
+ghost use Rattle.sm_store.specs.Stores.{disk_of, format_of, is_unsure, length_of, limit_of, Holds};
 ghost use Rattle.sm_store.specs.Held.{Held};
 ghost use Rattle.sm_account.specs.Crashes.{AllRecover, Throughout};
-ghost use Rattle.sm_account.specs.Writing.{WritesAs, AppendsBehind, OnFault};
+ghost use Rattle.sm_account.specs.Writing.{WritesAs, AppendsBehind, OnFault, UnlessFault};
 
 use sm_disk::Disk;
 use sm_model::Bytes;
-use sm_store::{Appended, BaseStore};
+use sm_store::{Appended, Store};
 
 /// What became of an entry that was to be written.
 #[derive(Clone, Copy, Debug, PartialEq, Eq)]
@@ -25,7 +25,7 @@ pub enum Written {
 }
 
 /// Mends an unsure tail, and writes the entry of this spelling behind what is held.
-pub fn write<D: Disk>(store: &mut BaseStore<D>, ready: &Bytes) -> Written
+pub fn write<D: Disk>(store: &mut Store<D>, ready: &Bytes) -> Written
     requires format { format_of store.old ≡ formats.Second }
     requires spelled { (e : Entry) × IsReady e ready.now }
     requires short { length ready.now ≤ body_limit }
@@ -36,6 +36,7 @@ pub fn write<D: Disk>(store: &mut BaseStore<D>, ready: &Bytes) -> Written
         Holds store.old h failed → Throughout D.Disk h failed e (disk_of store.old) (disk_of store.new) }
     ensures later { D.faults (disk_of store.old) ≤ D.faults (disk_of store.new) }
     ensures failed { OnFault result (Rose (D.faults (disk_of store.old)) (D.faults (disk_of store.new))) }
+    ensures no_other { UnlessFault result (D.faults (disk_of store.new) ≡ D.faults (disk_of store.old)) }
 {
     match store.mend() {
         Ok(()) => append(store, ready),
@@ -44,7 +45,7 @@ pub fn write<D: Disk>(store: &mut BaseStore<D>, ready: &Bytes) -> Written
 }
 
 /// Writes the entry of this spelling behind what is held, where the tail is sure.
-fn append<D: Disk>(store: &mut BaseStore<D>, ready: &Bytes) -> Written
+fn append<D: Disk>(store: &mut Store<D>, ready: &Bytes) -> Written
     requires sure { is_unsure store.old ≡ false }
     requires format { format_of store.old ≡ formats.Second }
     requires spelled { (e : Entry) × IsReady e ready.now }
@@ -56,6 +57,7 @@ fn append<D: Disk>(store: &mut BaseStore<D>, ready: &Bytes) -> Written
         AllRecover D.Disk h (Some e) (disk_of store.old) (disk_of store.new) }
     ensures later { D.faults (disk_of store.old) ≤ D.faults (disk_of store.new) }
     ensures failed { OnFault result (Rose (D.faults (disk_of store.old)) (D.faults (disk_of store.new))) }
+    ensures no_other { UnlessFault result (D.faults (disk_of store.new) ≡ D.faults (disk_of store.old)) }
 {
     match store.append(ready) {
         Appended::Ok => Written::Ok,

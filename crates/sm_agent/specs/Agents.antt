@@ -103,3 +103,10 @@ OnGivenFailed (Kept status body at) P = ⊤
 OnGivenFailed (Asked status body) P = ⊤
 OnGivenFailed Failed P = P
 OnGivenFailed Memory P = ⊤
+
+-- the count stays, but where the agent failed
+abbrev pub StaysUnlessGivenFailed : Given → ℕ → ℕ → Type 0
+StaysUnlessGivenFailed (Kept status body at) old new = new ≡ old
+StaysUnlessGivenFailed (Asked status body) old new = new ≡ old
+StaysUnlessGivenFailed Failed old new = ⊤
+StaysUnlessGivenFailed Memory old new = new ≡ old

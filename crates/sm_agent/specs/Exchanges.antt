@@ -8,7 +8,7 @@ use Rattle.sm_agent.specs.declared.answer.Answer.{Answer}
 use Rattle.sm_agent.specs.declared.path.QueryRefused.{QueryRefused}
 use Rattle.sm_agent.specs.declared.question.Question.{Question}
 use Rattle.sm_agent.specs.declared.upstream.Told.{Told}
-use Rattle.sm_agent.specs.Agents.{AgentState, empty_agent, told_given, OnGivenFailed}
+use Rattle.sm_agent.specs.Agents.{AgentState, empty_agent, told_given, OnGivenFailed, StaysUnlessGivenFailed}
 use Rattle.sm_agent.specs.Replies.{reply, upstream_fault, refused_reply, given_reply, request_of}
 use Rattle.sm_agent.specs.Runs.{Call, Goes, IsKept}
 
@@ -55,6 +55,11 @@ abbrev pub OnCallFailed : Option Call → Type 0 → Type 0
 OnCallFailed None P = ⊤
 OnCallFailed (Some call) P = OnGivenFailed call.given P
 
+-- the count stays, but where the call failed
+abbrev pub StaysUnlessCallFailed : Option Call → ℕ → ℕ → Type 0
+StaysUnlessCallFailed None old new = new ≡ old
+StaysUnlessCallFailed (Some call) old new = StaysUnlessGivenFailed call.given old new
+
 -- What passed between a request and the outside: what the upstream and the clock tell, and how often it failed.
 pub record Passes (call : Option Call) (told told' : Option (List Told)) (readings readings' : Option (List ℕ))
     (before now : ℕ) : Type 0 where
@@ -62,6 +67,7 @@ pub record Passes (call : Option Call) (told told' : Option (List Told)) (readin
   pub clock : readings' ≡ read_by call readings
   pub failed : OnCallFailed call (Rose before now)
   pub later : before ≤ now
+  pub no_other : StaysUnlessCallFailed call before now
 
 -- ---- requests, one after the other
 

@@ -1,5 +1,5 @@
 -- What an upstream answers, and what it tells of the questions that were asked.
-use Rattle.std.specs.Prelude.{ℕ, Bool, ◌||◌, ◌==◌, List, [], ◌∷◌, ◌++◌, Option, None, Some, ⊤}
+use Rattle.std.specs.Prelude.{◌≡◌, ℕ, Bool, ◌||◌, ◌==◌, List, [], ◌∷◌, ◌++◌, Option, None, Some, ⊤}
 use Rattle.sm_agent.specs.declared.answer.Answer.{Answer}
 use Rattle.sm_agent.specs.declared.question.Question.{Question}
 use Rattle.sm_agent.specs.declared.upstream.Told.{Told}
@@ -21,6 +21,12 @@ abbrev pub OnFailed : Upped → Type 0 → Type 0
 OnFailed (Got status body) P = ⊤
 OnFailed Failed P = P
 OnFailed Memory P = ⊤
+
+-- the count stays, but where there was a fault
+abbrev pub StaysUnlessFailed : Upped → ℕ → ℕ → Type 0
+StaysUnlessFailed (Got status body) old new = new ≡ old
+StaysUnlessFailed Failed old new = ⊤
+StaysUnlessFailed Memory old new = new ≡ old
 
 -- the answer, none where there was a fault; not told where memory was wanted
 abbrev pub answer_in : Upped → Option (Option Answer)

@@ -5,7 +5,7 @@ ghost use Rattle.std.specs.Map.{remove_entry};
 ghost use Rattle.sm_base.specs.Faults.{Rose};
 ghost use Rattle.sm_base.specs.Outcomes.{OrMemory};
 ghost use Rattle.sm_agent.specs.Questions.{same_question};
-ghost use Rattle.sm_agent.specs.Agents.{empty_agent, agent_moment, is_live, kept_answer, kept_told, HasStatus, with_entries, cached, entries_with, Leaves, told_given, OnKept, OnGivenFailed};
+ghost use Rattle.sm_agent.specs.Agents.{empty_agent, agent_moment, is_live, kept_answer, kept_told, HasStatus, with_entries, cached, entries_with, Leaves, told_given, OnKept, OnGivenFailed, StaysUnlessGivenFailed};
 
 use crate::answer::{CachedAnswer, OK};
 use crate::question::Question;
@@ -89,6 +89,7 @@ impl Agent {
         ensures unasked { OnKept result (upstream.new ≡ upstream.old) }
         ensures failed { OnGivenFailed result (Rose (U.faults upstream.old) (U.faults upstream.new)) }
         ensures later { U.faults upstream.old ≤ U.faults upstream.new }
+        ensures no_other { StaysUnlessGivenFailed result (U.faults upstream.old) (U.faults upstream.new) }
     {
         self.last = self.last.max(now);
         match self.kept(&question, fresh) {
@@ -134,6 +135,7 @@ impl Agent {
         ensures unasked { OnKept result (upstream.new ≡ upstream.old) }
         ensures failed { OnGivenFailed result (Rose (U.faults upstream.old) (U.faults upstream.new)) }
         ensures later { U.faults upstream.old ≤ U.faults upstream.new }
+        ensures no_other { StaysUnlessGivenFailed result (U.faults upstream.old) (U.faults upstream.new) }
     {
         match upstream.ask(&question) {
             Upped::Got(OK, body) => Given::Asked(OK, self.keep(question, body)),

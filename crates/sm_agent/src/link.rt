@@ -4,7 +4,7 @@ ghost use Rattle.std.specs.Io.KnownBytes.{Consumes};
 ghost use Rattle.sm_base.specs.Faults.{Rose};
 ghost use Rattle.sm_agent.specs.Link.{link_faults};
 ghost use Rattle.sm_agent.specs.Received.{ReadsReply, WasRead};
-ghost use Rattle.sm_agent.specs.Upstreams.{is_status, IfGot, OnFailed, told_after};
+ghost use Rattle.sm_agent.specs.Upstreams.{is_status, IfGot, OnFailed, StaysUnlessFailed, told_after};
 
 use crate::asking::asking;
 use crate::question::Question;
@@ -129,6 +129,7 @@ impl<R: Net + Clock> Upstream for LinkUpstream<R> {
         ensures read { IfGot result WasRead }
         ensures failed { OnFailed result (Rose (link_faults self.old) (link_faults self.new)) }
         ensures later { link_faults self.old ≤ link_faults self.new }
+        ensures no_other { StaysUnlessFailed result (link_faults self.old) (link_faults self.new) }
         ensures told { None ≡ told_after question.now result None }
     {
         match exchange(self.alloc, &self.system, &self.address, question) {

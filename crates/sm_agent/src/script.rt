@@ -3,7 +3,7 @@ ghost use Rattle.std.specs.Prelude.{◌≡◌, ◌≤◌, ◌<◌, ◌∷◌, �
 ghost use Rattle.sm_base.specs.Faults.{Rose};
 ghost use Rattle.sm_base.specs.Outcomes.{OrMemory};
 ghost use Rattle.sm_io.specs.Calls.{no_calls};
-ghost use Rattle.sm_agent.specs.Upstreams.{is_status, IfGot, OnFailed, told_after, answer_in};
+ghost use Rattle.sm_agent.specs.Upstreams.{is_status, IfGot, OnFailed, StaysUnlessFailed, told_after, answer_in};
 ghost use Rattle.sm_agent.specs.Scripts.{AreReplies, first_answer, script_answer, with_told, after_ask};
 
 use crate::answer::Answer;
@@ -118,6 +118,7 @@ impl Upstream for ScriptUpstream {
         ensures status { IfGot result (λ status body. IsTrue (is_status status)) }
         ensures failed { OnFailed result (Rose self.old.calls.faults self.new.calls.faults) }
         ensures later { self.old.calls.faults ≤ self.new.calls.faults }
+        ensures no_other { StaysUnlessFailed result self.old.calls.faults self.new.calls.faults }
         ensures told { Some self.new.told ≡ told_after question.now result (Some self.old.told) }
 
         // Exactly what it answers, and what it leaves.

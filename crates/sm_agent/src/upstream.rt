@@ -2,7 +2,7 @@
 ghost use Rattle.std.specs.Prelude.{◌≡◌, ◌≤◌, ℕ, List, Option, IsTrue};
 ghost use Rattle.sm_base.specs.Faults.{Rose};
 ghost use Rattle.sm_agent.specs.declared.upstream.Told.{Told};
-ghost use Rattle.sm_agent.specs.Upstreams.{is_status, IfGot, OnFailed, told_after};
+ghost use Rattle.sm_agent.specs.Upstreams.{is_status, IfGot, OnFailed, StaysUnlessFailed, told_after};
 
 use crate::answer::Answer;
 use crate::question::Question;
@@ -31,10 +31,11 @@ pub trait Upstream {
     /// How often it has failed. At 2^64 - 1 the count stands.
     ghost faults: { Self → ℕ };
 
-    /// Asks once. `Failed` is answered only where the count of faults rose.
+    /// Asks once. The count of faults rises where it answers `Failed`, and only there.
     fn ask(&mut self, question: &Question) -> Upped
         ensures status { IfGot result (λ status body. IsTrue (is_status status)) }
         ensures failed { OnFailed result (Rose (faults self.old) (faults self.new)) }
         ensures later { faults self.old ≤ faults self.new }
+        ensures no_other { StaysUnlessFailed result (faults self.old) (faults self.new) }
         ensures told { told self.new ≡ told_after question.now result (told self.old) };
 }

@@ -10,7 +10,7 @@ use Rattle.sm_model.specs.Versions.{When}
 use Rattle.sm_table.specs.Sound.{Sound}
 use Rattle.sm_table.specs.Sweep.{sweep}
 use Rattle.sm_table.proofs.SoundLaws.{commit_sound}
-use Rattle.sm_judging.specs.Changes.{settled, IsChange}
+use Rattle.sm_judge_common.specs.Changes.{settled, IsChange}
 use Rattle.sm_judge_rotations.proofs.ActLemmas.{Agrees}
 use Rattle.sm_core.specs.Effects.{when_of, act_effect, effect}
 use Rattle.sm_core.specs.Histories.{replay, LegalAct, Legal, InTime}

@@ -20,11 +20,11 @@ use Rattle.sm_model.specs.Needed.{needed}
 use Rattle.sm_model.specs.Versions.{When}
 use Rattle.sm_table.specs.Sound.{Sound}
 use Rattle.sm_forms.specs.Forms.{forms_of}
-use Rattle.sm_judging.specs.declared.judged.Judged.{Judged}
-use Rattle.sm_judging.specs.declared.judged.Judged.TheVariants.{Accept, Refuse, Memory}
-use Rattle.sm_judging.specs.Changes.{IsChange}
-use Rattle.sm_judging.specs.Judged.{judged_told, refusal_told, IfAccepted, IfChange}
-use Rattle.sm_judging.proofs.JudgedLemmas.{told_same, told_refusal}
+use Rattle.sm_judge_common.specs.declared.judged.Judged.{Judged}
+use Rattle.sm_judge_common.specs.declared.judged.Judged.TheVariants.{Accept, Refuse, Memory}
+use Rattle.sm_judge_common.specs.Changes.{IsChange}
+use Rattle.sm_judge_common.specs.Judged.{judged_told, refusal_told, IfAccepted, IfChange}
+use Rattle.sm_judge_common.proofs.JudgedLemmas.{told_same, told_refusal}
 use Rattle.sm_judge_values.proofs.CreateSecretLemmas.{create_refuses, create_repeats, create_change}
 use Rattle.sm_judge_reads.proofs.DescribeSecretLemmas.{describe_refuses, describe_reads, describe_change}
 use Rattle.sm_judge_reads.proofs.GetSecretValueLemmas.{get_refuses, get_reads, get_change}

@@ -29,7 +29,7 @@ use Rattle.sm_rotation.specs.Begin.{begin_row}
 use Rattle.sm_table.specs.Changes.{row_with, replaced}
 use Rattle.sm_table.specs.Found.{named_by, row_with_arn}
 use Rattle.sm_table.specs.Sweep.{sweep}
-use Rattle.sm_judging.specs.Changes.{with_row, change_named}
+use Rattle.sm_judge_common.specs.Changes.{with_row, change_named}
 use Rattle.sm_judge_values.specs.declared.put_secret_value.PutCall.{PutCall}
 use Rattle.sm_judge_values.specs.CreateSecret.{create_effect}
 use Rattle.sm_judge_values.specs.PutSecretValue.{put_call, put_into, put_effect_of}

@@ -20,10 +20,10 @@ use Rattle.sm_table.specs.Found.{found}
 use Rattle.sm_table.specs.Sound.{EachSound, Sound}
 use Rattle.sm_table.specs.Sweep.{swept, sweep}
 use Rattle.sm_table.proofs.SoundLaws.{sweep_sound}
-use Rattle.sm_judging.specs.declared.judged.Judged.{Judged}
-use Rattle.sm_judging.specs.declared.judged.Judged.TheVariants.{Accept, Refuse, Memory}
-use Rattle.sm_judging.specs.Changes.{change_named, settled, IsChange}
-use Rattle.sm_judging.specs.Secrets.{unless_scheduled}
+use Rattle.sm_judge_common.specs.declared.judged.Judged.{Judged}
+use Rattle.sm_judge_common.specs.declared.judged.Judged.TheVariants.{Accept, Refuse, Memory}
+use Rattle.sm_judge_common.specs.Changes.{change_named, settled, IsChange}
+use Rattle.sm_judge_common.specs.Secrets.{unless_scheduled}
 use Rattle.sm_judge_rotations.proofs.ActLemmas.{Agrees}
 use Rattle.sm_judge_deletion_and_tags.specs.declared.delete_secret.Deletion.TheVariants.{Forced, After}
 use Rattle.sm_judge_deletion_and_tags.specs.DeleteSecret.{window_days, scheduled_at, delete_found, without_row, drop_named}

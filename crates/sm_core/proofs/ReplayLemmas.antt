@@ -16,10 +16,10 @@ use Rattle.sm_model.specs.Versions.{When}
 use Rattle.sm_table.specs.Sound.{Sound}
 use Rattle.sm_table.specs.Sweep.{sweep}
 use Rattle.sm_forms.specs.Forms.{forms_of}
-use Rattle.sm_judging.specs.declared.judged.Judged.{Judged}
-use Rattle.sm_judging.specs.declared.judged.Judged.TheVariants as judged
-use Rattle.sm_judging.specs.Changes.{settled, IsChange}
-use Rattle.sm_judging.specs.Judged.{IfChange}
+use Rattle.sm_judge_common.specs.declared.judged.Judged.{Judged}
+use Rattle.sm_judge_common.specs.declared.judged.Judged.TheVariants as judged
+use Rattle.sm_judge_common.specs.Changes.{settled, IsChange}
+use Rattle.sm_judge_common.specs.Judged.{IfChange}
 use Rattle.sm_judge_lists_and_passwords.specs.BatchGetSecretValue.{no_question}
 use Rattle.sm_judge_rotations.specs.Reported.{reported_change, MayReport}
 use Rattle.sm_judge_rotations.proofs.ActLemmas.{Agrees, with_bytes}

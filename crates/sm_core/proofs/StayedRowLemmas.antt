@@ -16,7 +16,7 @@ use Rattle.sm_table.specs.Sweep.{swept, sweep}
 use Rattle.sm_table.proofs.FoundLaws.{IsIn, with_arn_in, named_by_in, unswept_in, row_with_own}
 use Rattle.sm_table.proofs.FoundLemmas.{row_with_has}
 use Rattle.sm_table.proofs.SoundLaws.{sweep_sound}
-use Rattle.sm_judging.specs.Changes.{with_row, change_named, settled}
+use Rattle.sm_judge_common.specs.Changes.{with_row, change_named, settled}
 use Rattle.sm_judge_rotations.specs.WholeArns.{change_with_arn}
 use Rattle.sm_judge_deletion_and_tags.specs.DeleteSecret.{without_row, drop_named}
 use Rattle.sm_core.specs.Tokens.{HasSecret, versions_in, versions_at}

@@ -31,9 +31,9 @@ use Rattle.sm_table.specs.Found.{found}
 use Rattle.sm_table.specs.Kept.{row_serials}
 use Rattle.sm_table.specs.Sound.{Sound}
 use Rattle.sm_table.specs.Sweep.{sweep}
-use Rattle.sm_judging.specs.declared.judged.Judged.{Judged}
-use Rattle.sm_judging.specs.Changes.{change_named, settled}
-use Rattle.sm_judging.specs.Secrets.{finished_row}
+use Rattle.sm_judge_common.specs.declared.judged.Judged.{Judged}
+use Rattle.sm_judge_common.specs.Changes.{change_named, settled}
+use Rattle.sm_judge_common.specs.Secrets.{finished_row}
 use Rattle.sm_judge_values.specs.declared.create_secret.CreateCall.{CreateCall}
 use Rattle.sm_judge_values.specs.declared.new_value.NewValue.{NewValue}
 use Rattle.sm_judge_values.specs.declared.put_secret_value.PutCall.{PutCall}

@@ -33,10 +33,10 @@ use Rattle.sm_table.specs.Found.{found, found_arn}
 use Rattle.sm_table.specs.Sound.{Sound}
 use Rattle.sm_table.proofs.FoundLaws.{found_is_row}
 use Rattle.sm_table.proofs.SoundLaws.{sound_rows_kept}
-use Rattle.sm_judging.specs.declared.judged.Judged.{Judged}
-use Rattle.sm_judging.specs.declared.judged.Judged.TheVariants.{Memory}
-use Rattle.sm_judging.specs.Changes.{change_named, settled}
-use Rattle.sm_judging.specs.Secrets.{unless_scheduled, on_secret, finished_row}
+use Rattle.sm_judge_common.specs.declared.judged.Judged.{Judged}
+use Rattle.sm_judge_common.specs.declared.judged.Judged.TheVariants.{Memory}
+use Rattle.sm_judge_common.specs.Changes.{change_named, settled}
+use Rattle.sm_judge_common.specs.Secrets.{unless_scheduled, on_secret, finished_row}
 use Rattle.sm_judge_values.specs.declared.create_secret.CreateCall.{CreateCall}
 use Rattle.sm_judge_values.specs.declared.new_value.NewValue.{NewValue}
 use Rattle.sm_judge_values.specs.declared.put_secret_value.PutCall.{PutCall}

@@ -14,7 +14,7 @@ use Rattle.sm_table.specs.Sweep.{is_gone, swept, sweep}
 use Rattle.sm_table.specs.Found.{named_by, found, found_arn}
 use Rattle.sm_table.specs.Changes.{replaced, dropped}
 use Rattle.sm_table.proofs.FoundLaws.{IsIn, with_arn_in, named_by_in}
-use Rattle.sm_judging.specs.Changes.{with_row, change_named, settled}
+use Rattle.sm_judge_common.specs.Changes.{with_row, change_named, settled}
 use Rattle.sm_judge_rotations.specs.WholeArns.{change_with_arn}
 use Rattle.sm_judge_deletion_and_tags.specs.DeleteSecret.{without_row, drop_named}
 use Rattle.sm_core.specs.Vouching.{EachVouched, Vouched}

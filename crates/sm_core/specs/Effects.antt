@@ -10,7 +10,7 @@ use Rattle.sm_model.specs.declared.rows.Rows.{Rows}
 use Rattle.sm_model.specs.Versions.{When}
 use Rattle.sm_table.specs.Changes.{changed}
 use Rattle.sm_table.specs.Sweep.{sweep}
-use Rattle.sm_judging.specs.Changes.{settled}
+use Rattle.sm_judge_common.specs.Changes.{settled}
 use Rattle.sm_judge_values.specs.CreateSecret.{create_effect}
 use Rattle.sm_judge_values.specs.PutSecretValue.{put_effect}
 use Rattle.sm_judge_values.specs.UpdateSecret.{update_effect}

@@ -11,8 +11,8 @@ use Rattle.sm_model.specs.Needed.{needed}
 use Rattle.sm_model.specs.Versions.{When}
 use Rattle.sm_table.specs.Sound.{Sound}
 use Rattle.sm_forms.specs.Forms.{forms_of}
-use Rattle.sm_judging.specs.declared.judged.Judged.{Judged}
-use Rattle.sm_judging.specs.declared.judged.Judged.TheVariants.{Accept, Refuse, Memory}
+use Rattle.sm_judge_common.specs.declared.judged.Judged.{Judged}
+use Rattle.sm_judge_common.specs.declared.judged.Judged.TheVariants.{Accept, Refuse, Memory}
 use Rattle.sm_judge_rotations.specs.Begun.{MayBegin}
 use Rattle.sm_judge_rotations.specs.Reported.{MayReport}
 use Rattle.sm_core.specs.Judging.{judgement, is_of_nobody}

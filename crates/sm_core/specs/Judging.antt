@@ -8,7 +8,7 @@ use Rattle.sm_model.specs.declared.request.Request.TheVariants as requests
 use Rattle.sm_model.specs.declared.rows.Rows.{Rows}
 use Rattle.sm_model.specs.declared.why.Why.{Why}
 use Rattle.sm_model.specs.Versions.{When}
-use Rattle.sm_judging.specs.declared.judged.Judged.{Judged}
+use Rattle.sm_judge_common.specs.declared.judged.Judged.{Judged}
 use Rattle.sm_judge_values.specs.CreateSecret.{create_judgement, create_refusal, create_repeat}
 use Rattle.sm_judge_reads.specs.DescribeSecret.{describe_judgement, describe_refusal}
 use Rattle.sm_judge_reads.specs.GetSecretValue.{get_judgement, get_refusal}

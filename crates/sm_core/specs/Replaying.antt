@@ -12,8 +12,8 @@ use Rattle.sm_model.specs.declared.why.Why.{Why}
 use Rattle.sm_model.specs.Needed.{needed}
 use Rattle.sm_model.specs.Versions.{When}
 use Rattle.sm_forms.specs.Forms.{forms_of}
-use Rattle.sm_judging.specs.declared.judged.Judged.{Judged}
-use Rattle.sm_judging.specs.declared.judged.Judged.TheVariants as judged
+use Rattle.sm_judge_common.specs.declared.judged.Judged.{Judged}
+use Rattle.sm_judge_common.specs.declared.judged.Judged.TheVariants as judged
 use Rattle.sm_judge_rotations.specs.Begun.{begun_change}
 use Rattle.sm_judge_rotations.specs.Reported.{reported_change}
 use Rattle.sm_core.specs.declared.replaying.Replayed.{Replayed}

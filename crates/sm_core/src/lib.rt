@@ -11,4 +11,4 @@ pub use judging::judge;
 pub use replaying::{Replayed, again};
 pub use sm_access::{Admitted, admit};
 pub use sm_forms::forms;
-pub use sm_judging::Judged;
+pub use sm_judge_common::Judged;

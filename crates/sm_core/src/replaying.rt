@@ -15,9 +15,9 @@ ghost use Rattle.sm_table.specs.Sweep.{sweep};
 
 use crate::judging::{is_batch, judge_alone};
 use sm_forms::forms;
+use sm_judge_common::Judged;
 use sm_judge_rotations::begun::judge_begun;
 use sm_judge_rotations::reported::judge_reported;
-use sm_judging::Judged;
 use sm_model::{Act, Answer, Arn, At, Change, Entry, NoMemory, Request, Why, need};
 use sm_table::{Block, Table};
 use sm_versions::When;

@@ -38,8 +38,8 @@ use Rattle.sm_account.specs.declared.next_work.NextWork.TheVariants as works
 use Rattle.sm_account.specs.declared.report.Reported.{Reported as reports}
 use Rattle.sm_account.specs.declared.start_due.StartedDue.{StartedDue}
 use Rattle.sm_drive.specs.Aims.{Aim, Claims, aim_asked, aim_ready, aim_told, aim_within}
-use Rattle.sm_opening.specs.Openings.{IsRefused}
-use Rattle.sm_drive.specs.Disks.{OnDiskFault, found_by}
+use Rattle.sm_recovery.specs.Openings.{IsRefused}
+use Rattle.sm_drive.specs.Disks.{OnDiskFault, UnlessDiskFault, found_by}
 use Rattle.sm_drive.specs.Openings.{Tells}
 use Rattle.sm_drive.specs.Outcomes.{handled_as, reported_as, started_as}
 use Rattle.sm_drive.specs.Refused.{is_damaged}
@@ -53,7 +53,7 @@ use Rattle.sm_drive.specs.declared.outcome.Outcome.{Outcome}
 use Rattle.sm_drive.specs.declared.outcome.Outcome.TheVariants.{Entered, Quiet, Refused, Stale, Limit, DiskFault, Asked, Nothing, Memory, Reopened}
 use Rattle.sm_drive.specs.declared.run.Run.{Run}
 use Rattle.sm_drive.proofs.RestartLemmas.{found_state, not_damaged}
-use Rattle.sm_drive.proofs.StepLemmas.{asked_goes, base_here, claim_goes, handled_fault, handled_goes, leaves_tells, reported_fault, reported_goes, same_stand, started_fault, started_goes, total}
+use Rattle.sm_drive.proofs.StepLemmas.{asked_goes, base_here, claim_goes, handled_fault, handled_goes, handled_stays, leaves_tells, reported_fault, reported_goes, reported_stays, same_stand, started_fault, started_goes, started_stays, total}
 
 -- the same run with another account and other verdicts
 abbrev pub run_with : {D R : Type 0} {G : DiskGhosts D} {V : RotatorGhosts R} → Run D R G V → Account D R G V
@@ -77,24 +77,47 @@ asks_fault P work old new DiskFault asks = absurd asks
 asks_fault P work old new Nothing asks = tt
 asks_fault P work old new Reopened asks = tt
 
+asks_stays : (P : Type 0) {R : Type 0} {V : RotatorGhosts R} (work : Work) (old new : List (Verdict R V))
+    (out : Outcome) → Asks V work old out new → P → UnlessDiskFault out P
+asks_stays P work old new Asked asks stays = stays
+asks_stays P work old new Memory asks stays = stays
+asks_stays P work old new (Entered place) asks stays = stays
+asks_stays P work old new Quiet asks stays = stays
+asks_stays P work old new Refused asks stays = stays
+asks_stays P work old new Stale asks stays = stays
+asks_stays P work old new Limit asks stays = stays
+asks_stays P work old new DiskFault asks stays = tt
+asks_stays P work old new Nothing asks stays = stays
+asks_stays P work old new Reopened asks stays = stays
+
 module _ {D R : Type 0} (G : DiskGhosts D) (V : RotatorGhosts R) (old : Run D R G V) (account : Account D R G V)
     (origin : accounts.SameOrigin old.account account) where
   -- the disk's count of faults rose
   abbrev HasRisen : Type 0
   HasRisen = Rose (G.faults (accounts.disk old.account)) (G.faults (accounts.disk account))
 
+  -- it is as before
+  abbrev HasStayed : Type 0
+  HasStayed = G.faults (accounts.disk account) ≡ G.faults (accounts.disk old.account)
+
   -- what holds of every call of the account, where the step is right
   calls_by : (verdicts : List (Verdict R V)) (call : Call) (out : Outcome) (call_outcome : CallOutcome)
       → Leaves G old.account.inner account.inner seat call_outcome
       → found_by call (disks_in old) ≡ accounts.began old.account → OnDiskFault out HasRisen
+      → UnlessDiskFault out HasStayed
       → (IsUnder old → (entries : List Entry) → Counts old.first (stand_in old entries)
       → (more : List Entry) × Goes V.replies call out (stand_in old entries) (stand_of account verdicts more))
       → Calls G V old call out (run_with old account verdicts)
-  calls_by verdicts call out call_outcome leaves found fault goes = record {
+  calls_by verdicts call out call_outcome leaves found fault stays goes = record {
     first = refl;
     under = λ under. ap (λ (b : Base). b.limit) origin.base_stays ∙ under;
     tells = leaves_tells old.account account call_outcome leaves;
-    touches = record { began = origin.began_stays ∙ sym found; later = leaves.later; fault = fault };
+    touches = record {
+      began = origin.began_stays ∙ sym found;
+      later = leaves.later;
+      fault = fault;
+      no_other = stays;
+    };
     goes = λ under tells entries counts. goes under entries counts;
   }
 
@@ -122,6 +145,7 @@ module _ {D R : Type 0} (G : DiskGhosts D) (V : RotatorGhosts R) (old : Run D R 
       let out : Outcome = handled_as (nat_lt (total old.account) (total account)) place result in
       calls_by old.verdicts (calls.Handle person now drawn request) out (handled_by result wanted) leaves refl
       (handled_fault HasRisen wanted result (nat_lt (total old.account) (total account)) place answers leaves.fault)
+      (handled_stays HasStayed wanted result (nat_lt (total old.account) (total account)) place leaves.no_other)
       (λ under entries counts.
       let goes = handled_goes old.account account old.verdicts entries old.first place counts is_place wanted result
       answers leaves in (
@@ -156,6 +180,7 @@ module _ {D R : Type 0} (G : DiskGhosts D) (V : RotatorGhosts R) (old : Run D R 
       let wanted : Effort (Unit {0}) = start_at (accounts.state old.account) now drawn in
       calls_by old.verdicts (calls.Due now drawn) (started_as place result) (started_by result wanted) leaves refl
       (started_fault HasRisen wanted result place answers leaves.fault)
+      (started_stays HasStayed wanted result place leaves.no_other)
       (λ under entries counts.
       let goes = started_goes old.account account old.verdicts entries old.first place counts is_place wanted result
       answers leaves in (
@@ -186,6 +211,7 @@ module _ {D R : Type 0} (G : DiskGhosts D) (V : RotatorGhosts R) (old : Run D R 
       let wanted : Effort (Option At) = report_at (accounts.state old.account) now verdict.work verdict.answer in
       calls_by old.verdicts (calls.Report number now) (reported_as place result) (reported_by result wanted) leaves refl
       (reported_fault HasRisen wanted result place answers leaves.fault)
+      (reported_stays HasStayed wanted result place leaves.no_other)
       (λ under entries counts.
       let goes = reported_goes old.account account old.verdicts entries old.first place counts is_place wanted result
       answers leaves in
@@ -219,12 +245,13 @@ module _ {D R : Type 0} (G : DiskGhosts D) (V : RotatorGhosts R) (old : Run D R 
   -- what becomes of the secret that is ready
   ready_goes : (now : Moment) (verdicts : List (Verdict R V)) (out : Outcome) (call_outcome : CallOutcome)
       → Leaves G old.account.inner account.inner seat call_outcome → OnDiskFault out HasRisen
+      → UnlessDiskFault out HasStayed
       → ((entries : List Entry) → GoesTo V.replies (aim_ready (ready_at (accounts.base old.account)
       (accounts.history old.account) (later (accounts.state old.account).last now))
       (later (accounts.state old.account).last now)) out (stand_in old entries) (stand_of account verdicts entries))
       → Calls G V old (calls.Work now) out (run_with old account verdicts)
-  ready_goes now verdicts out call_outcome leaves fault goes =
-      calls_by verdicts (calls.Work now) out call_outcome leaves refl fault (λ under entries counts. (
+  ready_goes now verdicts out call_outcome leaves fault stays goes =
+      calls_by verdicts (calls.Work now) out call_outcome leaves refl fault stays (λ under entries counts. (
         entries,
         at_base (λ (b : Base). aim_ready (ready_at b (accounts.history old.account)
             (later (state_at b (accounts.history old.account)).last now))
@@ -243,6 +270,7 @@ module _ {D R : Type 0} (G : DiskGhosts D) (V : RotatorGhosts R) (old : Run D R 
   work_calls now work verdicts out next leaves asks =
       ready_goes now verdicts out (call_outcomes.Claimed work.arn work.at
       (later (accounts.state old.account).last now)) leaves (asks_fault HasRisen work old.verdicts verdicts out asks)
+      (asks_stays HasStayed work old.verdicts verdicts out asks leaves.no_other)
       (λ entries. to (ready_at (accounts.base old.account) (accounts.history old.account)
       (later (accounts.state old.account).last now)) next entries)
     where
@@ -282,7 +310,7 @@ module _ {D R : Type 0} (G : DiskGhosts D) (V : RotatorGhosts R) (old : Run D R 
       → Leaves G old.account.inner account.inner seat call_outcomes.Nothing
       → Calls G V old (calls.Work now) Nothing (run_with old account old.verdicts)
   no_work_calls now next leaves =
-      ready_goes now old.verdicts Nothing call_outcomes.Nothing leaves tt
+      ready_goes now old.verdicts Nothing call_outcomes.Nothing leaves tt leaves.no_other
       (λ entries. to (ready_at (accounts.base old.account) (accounts.history old.account)
       (later (accounts.state old.account).last now)) next entries)
     where
@@ -297,7 +325,7 @@ module _ {D R : Type 0} (G : DiskGhosts D) (V : RotatorGhosts R) (old : Run D R 
   pub wanting_calls : (now : Moment) → Leaves G old.account.inner account.inner seat call_outcomes.Nothing
       → Calls G V old (calls.Work now) Memory (run_with old account old.verdicts)
   wanting_calls now leaves =
-      ready_goes now old.verdicts Memory call_outcomes.Nothing leaves tt
+      ready_goes now old.verdicts Memory call_outcomes.Nothing leaves tt leaves.no_other
       (λ entries. to (ready_at (accounts.base old.account) (accounts.history old.account)
       (later (accounts.state old.account).last now)) entries)
     where
@@ -339,7 +367,7 @@ module _ {D R : Type 0} (G : DiskGhosts D) (V : RotatorGhosts R) (old : Run D R 
     first = refl;
     under = λ under. under;
     tells = λ s reads. (s, reads);
-    touches = record { began = refl; later = omega arith; fault = tt };
+    touches = record { began = refl; later = omega arith; fault = tt; no_other = refl };
     goes = λ under tells entries counts. (
       entries,
       subst (λ (told : Option Told). GoesTo V.replies
@@ -366,7 +394,12 @@ module _ {D R : Type 0} (G : DiskGhosts D) (V : RotatorGhosts R) (old : Run D R 
       first = refl;
       under = λ under. ap (λ (b : Base). b.limit) over.base_is;
       tells = from.stays.tells;
-      touches = record { began = over.began_is ∙ closed_is; later = from.later; fault = tt };
+      touches = record {
+        began = over.began_is ∙ closed_is;
+        later = from.later;
+        fault = tt;
+        no_other = from.no_other;
+      };
       goes = λ under tells entries counts. reopens (tells refl) entries;
     }
       where

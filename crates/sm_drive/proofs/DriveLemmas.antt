@@ -19,16 +19,16 @@ use Rattle.sm_rotator.specs.declared.verdict.Verdict.{Verdict}
 use Rattle.sm_core.specs.Histories.{InTime}
 use Rattle.sm_core.specs.Vouching.{EachAllowed, LegalKeepsVouched}
 use Rattle.sm_core.proofs.VouchedLemmas.{legal_vouched}
-use Rattle.sm_opening.specs.Following.{entries_limit, MayCome}
-use Rattle.sm_opening.specs.ReplayLaws.{KeepsSound}
-use Rattle.sm_opening.proofs.FollowLemmas.{after_count, come_front, none_come}
-use Rattle.sm_opening.proofs.SoundLaws.{come_sound}
-use Rattle.sm_sound.specs.Bases.{IsSound}
-use Rattle.sm_store.specs.BaseStores as stores
+use Rattle.sm_recovery.specs.Following.{entries_limit, MayCome}
+use Rattle.sm_recovery.specs.ReplayLaws.{KeepsSound}
+use Rattle.sm_recovery.proofs.FollowLemmas.{after_count, come_front, none_come}
+use Rattle.sm_recovery.proofs.SoundLaws.{come_sound}
+use Rattle.sm_base_check.specs.Bases.{IsSound}
+use Rattle.sm_store.specs.Stores as stores
 use Rattle.sm_store.specs.Held.{Held}
-use Rattle.sm_opening.specs.Lawful.{IsLawful, MayFollowIf, StaysLawful, base_under, made_of}
-use Rattle.sm_opening.proofs.KeepingLaws.{stays_itself}
-use Rattle.sm_opening.proofs.LawfulLaws.{stays_lawful}
+use Rattle.sm_recovery.specs.Lawful.{IsLawful, MayFollowIf, StaysLawful, base_under, made_of}
+use Rattle.sm_recovery.proofs.KeepingLaws.{stays_itself}
+use Rattle.sm_recovery.proofs.LawfulLaws.{stays_lawful}
 use Rattle.sm_account.specs.Accounts as accounts
 use Rattle.sm_account.specs.Allowed.{IsAllowedAt}
 use Rattle.sm_account.specs.AccountState.{with_entries}
@@ -103,7 +103,7 @@ module _ {D R : Type 0} (G : DiskGhosts D) (V : RotatorGhosts R) (stays : StaysL
   come_none stands = record {
     under = fresh.under;
     first = refl;
-    over = record { opened = accounts.disk start.account; later = fresh.later; touched = refl };
+    over = record { opened = accounts.disk start.account; no_other = fresh.no_other; touched = refl };
     tells = λ told. fresh.tells told.0 told.1;
     came = λ tells. (
       [],
@@ -274,7 +274,7 @@ module _ {D R : Type 0} {G : DiskGhosts D} {V : RotatorGhosts R} (disk : D) (acc
         stands = stood;
         begins = begins_from G (accounts.began account) (accounts.disk account) (accounts.taken account) from;
         tells = from.stays.tells;
-        later = from.later;
+        no_other = from.no_other;
       })
     where
       from : TakenFrom G (accounts.began account) JOURNAL_LIMIT (accounts.taken account) (accounts.disk account)
@@ -369,4 +369,4 @@ pub wanting : {D : Type 0} (G : DiskGhosts D) (replies : Replies) (disk : D) (ca
     → ((c : Image) → (G.sight disk).left_since (G.sight disk).moment c → (G.sight disk).images c)
     → IsStopped G replies disk calls (Memory disk)
 wanting G replies disk calls only_now =
-    inl (record { cause = tt; stays = stays_itself G disk only_now; later = omega arith })
+    inl (record { cause = tt; stays = stays_itself G disk only_now; later = omega arith; no_other = refl })

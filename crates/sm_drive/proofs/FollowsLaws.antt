@@ -15,11 +15,11 @@ use Rattle.sm_rotator.specs.declared.work.Work.{Work}
 use Rattle.sm_core.specs.Effects.{effect}
 use Rattle.sm_core.specs.Histories.{InTime, replay}
 use Rattle.sm_core.specs.Vouching.{EachAllowed}
-use Rattle.sm_opening.specs.Following.{after_all, after_entry, MayCome}
-use Rattle.sm_opening.proofs.FollowLemmas.{after_count, after_more, after_rows, come_last, come_more}
-use Rattle.sm_sound.specs.Bases.{IsSound}
+use Rattle.sm_recovery.specs.Following.{after_all, after_entry, MayCome}
+use Rattle.sm_recovery.proofs.FollowLemmas.{after_count, after_more, after_rows, come_last, come_more}
+use Rattle.sm_base_check.specs.Bases.{IsSound}
 use Rattle.sm_store.specs.Held.{Held, with_entry}
-use Rattle.sm_opening.specs.Lawful.{IsLawful, MayFollow, MayFollowIf, StaysLawful, base_under, made_of}
+use Rattle.sm_recovery.specs.Lawful.{IsLawful, MayFollow, MayFollowIf, StaysLawful, base_under, made_of}
 use Rattle.sm_account.specs.Allowed.{IsAllowedAt}
 use Rattle.sm_account.specs.AccountState.{with_entries}
 use Rattle.sm_account.specs.History.{entries_in, entry_then}

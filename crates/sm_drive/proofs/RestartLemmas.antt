@@ -1,5 +1,5 @@
 -- What a restart finds on the disk, and that it is not damaged.
-use Rattle.std.proofs.Common.{◌≡◌, ◌⊎◌, ℕ, ◌+◌, false, take, drop, take-append-drop, Option, Some, None, refl, sym, ap, subst, ◌∙◌, inl, inr}
+use Rattle.std.proofs.Common.{◌≡◌, ◌⊎◌, false, Option, Some, None, refl, sym, ap, subst, ◌∙◌, inl, inr}
 use Rattle.std.proofs.Math.Logic.{∥∥₁_elim, ∥∥₁_map₂}
 use Rattle.sm_base.specs.declared.limits.TheConstants.{JOURNAL_LIMIT}
 use Rattle.sm_disk.specs.Sight.{Image}
@@ -8,18 +8,18 @@ use Rattle.sm_journal.specs.declared.answers.OpenRefused.{OpenRefused}
 use Rattle.sm_journal.specs.declared.answers.OpenRefused.TheVariants.{Damaged, Failed, Memory}
 use Rattle.sm_journal.specs.declared.format.Format.{Format}
 use Rattle.sm_model.specs.declared.entry.Entry.{Entry}
-use Rattle.sm_record.specs.declared.edition.Edition.{Edition}
-use Rattle.sm_opening.specs.Following.{MayCome}
-use Rattle.sm_opening.proofs.FollowLemmas.{come_front, come_more}
-use Rattle.sm_sound.specs.Bases.{IsSound}
-use Rattle.sm_store.specs.BaseFiles.{HoldsAs, active}
-use Rattle.sm_store.specs.BaseOpenings.{IsDamagedAt}
-use Rattle.sm_store.specs.Held.{Held, Recovered, RecoveredEither, edition_of}
-use Rattle.sm_store.proofs.HeldLaws.{one_held, held_not_damaged, held_not_foreign}
-use Rattle.sm_opening.specs.Lawful.{IsLawful, MayFollowIf, base_under, made_of}
-use Rattle.sm_opening.specs.Openings.{IsFound, IsRefused}
-use Rattle.sm_opening.specs.Unlawful.{IsUnlawful, IsUnlawfulAt}
-use Rattle.sm_opening.proofs.LawfulLaws.{taken_makes}
+use Rattle.sm_recovery.specs.Following.{MayCome}
+use Rattle.sm_recovery.proofs.FaultLemmas.{sound_has_none}
+use Rattle.sm_recovery.proofs.FollowLemmas.{come_more}
+use Rattle.sm_base_check.specs.Bases.{IsSound}
+use Rattle.sm_store.specs.Files.{HoldsAs, active}
+use Rattle.sm_store.specs.Openings.{IsFaultyAt}
+use Rattle.sm_store.specs.Held.{Held, Recovered, RecoveredEither}
+use Rattle.sm_store.proofs.HeldLaws.{one_held, held_not_damaged}
+use Rattle.sm_recovery.specs.Lawful.{IsLawful, MayFollowIf, base_under, made_of}
+use Rattle.sm_recovery.specs.Openings.{IsFound, IsRefused}
+use Rattle.sm_recovery.specs.Unlawful.{IsFirstFault}
+use Rattle.sm_recovery.proofs.LawfulLaws.{taken_makes}
 use Rattle.sm_account.specs.Crashes.{HoldsOnDisk}
 use Rattle.sm_account.specs.Openings.{TakenFrom}
 use Rattle.sm_drive.specs.Refused.{is_damaged}
@@ -29,13 +29,6 @@ use Rattle.sm_drive.specs.Steps.{held_with}
 record MayStand (h : Held) : Type 0 where
   pub sound : IsSound (base_under h.base)
   pub come : MayCome (base_under h.base) h.entries
-
-not_unlawful : (edition : Edition) (h : Held) (at entry : ℕ) → MayStand h → IsUnlawful edition h at entry → ⊥
-not_unlawful edition h at entry stands (inl unsound) = unsound.not stands.sound
-not_unlawful edition h at entry stands (inr illegal) =
-    let n = illegal.count + 1 in
-    illegal.stops.not (come_front (base_under h.base) (take n h.entries) (drop n h.entries)
-    (subst (MayCome (base_under h.base)) (sym (take-append-drop n h.entries)) stands.come))
 
 with_stands : (h : Held) (found : Option Entry) → IsLawful h → MayFollowIf h found → MayStand (held_with h found)
 with_stands h None lawful next = record { sound = lawful.sound; come = lawful.come }
@@ -89,24 +82,15 @@ module _ {D : Type 0} (G : Ghosts D) (disk : D) (h : Held) (failed : Option Entr
   stands = ∥∥₁_map₂ holds.lawful holds.next
       (λ lawful next. with_stands h has.found lawful (next_of h failed has.found has.found_is next))
 
-  lawful_here : (f : Format) (g : Held) (at entry : ℕ) → HoldsAs f g (active s) → IsUnlawful (edition_of f) g at entry
-      → ⊥
-  lawful_here f g at entry read unlawful =
-      let same : held_with h has.found ≡ g =
-      one_held (active s) (held_with h has.found) g has.recovers (f, read.0, read.1) in
-      ∥∥₁_elim stands (λ x y. absurd x)
-      (λ stand. not_unlawful (edition_of f) g at entry (subst MayStand same stand) unlawful)
-
   pub not_damaged : (refused : OpenRefused D) → IsRefused G disk refused → is_damaged refused ≡ false
   not_damaged (Failed now) why = refl
   not_damaged (Memory now) why = refl
   not_damaged (Damaged now damage) why = absurd (by why.cause)
     where
-      by : IsDamagedAt damage.at damage.entry (G.sight disk) (G.sight now)
-          ⊎ IsUnlawfulAt damage.at damage.entry (G.sight disk) (G.sight now) → ⊥
-      by (inl (inl (stay, damaged))) =
+      by : IsFaultyAt IsFirstFault damage.at damage.entry (G.sight disk) (G.sight now) → ⊥
+      by (inl (stay, damaged)) =
           held_not_damaged (active s) (held_with h has.found) damage.at damage.entry has.recovers (damaged s reads)
-      by (inl (inr (stay, foreign))) =
-          held_not_foreign (active s) (held_with h has.found) damage.at damage.entry has.recovers (foreign s reads)
-      by (inr (stay, unlawful)) =
-          let is = unlawful s reads in lawful_here is.0 is.1 damage.at damage.entry is.2 is.3
+      by (inr (stay, fault)) =
+          ∥∥₁_elim stands (λ x y. absurd x)
+          (λ stand. sound_has_none (active s) (held_with h has.found) damage.at damage.entry has.recovers stand.sound
+          stand.come (fault s reads))

@@ -16,11 +16,11 @@ use Rattle.sm_model.specs.declared.why.Why.{Why}
 use Rattle.sm_rotator.specs.declared.rotator.Rotator.{Ghosts as RotatorGhosts}
 use Rattle.sm_rotator.specs.declared.verdict.Verdict.{Verdict}
 use Rattle.sm_rotator.specs.declared.work.Work.{Work}
-use Rattle.sm_store.specs.BaseStores as stores
+use Rattle.sm_store.specs.Stores as stores
 use Rattle.sm_store.specs.Held.{Held}
-use Rattle.sm_opening.specs.Lawful.{made_of}
+use Rattle.sm_recovery.specs.Lawful.{made_of}
 use Rattle.sm_account.specs.Accounts as accounts
-use Rattle.sm_account.specs.CallOutcomes.{CallOutcome, IfFailed, Leaves, LeavesTried, tried_by}
+use Rattle.sm_account.specs.CallOutcomes.{CallOutcome, IfFailed, Leaves, LeavesTried, tried_by, UnlessFailed}
 use Rattle.sm_account.specs.CallOutcomes as call_outcomes
 use Rattle.sm_account.specs.Efforts.{Effort, Undue, Over, Due}
 use Rattle.sm_account.specs.Handled.{HandledAs}
@@ -39,7 +39,7 @@ use Rattle.sm_account.specs.declared.start_due.StartedDue.TheVariants as started
 use Rattle.sm_account.proofs.HeldLemmas.{made_count}
 use Rattle.sm_account.proofs.StateLaws.{entries_more}
 use Rattle.sm_drive.specs.Aims.{Aim, Enters, Claims, Stops, aim_asked, aim_within, is_limit, refused_as}
-use Rattle.sm_drive.specs.Disks.{OnDiskFault}
+use Rattle.sm_drive.specs.Disks.{OnDiskFault, UnlessDiskFault}
 use Rattle.sm_drive.specs.Outcomes.{answered_as, handled_as, reported_as, started_as}
 use Rattle.sm_drive.specs.Stands.{Stand, base_at, seat, entered, faulted, claimed, keeping, stand_of, told_of}
 use Rattle.sm_drive.specs.Stepping.{Counts}
@@ -105,6 +105,50 @@ module _ (P : Type 0) where
   started_fault (Undue none) started.DiskFault place is failed = absurd is
   started_fault (Over passed) started.DiskFault place is failed = absurd is
   started_fault wanted started.Memory place is failed = tt
+
+-- ---- a fact where it did not fail
+
+module _ (P : Type 0) where
+  answered_stays : (entered : Bool) (place : ℕ) → P → UnlessDiskFault (answered_as entered place) P
+  answered_stays true place stays = stays
+  answered_stays false place stays = stays
+
+  refused_stays : (why : Why) → P → UnlessDiskFault (refused_as why) P
+  refused_stays why stays = by (is_limit why)
+    where
+      by : (b : Bool) → UnlessDiskFault (cond b Limit Refused) P
+      by true = stays
+      by false = stays
+
+  pub handled_stays : (wanted : ends) (result : Handled) (entered : Bool) (place : ℕ)
+      → UnlessFailed (handled_by result wanted) P → UnlessDiskFault (handled_as entered place result) P
+  handled_stays (replied said (Some entry)) (handled.Answered reply) entered place stays =
+      answered_stays entered place stays
+  handled_stays (replied said None) (handled.Answered reply) entered place stays = answered_stays entered place stays
+  handled_stays (Refuses why) (handled.Answered reply) entered place stays = answered_stays entered place stays
+  handled_stays wanted (handled.Refused why) entered place stays = refused_stays why stays
+  handled_stays wanted handled.DiskFault entered place stays = tt
+  handled_stays wanted handled.Memory entered place stays = stays
+
+  pub reported_stays : (wanted : Effort (Option At)) (result : reports) (place : ℕ)
+      → UnlessFailed (reported_by result wanted) P → UnlessDiskFault (reported_as place result) P
+  reported_stays (Due entry) reported.Moved place stays = stays
+  reported_stays (Undue at) reported.Moved place stays = stays
+  reported_stays (Over passed) reported.Moved place stays = stays
+  reported_stays wanted (reported.Stale at) place stays = stays
+  reported_stays wanted (reported.Limit most) place stays = stays
+  reported_stays wanted reported.DiskFault place stays = tt
+  reported_stays wanted reported.Memory place stays = stays
+
+  pub started_stays : (wanted : Effort (Unit {0})) (result : StartedDue) (place : ℕ)
+      → UnlessFailed (started_by result wanted) P → UnlessDiskFault (started_as place result) P
+  started_stays (Due entry) (started.Started arn) place stays = stays
+  started_stays (Undue none) (started.Started arn) place stays = stays
+  started_stays (Over passed) (started.Started arn) place stays = stays
+  started_stays wanted started.None place stays = stays
+  started_stays wanted (started.Limit most) place stays = stays
+  started_stays wanted started.DiskFault place stays = tt
+  started_stays wanted started.Memory place stays = stays
 
 -- ---- where the run stands after a call
 

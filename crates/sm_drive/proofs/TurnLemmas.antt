@@ -71,7 +71,7 @@ module _ {D : Type 0} (G : DiskGhosts D) where
   over_later given calls outs last over =
       omega (
         arith,
-        over.later,
+        over.no_other,
         touched_later calls outs (record { began = given; now = over.opened }) last over.touched,
       )
 
@@ -80,7 +80,7 @@ module _ {D : Type 0} (G : DiskGhosts D) where
       → GoesOver G given (calls ++ call ∷ []) (outs ++ out ∷ []) last
   over_more given calls outs call out mid last over touches = record {
     opened = over.opened;
-    later = over.later;
+    no_other = over.no_other;
     touched = turns_more (Touches G) calls outs call out (record { began = given; now = over.opened }) mid last
         over.touched touches;
   }

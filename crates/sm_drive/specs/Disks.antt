@@ -26,19 +26,25 @@ abbrev pub OnDiskFault : Outcome → Type 0 → Type 0
 OnDiskFault DiskFault P = P
 OnDiskFault out P = ⊤
 
+-- a fact where it did not fail
+abbrev pub UnlessDiskFault : Outcome → Type 0 → Type 0
+UnlessDiskFault DiskFault P = ⊤
+UnlessDiskFault out P = P
+
 -- A call over a disk: a Restart opens it as it was left, and no other call opens it. Its count of faults never falls,
--- and where the outcome is that the disk failed it rose in this call.
+-- and where the outcome is that the disk failed it rose in this call. With every other outcome it stays.
 pub record Touches {D : Type 0} (G : DiskGhosts D) (call : Call) (out : Outcome) (old new : Disks D) : Type 0 where
   pub began : new.began ≡ found_by call old
   pub later : G.faults old.now ≤ G.faults new.now
   pub fault : OnDiskFault out (Rose (G.faults old.now) (G.faults new.now))
+  pub no_other : UnlessDiskFault out (G.faults new.now ≡ G.faults old.now)
 
--- Calls over the disk that a run was given: the opening at the start found that one and left another, whose count is
--- not less, and each call went on from there.
+-- Calls over the disk that a run was given: the opening at the start found that one and left another with the same
+-- count, and each call went on from there.
 pub record GoesOver {D : Type 0} (G : DiskGhosts D) (given : D) (calls : List Call) (outs : List Outcome)
     (last : Disks D) : Type 0 where
   pub opened : D
-  pub later : G.faults given ≤ G.faults opened
+  pub no_other : G.faults opened ≡ G.faults given
   pub touched : InTurn (Touches G) calls outs (record { began = given; now = opened }) last
 
 -- the disk of an account

@@ -5,12 +5,12 @@ use Rattle.sm_core.specs.Vouching.{EachAllowed, Vouched}
 use Rattle.sm_disk.specs.Sight.{Sight}
 use Rattle.sm_disk.specs.declared.disk.Disk.{Ghosts as DiskGhosts}
 use Rattle.sm_model.specs.declared.entry.Entry.{Entry}
-use Rattle.sm_opening.specs.Lawful.{made_of}
+use Rattle.sm_recovery.specs.Lawful.{made_of}
 use Rattle.sm_record.specs.declared.base.Base.{Base}
-use Rattle.sm_opening.specs.Following.{after_all, MayCome}
+use Rattle.sm_recovery.specs.Following.{after_all, MayCome}
 use Rattle.sm_rotation.specs.Vouched.{Replies}
 use Rattle.sm_rotator.specs.declared.rotator.Rotator.{Ghosts as RotatorGhosts}
-use Rattle.sm_sound.specs.Bases.{IsSound}
+use Rattle.sm_base_check.specs.Bases.{IsSound}
 use Rattle.sm_store.specs.Held.{Held}
 use Rattle.sm_drive.specs.Openings.{Begins, beginning}
 use Rattle.sm_drive.specs.Runs.{Runs}

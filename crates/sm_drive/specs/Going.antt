@@ -3,7 +3,7 @@ use Rattle.std.specs.Prelude.{◌≡◌, ◌≤◌, List, []}
 use Rattle.sm_disk.specs.Steps.{GoesOnTelling}
 use Rattle.sm_disk.specs.declared.disk.Disk.{Ghosts as DiskGhosts}
 use Rattle.sm_model.specs.declared.entry.Entry.{Entry}
-use Rattle.sm_opening.specs.Lawful.{made_of}
+use Rattle.sm_recovery.specs.Lawful.{made_of}
 use Rattle.sm_rotation.specs.Vouched.{Replies}
 use Rattle.sm_rotator.specs.declared.rotator.Rotator.{Ghosts as RotatorGhosts}
 use Rattle.sm_store.specs.Held.{Held}
@@ -33,7 +33,7 @@ module _ {D R : Type 0} {G : DiskGhosts D} {V : RotatorGhosts R} where
     pub stands : stand_in run [] ≡ beginning (taken run.account)
     pub begins : Begins (G.sight (began run.account)) (taken run.account)
     pub tells : GoesOnTelling (G.sight (began run.account)) (G.sight (disk run.account))
-    pub later : G.faults (began run.account) ≤ G.faults (disk run.account)
+    pub no_other : G.faults (disk run.account) ≡ G.faults (began run.account)
 
   -- a run after these calls: it came so far with some list of entries, where a Restart among them over a disk that told
   pub record HasCome (start : Run D R G V) (calls : List Call) (outcomes : List Outcome) (now : Run D R G V)

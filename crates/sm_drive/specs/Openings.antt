@@ -3,8 +3,8 @@ use Rattle.std.specs.Prelude.{◌≡◌, ℕ, List, [], Some, slice_get}
 use Rattle.sm_base.specs.declared.limits.TheConstants.{JOURNAL_LIMIT}
 use Rattle.sm_disk.specs.Sight.{Image, Sight}
 use Rattle.sm_journal.specs.declared.format.Format.{Format}
-use Rattle.sm_opening.specs.Openings.{IsFound}
-use Rattle.sm_opening.specs.Replacing.{taken_of}
+use Rattle.sm_recovery.specs.Openings.{IsFound}
+use Rattle.sm_recovery.specs.Replacing.{taken_of}
 use Rattle.sm_store.specs.Held.{Held}
 use Rattle.sm_drive.specs.Stands.{Stand, opened}
 use Rattle.sm_drive.specs.declared.call.Call.{Call}

@@ -7,7 +7,7 @@ use Rattle.sm_journal.specs.declared.answers.OpenRefused.TheVariants.{Damaged, F
 use Rattle.sm_rotation.specs.Vouched.{Replies}
 use Rattle.sm_rotator.specs.declared.rotator.Rotator.{Ghosts as RotatorGhosts}
 use Rattle.sm_store.specs.Held.{Held}
-use Rattle.sm_opening.specs.Openings.{IsRefused}
+use Rattle.sm_recovery.specs.Openings.{IsRefused}
 use Rattle.sm_account.specs.Accounts.{disk}
 use Rattle.sm_account.specs.Crashes.{HoldsOnDisk}
 use Rattle.sm_drive.specs.Disks.{Disks, GoesOver}

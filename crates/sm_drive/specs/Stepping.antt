@@ -5,7 +5,7 @@ use Rattle.sm_disk.specs.Steps.{GoesOnTelling}
 use Rattle.sm_disk.specs.declared.disk.Disk.{Ghosts as DiskGhosts}
 use Rattle.sm_model.specs.declared.entry.Entry.{Entry}
 use Rattle.sm_rotator.specs.declared.rotator.Rotator.{Ghosts as RotatorGhosts}
-use Rattle.sm_opening.specs.Lawful.{made_of}
+use Rattle.sm_recovery.specs.Lawful.{made_of}
 use Rattle.sm_account.specs.Accounts.{base, disk}
 use Rattle.sm_drive.specs.Disks.{Disks, Touches, disks_of}
 use Rattle.sm_drive.specs.Openings.{Tells}

@@ -8,7 +8,7 @@ use Rattle.sm_claims.specs.Works.{IsWorkOf}
 use Rattle.sm_rotator.specs.declared.told.Told.{Told}
 use Rattle.sm_rotator.specs.declared.work.Work.{Work}
 use Rattle.sm_store.specs.Held.{Held, with_entry}
-use Rattle.sm_opening.specs.Lawful.{made_of}
+use Rattle.sm_recovery.specs.Lawful.{made_of}
 use Rattle.sm_drive.specs.Aims.{Aim, Enters, Claims, Reopens, Stops, aim}
 use Rattle.sm_drive.specs.Stands.{Stand, all_at, opened, entered, faulted, claimed, keeping}
 use Rattle.sm_drive.specs.declared.call.Call.{Call}

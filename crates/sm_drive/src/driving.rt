@@ -3,8 +3,8 @@ ghost use Rattle.std.specs.Prelude.{◌≡◌, ◌≤◌, [], IfOk, IfErr, lengt
 ghost use Rattle.sm_account.specs.Accounts as accounts;
 ghost use Rattle.sm_account.specs.Accounts.{all_of, doors, failed};
 ghost use Rattle.sm_account.specs.Crashes.{HoldsOnDisk};
-ghost use Rattle.sm_opening.specs.Openings.{IsRefused};
-ghost use Rattle.sm_store.specs.BaseStores.{disk_in};
+ghost use Rattle.sm_recovery.specs.Openings.{IsRefused};
+ghost use Rattle.sm_store.specs.Stores.{disk_in};
 ghost use Rattle.sm_drive.specs.Asked.{AllMayBeMade};
 ghost use Rattle.sm_drive.specs.Askings.{AsksIn, askings};
 ghost use Rattle.sm_drive.specs.Disks.{GoesOver, disks_of};

@@ -1,6 +1,6 @@
 //! Restarts of a run.
 ghost use Rattle.std.specs.Prelude.{◌≡◌, IfOk, IfErr, false};
-ghost use Rattle.sm_opening.specs.Openings.{IsRefused};
+ghost use Rattle.sm_recovery.specs.Openings.{IsRefused};
 ghost use Rattle.sm_account.specs.Accounts.{disk, doors};
 ghost use Rattle.sm_drive.specs.Openings.{Tells};
 ghost use Rattle.sm_drive.specs.Refused.{is_damaged};

@@ -30,7 +30,7 @@ use Rattle.sm_versions.specs.Sound.{tag_keys, each_tag}
 use Rattle.sm_forms.specs.DeleteSecret.{is_window}
 use Rattle.sm_forms.specs.RotateSecret.{is_period}
 use Rattle.sm_forms.specs.UntagResource.{is_untag_key}
-use Rattle.sm_judging.proofs.RegionLemmas.{few_regions, each_region}
+use Rattle.sm_judge_common.proofs.RegionLemmas.{few_regions, each_region}
 use Rattle.sm_record.specs.Codec.{optional}
 use Rattle.sm_record.specs.declared.edition.Edition.TheVariants.{Second}
 use Rattle.sm_record.specs.Fields.{arn, attempt, count, long, signed, octets, rotation_rules, stage, text, token, truth, listed, tag, value}

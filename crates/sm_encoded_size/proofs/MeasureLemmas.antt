@@ -11,7 +11,7 @@ use Rattle.sm_record.specs.Snapshots.{snapshot, start_body, secret_bodies}
 use Rattle.sm_record.specs.declared.base.Base.{Base}
 use Rattle.sm_record.specs.declared.edition.Edition.TheVariants.{Second}
 use Rattle.sm_record.proofs.SnapshotLaws.{snapshot_bodies}
-use Rattle.sm_sound.proofs.DifferLemmas.{more}
+use Rattle.sm_base_check.proofs.DifferLemmas.{more}
 
 -- what all pass, the one at a place passes
 pub fits_at : {A : Type 0} (test : A → Bool) (xs : List A) (i : ℕ) (x : A) → slice_get xs i ≡ Some x

@@ -47,9 +47,9 @@ use Rattle.sm_forms.proofs.TagResourceLemmas as tagging
 use Rattle.sm_forms.proofs.UntagResourceLemmas as untagging
 use Rattle.sm_forms.proofs.UpdateSecretLemmas as update
 use Rattle.sm_forms.proofs.UpdateSecretVersionStageLemmas as moving
-use Rattle.sm_judging.specs.declared.judged.Judged.{Judged}
-use Rattle.sm_judging.specs.declared.judged.Judged.TheVariants.{Accept, Refuse, Memory}
-use Rattle.sm_judging.specs.Judged.{IfChange}
+use Rattle.sm_judge_common.specs.declared.judged.Judged.{Judged}
+use Rattle.sm_judge_common.specs.declared.judged.Judged.TheVariants.{Accept, Refuse, Memory}
+use Rattle.sm_judge_common.specs.Judged.{IfChange}
 use Rattle.sm_judge_values.proofs.CreateSecretLemmas.{create_few}
 use Rattle.sm_judge_deletion_and_tags.proofs.TagResourceLemmas.{tag_few}
 use Rattle.sm_core.specs.Histories.{IsDue, LegalAct}

@@ -16,7 +16,7 @@ use Rattle.sm_record.specs.Series.{one}
 use Rattle.sm_record.specs.Snapshots.{snapshot, has_snapshot, HasSnapshot}
 use Rattle.sm_record.specs.declared.base.Base.{Base}
 use Rattle.sm_record.specs.declared.edition.Edition.TheVariants.{Second}
-use Rattle.sm_sound.specs.Bases.{IsSound}
+use Rattle.sm_base_check.specs.Bases.{IsSound}
 use Rattle.sm_encoded_size.specs.Typed.{VersionsTyped, RowTyped, RowsTyped, BaseTyped}
 use Rattle.sm_encoded_size.proofs.BodySizes.{long_size, long_fits, version_fits, version_size, head_fits, head_size}
 

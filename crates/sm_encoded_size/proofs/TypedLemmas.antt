@@ -4,7 +4,7 @@ use Rattle.std.proofs.lemmas.List.{take_more, take_all}
 use Rattle.sm_model.specs.declared.rows.SecretRow.{SecretRow}
 use Rattle.sm_model.specs.declared.rows.VersionRow.{VersionRow}
 use Rattle.sm_encoded_size.specs.Typed.{VersionTyped, VersionsTyped, RowTyped, RowsTyped}
-use Rattle.sm_sound.proofs.DifferLemmas.{more}
+use Rattle.sm_base_check.proofs.DifferLemmas.{more}
 
 version_at : (versions : List VersionRow) (i : ℕ) → i < length versions
     → (v : VersionRow) × (slice_get versions i ≡ Some v)

@@ -5,7 +5,7 @@ ghost use Rattle.sm_journal.specs.Records.{size};
 ghost use Rattle.sm_record.specs.Rows as rows;
 ghost use Rattle.sm_record.specs.Snapshots.{one_version, secret_bodies};
 ghost use Rattle.sm_record.specs.declared.edition.Edition.TheVariants.{Second};
-ghost use Rattle.sm_sound.specs.Bases.{IsSound};
+ghost use Rattle.sm_base_check.specs.Bases.{IsSound};
 ghost use Rattle.sm_encoded_size.specs.Files.{file_size};
 
 use crate::spelled::note_spelled;

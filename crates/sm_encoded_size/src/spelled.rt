@@ -2,7 +2,7 @@
 ghost use Rattle.sm_journal.specs.Records.{AreWithin, size};
 ghost use Rattle.sm_record.specs.Snapshots.{snapshot, HasSnapshot};
 ghost use Rattle.sm_record.specs.declared.edition.Edition.TheVariants.{Second};
-ghost use Rattle.sm_sound.specs.Bases.{IsSound};
+ghost use Rattle.sm_base_check.specs.Bases.{IsSound};
 ghost use Rattle.std.specs.Prelude.{◌^◌, ◌<◌};
 
 use crate::typed::note_base;

@@ -3,7 +3,7 @@ ghost use Rattle.std.specs.Prelude.{◌≤◌, length, IfOk, IfSome, IsTrue, IsU
 ghost use Rattle.sm_base.specs.declared.moment.TheConstants.{LAST_READING};
 ghost use Rattle.sm_base.specs.Spelling.{is_arn, is_token};
 ghost use Rattle.sm_journal.specs.Records.{body_limit};
-ghost use Rattle.sm_store.specs.BaseAppends.{IsReady};
+ghost use Rattle.sm_store.specs.Appends.{IsReady};
 ghost use Rattle.sm_encoded_size.specs.Spellable.{IsSpellable};
 ghost use Rattle.sm_encoded_size.specs.Texts.{ActTexts, AnswerText, EachText, TagTexts, TextsOf, ValueText};
 

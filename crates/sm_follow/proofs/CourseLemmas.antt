@@ -6,11 +6,11 @@ use Rattle.std.specs.Io.KnownBytes.{append_known, prepend_known, IsAtEnd}
 use Rattle.std.specs.Prelude.{MatchOption}
 use Rattle.sm_base.specs.Faults.{Rose}
 use Rattle.sm_disk.specs.declared.disk.Disk.{Ghosts}
-use Rattle.sm_frames.specs.declared.input.Input.{Input}
-use Rattle.sm_frames.specs.declared.reader.NextFrame.{NextFrame}
-use Rattle.sm_frames.specs.declared.reader.NextFrame.TheVariants as next
-use Rattle.sm_frames.specs.Frames.{IsFrame, frame_bytes}
-use Rattle.sm_frames.specs.Reading.{FrameReaderState, Answers, Reads as ReadsFrame, last_place, stopped}
+use Rattle.sm_replication.specs.declared.input.Input.{Input}
+use Rattle.sm_replication.specs.declared.reader.NextFrame.{NextFrame}
+use Rattle.sm_replication.specs.declared.reader.NextFrame.TheVariants as next
+use Rattle.sm_replication.specs.Frames.{IsFrame, frame_bytes}
+use Rattle.sm_replication.specs.Reading.{FrameReaderState, Answers, Reads as ReadsFrame, last_place, stopped}
 use Rattle.sm_principal.specs.declared.people.People.{People}
 use Rattle.sm_session.specs.Endings.{Sides, count_limit}
 use Rattle.sm_io.proofs.Known.{append_known-nil, prepend_known-append, prepend_known-nil, told_more}

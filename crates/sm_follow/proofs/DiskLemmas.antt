@@ -1,5 +1,5 @@
 -- What stands on the disk of a replica.
-use Rattle.std.proofs.Common.{◌≤◌, ℕ, List, arith, refl, sym, subst}
+use Rattle.std.proofs.Common.{◌≡◌, ◌≤◌, ℕ, List, arith, refl, sym, subst}
 use Rattle.sm_disk.specs.AllFiles.{LeavesBy}
 use Rattle.sm_disk.specs.Sight.{Sight}
 use Rattle.sm_disk.specs.declared.disk.Disk.{Ghosts}
@@ -10,9 +10,9 @@ use Rattle.sm_principal.specs.declared.people.People.{People}
 use Rattle.sm_record.specs.declared.base.Base.{Base}
 use Rattle.sm_replica.specs.Replicas.{Replica}
 use Rattle.sm_session.specs.declared.said.Said.{Said}
-use Rattle.sm_store.specs.BaseFiles.{HoldsAs}
-use Rattle.sm_store.specs.BaseOpenings.{ListsStay, ReadsActive}
-use Rattle.sm_store.specs.BaseStores.{IsStopped, disk_in as handed_in}
+use Rattle.sm_store.specs.Files.{HoldsAs}
+use Rattle.sm_store.specs.Openings.{ListsStay, ReadsActive}
+use Rattle.sm_store.specs.Stores.{IsStopped, disk_in as handed_in}
 use Rattle.sm_store.specs.Held.{Held, HeldOr, only}
 use Rattle.sm_follow.specs.declared.end.End.{End}
 use Rattle.sm_follow.specs.declared.follower.Turned.{Turned}
@@ -52,16 +52,17 @@ module _ {D : Type 0} {G : Ghosts D} (first : D) where
   refused_later (refusals.Failed disk) t stopped (reply, says, is) =
       subst (λ (x : Turned D G). IsLater (G.faults first) x) (sym is) stopped.0
   refused_later (refusals.Memory disk) t stopped is =
-      subst (λ (x : Turned D G). IsLater (G.faults first) x) (sym is) stopped
+      let later : G.faults first ≤ G.faults disk = omega (arith, stopped) in
+      subst (λ (x : Turned D G). IsLater (G.faults first) x) (sym is) later
   refused_later (refusals.Damaged disk damage) t stopped ends = absurd ends
 
 -- a stream over what an opening took
 pub followed_over : {D : Type 0} (G : Ghosts D) (people : People) (region : List ℕ) (end : End) (before after : Around)
     (disk opened new : D) (format : Format) (held : Held) → ReadsActive (HoldsAs format held) (G.sight disk)
-    → ListsStay (G.sight disk) (G.sight opened) → G.faults disk ≤ G.faults opened
+    → ListsStay (G.sight disk) (G.sight opened) → G.faults opened ≡ G.faults disk
     → Ended G people (first_state region held) (G.faults opened) end new before after → G.faults opened ≤ G.faults new
     → FollowsOver G people region end before after disk new
-followed_over G people region end before after disk opened new format held found stays since ended later = record {
+followed_over G people region end before after disk opened new format held found stays same ended later = record {
   opened = opened;
   format = format;
   held = held;
@@ -70,6 +71,7 @@ followed_over G people region end before after disk opened new format held found
   onward = ended.0;
   followed = ended.1;
   on_disk = ended.2;
-  cause = fails_earlier ended.0 (G.faults disk) (G.faults opened) (G.faults new) since ended.3;
-  later = omega (arith, since, later);
+  cause = fails_earlier ended.0 (G.faults disk) (G.faults opened) (G.faults new) (omega (arith, same))
+      ended.3;
+  later = omega (arith, same, later);
 }

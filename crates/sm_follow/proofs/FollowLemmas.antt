@@ -4,10 +4,10 @@ use Rattle.std.specs.Io.KnownBytes.{IsAtEnd}
 use Rattle.sm_base.specs.Faults.{Rose}
 use Rattle.sm_base.specs.declared.limits.TheConstants.{JOURNAL_LIMIT}
 use Rattle.sm_disk.specs.declared.disk.Disk.{Ghosts}
-use Rattle.sm_frames.specs.declared.input.Input.{Input}
-use Rattle.sm_frames.specs.declared.reader.NextFrame.{NextFrame}
-use Rattle.sm_frames.specs.declared.reader.NextFrame.TheVariants as next
-use Rattle.sm_frames.specs.Reading.{FrameReaderState, Reads as ReadsFrame}
+use Rattle.sm_replication.specs.declared.input.Input.{Input}
+use Rattle.sm_replication.specs.declared.reader.NextFrame.{NextFrame}
+use Rattle.sm_replication.specs.declared.reader.NextFrame.TheVariants as next
+use Rattle.sm_replication.specs.Reading.{FrameReaderState, Reads as ReadsFrame}
 use Rattle.sm_principal.specs.declared.people.People.{People}
 use Rattle.sm_session.specs.Endings.{Sides}
 use Rattle.sm_follow.specs.declared.end.End.{End}

@@ -3,7 +3,7 @@ use Rattle.std.proofs.Common.{◌≡◌, List, ℕ, [], ◌++◌, Option, Some, 
 use Rattle.std.specs.Io.KnownBytes.{IsAtEnd}
 use Rattle.std.specs.Prelude.{IfNone}
 use Rattle.sm_base.specs.declared.bad_kind.BadKind.{BadKind}
-use Rattle.sm_frames.specs.Frames.{IsOneMessage}
+use Rattle.sm_replication.specs.Frames.{IsOneMessage}
 use Rattle.sm_http.specs.declared.answer.Message.{Message as owned}
 use Rattle.sm_http.specs.declared.answer.Next.{Next}
 use Rattle.sm_http.specs.declared.answer.Next.TheVariants as next

@@ -3,17 +3,17 @@ use Rattle.std.proofs.Common.{◌≡◌, ◌⊎◌, ◌≤◌, ℕ, zero, suc, B
 use Rattle.sm_base.specs.declared.moment.Moment.{Moment}
 use Rattle.sm_core.specs.Histories.{InTime}
 use Rattle.sm_disk.specs.declared.disk.Disk.{Ghosts}
-use Rattle.sm_frames.specs.declared.frame.Frame.{Frame}
-use Rattle.sm_frames.specs.declared.input.Input.{Input}
-use Rattle.sm_frames.specs.declared.input.Input.TheVariants as read
+use Rattle.sm_replication.specs.declared.frame.Frame.{Frame}
+use Rattle.sm_replication.specs.declared.input.Input.{Input}
+use Rattle.sm_replication.specs.declared.input.Input.TheVariants as read
 use Rattle.sm_model.specs.declared.entry.Entry.{Entry}
 use Rattle.sm_model.specs.declared.why.Why.{Why}
-use Rattle.sm_opening.proofs.LawfulLaws.{stays_lawful}
-use Rattle.sm_opening.specs.Lawful.{IsLawful}
+use Rattle.sm_recovery.proofs.LawfulLaws.{stays_lawful}
+use Rattle.sm_recovery.specs.Lawful.{IsLawful}
 use Rattle.sm_principal.specs.declared.people.People.{People}
 use Rattle.sm_record.specs.declared.base.Base.{Base}
-use Rattle.sm_opening.proofs.FollowLemmas.{after_count, come_front, nothing_sound}
-use Rattle.sm_opening.specs.Following.{after_all, MayCome, origin}
+use Rattle.sm_recovery.proofs.FollowLemmas.{after_count, come_front, nothing_sound}
+use Rattle.sm_recovery.specs.Following.{after_all, MayCome, origin}
 use Rattle.sm_replica.proofs.PrefixLaws.{follows_history}
 use Rattle.sm_replica.specs.declared.replica.Taken.{Taken}
 use Rattle.sm_replica.specs.Histories.{IsAt, IsHistory, IsOf, Step}

@@ -4,7 +4,7 @@ use Rattle.std.specs.Io.KnownBytes.{append_known}
 use Rattle.sm_base.specs.declared.limits.TheConstants.{JOURNAL_LIMIT}
 use Rattle.sm_disk.specs.Sight.{Sight}
 use Rattle.sm_disk.specs.declared.disk.Disk.{Ghosts}
-use Rattle.sm_frames.specs.declared.input.Input.{Input}
+use Rattle.sm_replication.specs.declared.input.Input.{Input}
 use Rattle.sm_principal.specs.declared.people.People.{People}
 use Rattle.sm_session.specs.Replies.{reply_of}
 use Rattle.sm_io.proofs.Known.{append_known-nil}

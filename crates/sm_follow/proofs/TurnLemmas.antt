@@ -5,12 +5,12 @@ use Rattle.sm_base.specs.SecretId.{secret_id}
 use Rattle.sm_base.specs.declared.limits.TheConstants.{JOURNAL_LIMIT}
 use Rattle.sm_base.specs.declared.moment.Moment.{Moment}
 use Rattle.sm_disk.specs.declared.disk.Disk.{Ghosts}
-use Rattle.sm_frames.specs.declared.frame.Frame.{Frame}
-use Rattle.sm_frames.specs.declared.input.Input.{Input}
-use Rattle.sm_frames.specs.declared.input.Input.TheVariants as inputs
-use Rattle.sm_judging.specs.declared.judged.Judged.{Judged}
-use Rattle.sm_judging.specs.declared.judged.Judged.TheVariants as judgements
-use Rattle.sm_judging.specs.Judged.{judged_told}
+use Rattle.sm_replication.specs.declared.frame.Frame.{Frame}
+use Rattle.sm_replication.specs.declared.input.Input.{Input}
+use Rattle.sm_replication.specs.declared.input.Input.TheVariants as inputs
+use Rattle.sm_judge_common.specs.declared.judged.Judged.{Judged}
+use Rattle.sm_judge_common.specs.declared.judged.Judged.TheVariants as judgements
+use Rattle.sm_judge_common.specs.Judged.{judged_told}
 use Rattle.sm_model.specs.declared.request.OfSecret.{OfSecret}
 use Rattle.sm_model.specs.declared.request.Request.{Request}
 use Rattle.sm_model.specs.declared.request.Request.TheVariants as requests
@@ -29,11 +29,11 @@ use Rattle.sm_session.specs.Replies as session
 use Rattle.sm_session.specs.Replies.{reply_of, unavailable}
 use Rattle.sm_session.specs.declared.said.Said.{Said}
 use Rattle.sm_session.specs.declared.said.Said.TheVariants as replies
-use Rattle.sm_sound.specs.Bases.{IsSound}
-use Rattle.sm_store.proofs.BaseStands.{holds_recover}
-use Rattle.sm_store.specs.BaseStores.{IsOpened, disk_of}
+use Rattle.sm_base_check.specs.Bases.{IsSound}
+use Rattle.sm_store.proofs.StoreStands.{holds_recover}
+use Rattle.sm_store.specs.Stores.{IsOpened, disk_of}
 use Rattle.sm_store.specs.Held.{Held, only}
-use Rattle.sm_store.specs.declared.base_store.BaseStore.{BaseStore}
+use Rattle.sm_store.specs.declared.store.Store.{Store}
 use Rattle.sm_table.specs.Found.{found}
 use Rattle.sm_follow.specs.declared.end.End.TheVariants as ends
 use Rattle.sm_follow.specs.declared.follower.Follower.{Follower}
@@ -93,13 +93,13 @@ module _ {D : Type 0} {G : Ghosts D} where
   comes_memory P faults state follower stands f = (state, stands, f)
 
   -- each image of the disk of a store that was opened recovers to what it holds
-  pub keeps_opened : (limit : ℕ) (held : Held) (store : BaseStore D G) → IsOpened limit held store
+  pub keeps_opened : (limit : ℕ) (held : Held) (store : Store D G) → IsOpened limit held store
       → KeepsOnDisk (Sure held) (G.sight (disk_of store))
   keeps_opened limit held store opened = λ c image. holds_recover store held None opened.holds c image
 
   -- there was no memory for a promotion, and the disk is as it was
   pub lacks_comes : (state : State) (moment : Moment) (text : List ℕ)
-      → IsTrue (shows state.replica (secret_id text) moment) → (store : BaseStore D G)
+      → IsTrue (shows state.replica (secret_id text) moment) → (store : Store D G)
       → IsOpened JOURNAL_LIMIT state.held store → (faults : ℕ) (t : Turned D G)
       → t ≡ turned.Ends ends.Memory (disk_of store) (said.Reply replies.Memory)
       → ComesBy (PromotesAs state moment text) faults t
@@ -194,7 +194,7 @@ module _ {D : Type 0} {G : Ghosts D} (people : People) (state : State) (follower
     record state { replica = next.replica },
     record {
       replica = refl;
-      store = subst (λ (s : BaseStore D G). IsOpened JOURNAL_LIMIT state.held s) (sym same) stands.store;
+      store = subst (λ (s : Store D G). IsOpened JOURNAL_LIMIT state.held s) (sym same) stands.store;
     },
     λ o w. record {
       answer = taken;

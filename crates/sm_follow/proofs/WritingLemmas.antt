@@ -4,7 +4,7 @@ use Rattle.std.proofs.lemmas.List.{take_all}
 use Rattle.std.specs.Io.KnownBytes.{append_known}
 use Rattle.std.specs.Prelude.{IfOk, MatchBool}
 use Rattle.sm_base.specs.Faults.{Rose}
-use Rattle.sm_frames.specs.Outputs.{position_bytes, reply_bytes}
+use Rattle.sm_replication.specs.Outputs.{position_bytes, reply_bytes}
 use Rattle.sm_http.specs.declared.reply.Sent.{Sent}
 use Rattle.sm_http.specs.Framed.{Sends}
 use Rattle.sm_session.specs.Replies.{framed_answer, reply_of}

@@ -4,13 +4,13 @@ use Rattle.sm_base.specs.Faults.{Rose}
 use Rattle.sm_base.specs.declared.limits.TheConstants.{JOURNAL_LIMIT}
 use Rattle.sm_disk.specs.Sight.{Image, Sight}
 use Rattle.sm_disk.specs.declared.disk.Disk.{Ghosts}
-use Rattle.sm_frames.specs.declared.input.Input.{Input}
+use Rattle.sm_replication.specs.declared.input.Input.{Input}
 use Rattle.sm_journal.specs.declared.format.Format.{Format}
 use Rattle.sm_principal.specs.declared.people.People.{People}
-use Rattle.sm_opening.specs.Following.{origin}
-use Rattle.sm_store.specs.BaseFiles.{HoldsAs}
-use Rattle.sm_store.specs.BaseOpenings.{ListsStay, ReadsActive}
-use Rattle.sm_store.specs.BaseStores.{IsOpened, disk_of, is_unsure, limit_of}
+use Rattle.sm_recovery.specs.Following.{origin}
+use Rattle.sm_store.specs.Files.{HoldsAs}
+use Rattle.sm_store.specs.Openings.{ListsStay, ReadsActive}
+use Rattle.sm_store.specs.Stores.{IsOpened, disk_of, is_unsure, limit_of}
 use Rattle.sm_store.specs.Held.{Held, Recovered}
 use Rattle.sm_follow.specs.declared.end.End.{End}
 use Rattle.sm_follow.specs.declared.end.End.TheVariants as ends

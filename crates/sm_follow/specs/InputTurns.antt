@@ -8,12 +8,12 @@ use Rattle.sm_base.specs.declared.moment.Moment.{Moment}
 use Rattle.sm_access.specs.Admission.{admission}
 use Rattle.sm_core.specs.Histories.{later}
 use Rattle.sm_forms.specs.Forms.{forms_of}
-use Rattle.sm_frames.specs.declared.frame.Frame.{Frame}
-use Rattle.sm_frames.specs.declared.input.Input.{Input}
-use Rattle.sm_frames.specs.declared.input.Input.TheVariants as inputs
+use Rattle.sm_replication.specs.declared.frame.Frame.{Frame}
+use Rattle.sm_replication.specs.declared.input.Input.{Input}
+use Rattle.sm_replication.specs.declared.input.Input.TheVariants as inputs
 use Rattle.sm_http.specs.Messages.{IsMessage, Message}
-use Rattle.sm_judging.specs.declared.judged.Judged.{Judged}
-use Rattle.sm_judging.specs.declared.judged.Judged.TheVariants as judged
+use Rattle.sm_judge_common.specs.declared.judged.Judged.{Judged}
+use Rattle.sm_judge_common.specs.declared.judged.Judged.TheVariants as judged
 use Rattle.sm_model.specs.declared.reply.Reply.TheVariants as replies
 use Rattle.sm_model.specs.declared.request.Request.{Request}
 use Rattle.sm_model.specs.declared.request.Request.TheVariants as requests
@@ -30,7 +30,7 @@ use Rattle.sm_replica.specs.Taking.{Takes}
 use Rattle.sm_reply.specs.Shown.{Answered, shown, refused}
 use Rattle.sm_session.specs.Answer.{Asked, heard}
 use Rattle.sm_session.specs.Replies.{unavailable}
-use Rattle.sm_sound.specs.Bases.{IsSound}
+use Rattle.sm_base_check.specs.Bases.{IsSound}
 use Rattle.sm_store.specs.Held.{Held, only}
 use Rattle.sm_table.specs.Found.{found}
 use Rattle.sm_follow.specs.Outputs.{Outgoing, Position, Reply, IsReply}

@@ -1,11 +1,11 @@
 -- What holds of whole runs of a replica.
 use Rattle.std.specs.Prelude.{◌≡◌, ◌≤◌, ℕ, ◌+◌, Bool, true, false, List, [], ◌∷◌, ◌++◌, length}
 use Rattle.sm_disk.specs.declared.disk.Disk.{Ghosts}
-use Rattle.sm_frames.specs.declared.frame.Frame.{Frame}
-use Rattle.sm_frames.specs.declared.input.Input.{Input}
-use Rattle.sm_frames.specs.declared.input.Input.TheVariants as read
+use Rattle.sm_replication.specs.declared.frame.Frame.{Frame}
+use Rattle.sm_replication.specs.declared.input.Input.{Input}
+use Rattle.sm_replication.specs.declared.input.Input.TheVariants as read
 use Rattle.sm_model.specs.declared.entry.Entry.{Entry}
-use Rattle.sm_opening.specs.Lawful.{IsLawful}
+use Rattle.sm_recovery.specs.Lawful.{IsLawful}
 use Rattle.sm_principal.specs.declared.people.People.{People}
 use Rattle.sm_record.specs.declared.base.Base.{Base}
 use Rattle.sm_replica.specs.Histories.{AreFrom, IsAt, IsHistory}

@@ -3,7 +3,7 @@ use Rattle.std.specs.Prelude.{◌≡◌, ◌⊎◌, ◌<◌, ℕ, ◌+◌, min, 
 use Rattle.std.specs.List.{flat_map}
 use Rattle.std.specs.Io.KnownBytes.{append_known}
 use Rattle.sm_base.specs.Faults.{Rose}
-use Rattle.sm_frames.specs.Outputs.{position_bytes, reply_bytes}
+use Rattle.sm_replication.specs.Outputs.{position_bytes, reply_bytes}
 use Rattle.sm_reply.specs.Shown.{Answered}
 use Rattle.sm_session.specs.Endings.{count_limit}
 use Rattle.sm_session.specs.Replies.{framed_answer, reply_of, unavailable}

@@ -13,7 +13,7 @@ use Rattle.sm_reply.specs.Shown.{refused}
 use Rattle.sm_session.specs.declared.said.Said.{Said}
 use Rattle.sm_session.specs.declared.said.Said.TheVariants as said
 use Rattle.sm_session.specs.Replies.{Says}
-use Rattle.sm_store.specs.BaseStores.{IsOpened}
+use Rattle.sm_store.specs.Stores.{IsOpened}
 use Rattle.sm_store.specs.Held.{Held, only}
 use Rattle.sm_follow.specs.declared.end.End.{End}
 use Rattle.sm_follow.specs.declared.end.End.TheVariants as ends

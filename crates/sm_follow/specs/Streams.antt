@@ -3,9 +3,9 @@ use Rattle.std.specs.Prelude.{◌≡◌, ◌<◌, ◌≤◌, ⊤, ℕ, min, List
 use Rattle.std.specs.Io.KnownBytes.{append_known, prepend_known, IsAtEnd}
 use Rattle.std.specs.List.{flat_map}
 use Rattle.sm_base.specs.Faults.{Rose}
-use Rattle.sm_frames.specs.declared.input.Input.{Input}
-use Rattle.sm_frames.specs.Frames.{IsFrame, frame_bytes}
-use Rattle.sm_frames.specs.Reading.{last_place, IsPartial, StartsBadly}
+use Rattle.sm_replication.specs.declared.input.Input.{Input}
+use Rattle.sm_replication.specs.Frames.{IsFrame, frame_bytes}
+use Rattle.sm_replication.specs.Reading.{last_place, IsPartial, StartsBadly}
 use Rattle.sm_io.specs.declared.clock.Clock.{Ghosts as ClockGhosts}
 use Rattle.sm_io.specs.declared.sink.Sink.{Ghosts as SinkGhosts}
 use Rattle.sm_io.specs.declared.source.Source.{Ghosts as SourceGhosts}

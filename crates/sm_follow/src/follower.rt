@@ -5,12 +5,12 @@ use crate::end::End;
 use crate::output::Output;
 use sm_disk::Disk;
 use sm_replica::Replica;
-use sm_store::BaseStore;
+use sm_store::Store;
 
 /// A replica and the store of its disk, which keeps what it had until the replica is promoted.
 pub struct Follower<D: Disk> {
     pub replica: Replica,
-    pub store: BaseStore<D>,
+    pub store: Store<D>,
 }
 
 impl<D: Disk> Follower<D> {

@@ -2,9 +2,9 @@
 ghost use Rattle.std.specs.Prelude.{◌≡◌, ◌≤◌, IfOk, IfErr, IfNone, None, ℕ};
 ghost use Rattle.std.specs.Io.KnownBytes.{append_known, IsAtEnd};
 ghost use Rattle.sm_base.specs.Faults.{Rose};
-ghost use Rattle.sm_frames.specs.Frames.{IsFrame};
-ghost use Rattle.sm_frames.specs.Reading.{Reads};
-ghost use Rattle.sm_store.specs.BaseOpenings.{IsOpenRefused};
+ghost use Rattle.sm_replication.specs.Frames.{IsFrame};
+ghost use Rattle.sm_replication.specs.Reading.{Reads};
+ghost use Rattle.sm_store.specs.Openings.{IsOpenRefused};
 ghost use Rattle.sm_follow.specs.Disks.{FollowsOver, IsSure, KeepsOnDisk, Stands, IfFails, disk_in};
 ghost use Rattle.sm_follow.specs.Streams.{Followed, around_by};
 ghost use Rattle.sm_follow.specs.Steps.{OnInputEnd, OnInputFault, Steps, next_of};
@@ -16,14 +16,14 @@ use crate::turns::turn;
 use crate::writing::put_output;
 use sm_base::limits::JOURNAL_LIMIT;
 use sm_disk::Disk;
-use sm_frames::{FrameReader, Input, NextFrame};
 use sm_io::{Clock, Sink, Source};
 use sm_journal::OpenRefused;
 use sm_json::Scratch;
 use sm_model::Text;
 use sm_principal::People;
 use sm_replica::Replica;
-use sm_store::BaseStore;
+use sm_replication::{FrameReader, Input, NextFrame};
+use sm_store::Store;
 use std::alloc::Global;
 
 /// How many frames of a stream are read at most.
@@ -52,7 +52,7 @@ pub fn follow<Q: Source, K: Sink, D: Disk, C: Clock>(
     ensures source_later { Q.source_faults source.old ≤ Q.source_faults source.new }
     ensures sink_later { K.sink_faults sink.old ≤ K.sink_faults sink.new }
 {
-    match BaseStore::open(alloc, disk, JOURNAL_LIMIT) {
+    match Store::open(alloc, disk, JOURNAL_LIMIT) {
         Ok((store, loaded)) => {
             // What the disk holds is not asked for.
             drop(loaded);
@@ -60,7 +60,7 @@ pub fn follow<Q: Source, K: Sink, D: Disk, C: Clock>(
             let follower = Follower { replica, store };
             Ok(follow_source(alloc, people, follower, source, sink, clock))
         }
-        Err(refused) => Err(refused),
+        Err(unopened) => Err(unopened.told()),
     }
 }
 

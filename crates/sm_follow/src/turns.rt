@@ -1,9 +1,9 @@
 //! One input of a replica.
 ghost use Rattle.std.specs.Prelude.{◌≡◌, List, ℕ, []};
 ghost use Rattle.std.specs.Io.KnownBytes.{append_known};
-ghost use Rattle.sm_frames.specs.Spelled.{HasParts};
-ghost use Rattle.sm_frames.specs.Frames.{IsFrame};
-ghost use Rattle.sm_frames.specs.declared.input.Input.TheVariants as inputs;
+ghost use Rattle.sm_replication.specs.Spelled.{HasParts};
+ghost use Rattle.sm_replication.specs.Frames.{IsFrame};
+ghost use Rattle.sm_replication.specs.declared.input.Input.TheVariants as inputs;
 ghost use Rattle.sm_follow.specs.declared.follower.Turned.TheVariants as turned;
 ghost use Rattle.sm_follow.specs.declared.output.Output.TheVariants as outputs;
 ghost use Rattle.sm_follow.specs.Disks.{ComesTo, IfOn, IsLater, IsSure, Stands, disk_in};
@@ -14,11 +14,11 @@ use crate::answering::answer_message;
 use crate::follower::{Follower, Turned};
 use crate::output::Output;
 use sm_disk::Disk;
-use sm_frames::{Frame, Input};
 use sm_io::Clock;
 use sm_json::Scratch;
 use sm_principal::People;
 use sm_replica::{Taken, note_timely};
+use sm_replication::{Frame, Input};
 use std::alloc::Global;
 
 /// Does what an input asks for: takes a frame, or answers a message.

@@ -2,8 +2,8 @@
 ghost use Rattle.std.specs.Prelude.{◌≡◌, ◌≤◌, ◌<◌, ◌^◌, IfOk, length, List, ℕ};
 ghost use Rattle.std.specs.Io.KnownBytes.{append_known};
 ghost use Rattle.sm_base.specs.Faults.{Rose};
-ghost use Rattle.sm_frames.specs.Outputs.{position_bytes, reply_bytes};
-ghost use Rattle.sm_frames.specs.declared.input.TheConstants as limits;
+ghost use Rattle.sm_replication.specs.Outputs.{position_bytes, reply_bytes};
+ghost use Rattle.sm_replication.specs.declared.input.TheConstants as limits;
 ghost use Rattle.sm_session.specs.Replies.{framed_answer, reply_of};
 ghost use Rattle.sm_follow.specs.Outputs.{IsWritten, Outgoing, Puts, output_bytes};
 ghost use Rattle.sm_follow.specs.declared.output.Output.{Output as outputs};
@@ -11,10 +11,10 @@ ghost use Rattle.sm_follow.specs.declared.output.Output.{Output as outputs};
 use crate::end::End;
 use crate::output::Output;
 use sm_base::{Bytes, NoMemory};
-use sm_frames::{LIST_LIMIT, encode_position, encode_reply};
 use sm_http::Piece;
 use sm_io::{MemorySink, Sink, Wrote, put_all};
 use sm_model::Fails;
+use sm_replication::{LIST_LIMIT, encode_position, encode_reply};
 use sm_session::{Said, send};
 use std::alloc::Global;
 

@@ -17,8 +17,8 @@ use Rattle.sm_http.specs.Heads.{field_of, NameValue}
 use Rattle.sm_http.specs.Messages.{message_of, is_closing, asks_to_close, IsMessage, IsPartial}
 use Rattle.sm_http.specs.Fronts.{HasHead, IsWholeHead}
 use Rattle.sm_http.specs.Ahead.{Moves}
-use Rattle.sm_http.specs.Reading.{ReaderState, content, stopped, StopsAt, Stops, Answers, Reads}
-use Rattle.sm_http.specs.Waiting.{LacksHead, IsCopy, Finds, FindsMore}
+use Rattle.sm_http.specs.Reading.{ReaderState, content, stopped, StopsAt, Stops, Answers, Reads, StaysUnlessReadFault}
+use Rattle.sm_http.specs.Waiting.{LacksHead, IsCopy, Finds, FindsMore, StaysUnlessStopFault, StaysUnlessFoundFault}
 use Rattle.sm_http.proofs.MessageLemmas.{cut_body, whole_message}
 use Rattle.sm_http.proofs.MoreBytesLemmas.{begins-append, begun}
 use Rattle.sm_http.proofs.AheadLemmas.{moves_none}
@@ -174,3 +174,26 @@ reads_stop old left why before after none f =
     subst (λ o. MatchOption o ((taken : List ℕ) × (before ≡ prepend_known taken after)
     × Answers old (old.ahead ++ taken) (stopped why) kept) (λ w. (stopped why ≡ stopped w) × (kept ≡ old))) (sym none)
     (f.0, f.1, answers_stop old (old.ahead ++ f.0) why kept stops)
+
+-- the count stays whatever was found, where it is the same
+pub found_stays : (answer : Found) (old new : ℕ) → new ≡ old → StaysUnlessFoundFault answer old new
+found_stays (found.Message message used) old new same = same
+found_stays (found.Stop (stop.Bad kind at)) old new same = same
+found_stays (found.Stop stop.End) old new same = same
+found_stays (found.Stop (stop.Cut count)) old new same = same
+found_stays (found.Stop stop.ReadFault) old new same = tt
+found_stays (found.Stop stop.Memory) old new same = same
+
+-- since an earlier moment, at which the count was the same
+pub found_since : (answer : Found) (old now new : ℕ) → now ≡ old → StaysUnlessFoundFault answer now new
+    → StaysUnlessFoundFault answer old new
+found_since answer old now new same stays = subst (λ n. StaysUnlessFoundFault answer n new) same stays
+
+-- as the reader answers it
+pub stop_answered : (why : Stop) (old new : ℕ) → StaysUnlessStopFault why old new
+    → StaysUnlessReadFault (stopped why) old new
+stop_answered (stop.Bad kind at) old new told = told
+stop_answered stop.End old new told = told
+stop_answered (stop.Cut count) old new told = told
+stop_answered stop.ReadFault old new told = tt
+stop_answered stop.Memory old new told = told

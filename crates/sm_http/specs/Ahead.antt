@@ -37,3 +37,10 @@ OnMoreFailed Got P = ⊤
 OnMoreFailed End P = ⊤
 OnMoreFailed Failed P = P
 OnMoreFailed Memory P = ⊤
+
+-- the count stays, but where the source failed
+abbrev pub StaysUnlessMoreFailed : More → ℕ → ℕ → Type 0
+StaysUnlessMoreFailed Got old new = new ≡ old
+StaysUnlessMoreFailed End old new = new ≡ old
+StaysUnlessMoreFailed Failed old new = ⊤
+StaysUnlessMoreFailed Memory old new = new ≡ old

@@ -1,5 +1,5 @@
 -- A reply's bytes: RFC 9112, sections 4, 5 and 6.2; AWS JSON 1.1.
-use Rattle.std.specs.Prelude.{◌≡◌, ◌<◌, MatchBool, Option, take, ℕ, ◌==◌, if◌then◌else◌, List, ◌++◌, length, codes, decimal}
+use Rattle.std.specs.Prelude.{◌≡◌, ◌<◌, MatchBool, Option, take, ℕ, ⊤, ◌==◌, if◌then◌else◌, List, ◌++◌, length, codes, decimal}
 use Rattle.std.specs.Io.KnownBytes.{append_known}
 use Rattle.sm_base.specs.Faults.{Rose}
 use Rattle.sm_http.specs.declared.reply.Sent.{Sent}
@@ -22,7 +22,8 @@ head_text status size =
 abbrev pub framed : ℕ → List ℕ → List ℕ
 framed status body = head_text status (length body) ++ body
 
--- what was sent of a text: all of it, or the sink failed within it
+-- What was sent of a text: all of it, or the sink failed within it. The sink's count stays where all of it was sent.
 pub record Sends (sent : Sent) (text : List ℕ) (old new : Option (List ℕ)) (before now : ℕ) : Type 0 where
   pub bytes : new ≡ append_known old (take sent.taken text)
   pub whole : MatchBool sent.whole (sent.taken ≡ length text) ((sent.taken < length text) × Rose before now)
+  pub no_other : MatchBool sent.whole (now ≡ before) ⊤

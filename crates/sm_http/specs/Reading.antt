@@ -101,3 +101,12 @@ OnReadFault next.End P = ⊤
 OnReadFault (next.Cut count) P = ⊤
 OnReadFault next.ReadFault P = P
 OnReadFault next.Memory P = ⊤
+
+-- the count stays, but where a reader answers that the source failed
+abbrev pub StaysUnlessReadFault : Next → ℕ → ℕ → Type 0
+StaysUnlessReadFault (next.Message message) old new = new ≡ old
+StaysUnlessReadFault (next.Bad kind at) old new = new ≡ old
+StaysUnlessReadFault next.End old new = new ≡ old
+StaysUnlessReadFault (next.Cut count) old new = new ≡ old
+StaysUnlessReadFault next.ReadFault old new = ⊤
+StaysUnlessReadFault next.Memory old new = new ≡ old

@@ -43,6 +43,14 @@ OnSoughtFailed End P = ⊤
 OnSoughtFailed Failed P = P
 OnSoughtFailed Memory P = ⊤
 
+-- the count stays, but where the source failed
+abbrev pub StaysUnlessSoughtFailed : Sought → ℕ → ℕ → Type 0
+StaysUnlessSoughtFailed (Head n) old new = new ≡ old
+StaysUnlessSoughtFailed TooLong old new = new ≡ old
+StaysUnlessSoughtFailed End old new = new ≡ old
+StaysUnlessSoughtFailed Failed old new = ⊤
+StaysUnlessSoughtFailed Memory old new = new ≡ old
+
 -- the message owns what the parts cover
 pub record IsCopy (parts : Parts) (at : ℕ) (message : Message) : Type 0 where
   pub method : message.method ≡ span_bytes parts.text.now parts.spans.method
@@ -85,3 +93,16 @@ OnStopFault stop.Memory P = ⊤
 abbrev pub IfStopped : Found → (Stop → Type 0) → Type 0
 IfStopped (found.Message message used) P = ⊤
 IfStopped (found.Stop why) P = P why
+
+-- the count stays, but where the source failed
+abbrev pub StaysUnlessStopFault : Stop → ℕ → ℕ → Type 0
+StaysUnlessStopFault (stop.Bad kind at) old new = new ≡ old
+StaysUnlessStopFault stop.End old new = new ≡ old
+StaysUnlessStopFault (stop.Cut count) old new = new ≡ old
+StaysUnlessStopFault stop.ReadFault old new = ⊤
+StaysUnlessStopFault stop.Memory old new = new ≡ old
+
+-- the count stays, but where no message was found since the source failed
+abbrev pub StaysUnlessFoundFault : Found → ℕ → ℕ → Type 0
+StaysUnlessFoundFault (found.Message message used) old new = new ≡ old
+StaysUnlessFoundFault (found.Stop why) old new = StaysUnlessStopFault why old new

@@ -2,8 +2,8 @@
 ghost use Rattle.std.specs.Prelude.{◌≡◌, ◌+◌, ◌<◌, ◌≤◌, [], length, take, drop, vec_len, OnOk};
 ghost use Rattle.std.specs.Io.KnownBytes.{IsAtEnd};
 ghost use Rattle.sm_base.specs.Faults.{Rose};
-ghost use Rattle.sm_io.specs.Source.{IfGot, OnEnd, OnTakeFailed, Takes};
-ghost use Rattle.sm_http.specs.Ahead.{Moves, OnMore, OnNoMore, OnMoreEnd, OnMoreFailed};
+ghost use Rattle.sm_io.specs.Source.{IfGot, OnEnd, OnTakeFailed, StaysUnlessTakeFailed, Takes};
+ghost use Rattle.sm_http.specs.Ahead.{Moves, OnMore, OnNoMore, OnMoreEnd, OnMoreFailed, StaysUnlessMoreFailed};
 
 use sm_base::NoMemory;
 use sm_io::{Source, Took};
@@ -84,6 +84,7 @@ impl Ahead {
         ensures end { OnMoreEnd result (IsAtEnd (S.left source.new)) }
         ensures failed { OnMoreFailed result (Rose (S.source_faults source.old) (S.source_faults source.new)) }
         ensures later { S.source_faults source.old ≤ S.source_faults source.new }
+        ensures no_other { StaysUnlessMoreFailed result (S.source_faults source.old) (S.source_faults source.new) }
         ensures beside { S.beside_source source.new ≡ S.beside_source source.old }
     {
         let places = to_front(&mut self.buffer, self.start, self.end);
@@ -144,6 +145,7 @@ fn take_behind<S: Source>(source: &mut S, buffer: &mut Vec<u8>, end: usize) -> T
     ensures end { OnEnd result (IsAtEnd (S.left source.old)) }
     ensures failed { OnTakeFailed result (Rose (S.source_faults source.old) (S.source_faults source.new)) }
     ensures later { S.source_faults source.old ≤ S.source_faults source.new }
+    ensures no_other { StaysUnlessTakeFailed result (S.source_faults source.old) (S.source_faults source.new) }
     ensures beside { S.beside_source source.new ≡ S.beside_source source.old }
 {
     source.take(&mut buffer[end..])

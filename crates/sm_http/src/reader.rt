@@ -4,10 +4,10 @@ ghost use Rattle.std.specs.Io.KnownBytes.{IsAtEnd};
 ghost use Rattle.sm_base.specs.Faults.{Rose};
 ghost use Rattle.sm_http.specs.Heads.{field_limit, head_length};
 ghost use Rattle.sm_http.specs.Messages.{IsPartial};
-ghost use Rattle.sm_http.specs.Ahead.{Moves, OnMore, OnNoMore, OnMoreEnd, OnMoreFailed};
+ghost use Rattle.sm_http.specs.Ahead.{Moves, OnMore, OnNoMore, OnMoreEnd, OnMoreFailed, StaysUnlessMoreFailed};
 ghost use Rattle.sm_http.specs.Fronts.{IsWholeHead};
-ghost use Rattle.sm_http.specs.Reading.{Reads, OnStreamEnd, OnReadFault};
-ghost use Rattle.sm_http.specs.Waiting.{LacksHead, IsSought, OnSoughtEnd, OnSoughtFailed, Finds, FindsMore, IfStopped, OnStopEnd, OnStopFault};
+ghost use Rattle.sm_http.specs.Reading.{Reads, OnStreamEnd, OnReadFault, StaysUnlessReadFault};
+ghost use Rattle.sm_http.specs.Waiting.{LacksHead, IsSought, OnSoughtEnd, OnSoughtFailed, StaysUnlessSoughtFailed, StaysUnlessFoundFault, Finds, FindsMore, IfStopped, OnStopEnd, OnStopFault};
 
 use crate::ahead::{Ahead, More};
 use crate::answer::{Message, Next, Stop, stopped};
@@ -47,6 +47,7 @@ fn seek_head<S: Source>(ahead: &mut Ahead, source: &mut S) -> Sought
     ensures end { OnSoughtEnd result (IsAtEnd (S.left source.new)) }
     ensures failed { OnSoughtFailed result (Rose (S.source_faults source.old) (S.source_faults source.new)) }
     ensures later { S.source_faults source.old ≤ S.source_faults source.new }
+    ensures no_other { StaysUnlessSoughtFailed result (S.source_faults source.old) (S.source_faults source.new) }
     ensures beside { S.beside_source source.new ≡ S.beside_source source.old }
     ensures still { (LacksHead ahead.old → ⊥) → (source.new ≡ source.old) × (ahead.new ≡ ahead.old) }
 {
@@ -78,6 +79,7 @@ pub fn await_bytes<S: Source>(ahead: &mut Ahead, source: &mut S, count: usize) -
     ensures end { OnMoreEnd result (IsAtEnd (S.left source.new)) }
     ensures failed { OnMoreFailed result (Rose (S.source_faults source.old) (S.source_faults source.new)) }
     ensures later { S.source_faults source.old ≤ S.source_faults source.new }
+    ensures no_other { StaysUnlessMoreFailed result (S.source_faults source.old) (S.source_faults source.new) }
     ensures beside { S.beside_source source.new ≡ S.beside_source source.old }
     ensures still { count ≤ length ahead.old → source.new ≡ source.old }
 {
@@ -141,6 +143,7 @@ fn find_body<S: Source>(
     ensures failed { IfStopped result (λ why. OnStopFault why
         (Rose (S.source_faults source.old) (S.source_faults source.new))) }
     ensures later { S.source_faults source.old ≤ S.source_faults source.new }
+    ensures no_other { StaysUnlessFoundFault result (S.source_faults source.old) (S.source_faults source.new) }
     ensures beside { S.beside_source source.new ≡ S.beside_source source.old }
     ensures still { (IsPartial ahead.old → ⊥) → source.new ≡ source.old }
 {
@@ -169,6 +172,7 @@ fn find_message<S: Source>(
     ensures failed { IfStopped result (λ why. OnStopFault why
         (Rose (S.source_faults source.old) (S.source_faults source.new))) }
     ensures later { S.source_faults source.old ≤ S.source_faults source.new }
+    ensures no_other { StaysUnlessFoundFault result (S.source_faults source.old) (S.source_faults source.new) }
     ensures beside { S.beside_source source.new ≡ S.beside_source source.old }
     ensures still { (IsPartial ahead.old → ⊥) → source.new ≡ source.old }
 {
@@ -233,6 +237,7 @@ impl Reader {
         ensures failed { IfNone self.old.ended (OnReadFault result
             (Rose (S.source_faults source.old) (S.source_faults source.new))) }
         ensures later { S.source_faults source.old ≤ S.source_faults source.new }
+        ensures no_other { StaysUnlessReadFault result (S.source_faults source.old) (S.source_faults source.new) }
         ensures beside { S.beside_source source.new ≡ S.beside_source source.old }
         ensures waits { (IsPartial self.old.ahead → ⊥) → source.new ≡ source.old }
     {

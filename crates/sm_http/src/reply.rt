@@ -2,7 +2,7 @@
 ghost use Rattle.std.specs.Prelude.{◌≡◌, ◌<◌, ◌≤◌, ◌+◌, ◌++◌, [], length, decimal};
 ghost use Rattle.arrayvec.specs.ArrayVec.{array_vec_len};
 ghost use Rattle.sm_base.specs.Faults.{Rose};
-ghost use Rattle.sm_io.specs.Transfer.{IfFault, Writes};
+ghost use Rattle.sm_io.specs.Transfer.{IfFault, StaysUnlessFault, Writes};
 ghost use Rattle.sm_http.specs.Framed.{reason_of, head_text, framed, Sends};
 
 use arrayvec::ArrayVec;
@@ -64,6 +64,7 @@ fn put_both<K: Sink>(sink: &mut K, front: &[u8], back: &[u8]) -> Wrote
     ensures short { IfFault result (λ n. n < length front.now + length back.now) }
     ensures failed { IfFault result (λ _. Rose (K.sink_faults sink.old) (K.sink_faults sink.new)) }
     ensures later { K.sink_faults sink.old ≤ K.sink_faults sink.new }
+    ensures no_other { StaysUnlessFault result (K.sink_faults sink.old) (K.sink_faults sink.new) }
     ensures beside { K.beside_sink sink.new ≡ K.beside_sink sink.old }
 {
     match put_all(sink, front) {

@@ -46,6 +46,13 @@ OnAcceptFailed End P = ⊤
 OnAcceptFailed Failed P = P
 OnAcceptFailed Memory P = ⊤
 
+-- the count stays, but for an accept that failed
+abbrev pub StaysUnlessAcceptFailed : {C : Type 0} → Accepted C → ℕ → ℕ → Type 0
+StaysUnlessAcceptFailed (Conn conn) old new = new ≡ old
+StaysUnlessAcceptFailed End old new = new ≡ old
+StaysUnlessAcceptFailed Failed old new = ⊤
+StaysUnlessAcceptFailed Memory old new = new ≡ old
+
 -- fewer came back than were handed out, where both are told
 abbrev pub IsFewer : {A B : Type 0} → Option (List A) → Option (List B) → Type 0
 IsFewer None back = ⊤

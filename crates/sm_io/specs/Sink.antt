@@ -20,6 +20,11 @@ abbrev pub Puts : Gave → List ℕ → Option (List ℕ) → Option (List ℕ) 
 Puts (Put n) piece old new = new ≡ append_known old (take n piece)
 Puts Failed piece old new = new ≡ old
 
+-- the count stays, but for a put that failed
+abbrev pub StaysUnlessPutFailed : Gave → ℕ → ℕ → Type 0
+StaysUnlessPutFailed (Put n) old new = new ≡ old
+StaysUnlessPutFailed Failed old new = ⊤
+
 -- the count of a sink that counts exactly its failed puts
 abbrev pub faults_after_put : Gave → ℕ → ℕ
 faults_after_put (Put n) count = count

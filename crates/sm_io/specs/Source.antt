@@ -30,6 +30,12 @@ Takes (Got n) buf old new = old ≡ prepend_known (take n buf) new
 Takes End buf old new = new ≡ old
 Takes Failed buf old new = new ≡ old
 
+-- the count stays, but for a take that failed
+abbrev pub StaysUnlessTakeFailed : Took → ℕ → ℕ → Type 0
+StaysUnlessTakeFailed (Got n) old new = new ≡ old
+StaysUnlessTakeFailed End old new = new ≡ old
+StaysUnlessTakeFailed Failed old new = ⊤
+
 -- the count of a source that counts exactly its failed takes
 abbrev pub faults_after_take : Took → ℕ → ℕ
 faults_after_take (Got n) count = count

@@ -1,7 +1,7 @@
 //! Where connections come from.
 ghost use Rattle.std.specs.Prelude.{◌≡◌, ◌≤◌, ℕ, List, Option};
 ghost use Rattle.sm_base.specs.Faults.{Rose};
-ghost use Rattle.sm_io.specs.Edge.{TakesFirst, HandsOut, NoneLeft, OnAcceptEnd, OnAcceptFailed, told_more, IsFewer, IsNoMore};
+ghost use Rattle.sm_io.specs.Edge.{TakesFirst, HandsOut, NoneLeft, OnAcceptEnd, OnAcceptFailed, StaysUnlessAcceptFailed, told_more, IsFewer, IsNoMore};
 
 use crate::conn::Conn;
 
@@ -31,14 +31,16 @@ pub trait Edge<N> {
     /// How often it has failed. At 2^64 - 1 the count stands.
     ghost edge_faults: { Self → ℕ };
 
-    /// Hands out the first connection that is left.
+    /// Hands out the first connection that is left. The count of faults rises only where it answers `Failed`, so no
+    /// accept that failed is tried again unseen.
     fn accept(&mut self) -> Accepted<Self::C>
         ensures first { TakesFirst result (left self.old) (left self.new) }
         ensures handed { HandsOut result (handed self.old) (handed self.new) }
         ensures back { back self.new ≡ back self.old }
         ensures end { OnAcceptEnd result (NoneLeft (left self.old)) }
         ensures failed { OnAcceptFailed result (Rose (edge_faults self.old) (edge_faults self.new)) }
-        ensures later { edge_faults self.old ≤ edge_faults self.new };
+        ensures later { edge_faults self.old ≤ edge_faults self.new }
+        ensures no_other { StaysUnlessAcceptFailed result (edge_faults self.old) (edge_faults self.new) };
 
     /// Takes a connection back. It takes no memory.
     fn done(&mut self, conn: Self::C, end: N)

@@ -1,7 +1,7 @@
 //! An edge over a listener of the system's, as of TCP.
 ghost use Rattle.std.specs.Prelude.{◌≡◌, ◌≤◌, None};
 ghost use Rattle.sm_base.specs.Faults.{Rose};
-ghost use Rattle.sm_io.specs.Edge.{OnAcceptEnd, OnAcceptFailed};
+ghost use Rattle.sm_io.specs.Edge.{OnAcceptEnd, OnAcceptFailed, StaysUnlessAcceptFailed};
 ghost use Rattle.sm_io.specs.ListenerEdge.{accept_faults};
 
 use crate::edge::{Accepted, Edge};
@@ -58,6 +58,7 @@ where
         ensures end { OnAcceptEnd result ⊥ }
         ensures failed { OnAcceptFailed result (Rose (accept_faults self.old) (accept_faults self.new)) }
         ensures later { accept_faults self.old ≤ accept_faults self.new }
+        ensures no_other { StaysUnlessAcceptFailed result (accept_faults self.old) (accept_faults self.new) }
     {
         match accept_some(&self.listener) {
             Ok(stream) => {

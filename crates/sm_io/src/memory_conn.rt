@@ -2,8 +2,8 @@
 ghost use Rattle.std.specs.Prelude.{◌≡◌, ◌<◌, ◌≤◌, length, take, Some};
 ghost use Rattle.std.specs.Io.KnownBytes.{IsAtEnd};
 ghost use Rattle.sm_base.specs.Faults.{Rose};
-ghost use Rattle.sm_io.specs.Source.{IfGot, OnEnd, OnTakeFailed, Takes};
-ghost use Rattle.sm_io.specs.Sink.{IfPut, OnPutFailed, Puts};
+ghost use Rattle.sm_io.specs.Source.{IfGot, OnEnd, OnTakeFailed, StaysUnlessTakeFailed, Takes};
+ghost use Rattle.sm_io.specs.Sink.{IfPut, OnPutFailed, Puts, StaysUnlessPutFailed};
 ghost use Rattle.sm_io.specs.MemorySource.{take_answer, after_take};
 ghost use Rattle.sm_io.specs.MemorySink.{after_put};
 
@@ -51,6 +51,8 @@ impl Source for MemoryConn {
         ensures failed { OnTakeFailed result
             (Rose self.old.source.calls.faults self.new.source.calls.faults) }
         ensures later { self.old.source.calls.faults ≤ self.new.source.calls.faults }
+        ensures no_other { StaysUnlessTakeFailed result
+            self.old.source.calls.faults self.new.source.calls.faults }
 
         // Exactly how it ends, and what is left then. The sink stays.
         ensures answer { result ≡ take_answer self.old.source (length buf.old) }
@@ -75,6 +77,8 @@ impl Sink for MemoryConn {
         ensures bytes { Puts result piece.now (Some self.old.sink.taken) (Some self.new.sink.taken) }
         ensures failed { OnPutFailed result (Rose self.old.sink.calls.faults self.new.sink.calls.faults) }
         ensures later { self.old.sink.calls.faults ≤ self.new.sink.calls.faults }
+        ensures no_other { StaysUnlessPutFailed result
+            self.old.sink.calls.faults self.new.sink.calls.faults }
 
         // What was taken then. The source stays.
         ensures after { self.new.sink ≡ after_put self.old.sink piece.now result }

@@ -2,7 +2,7 @@
 ghost use Rattle.std.specs.Prelude.{◌≡◌, ◌<◌, ◌≤◌, [], ◌++◌, ◌∷◌, length, Some, vec_len, vec_capacity, IsTrue};
 ghost use Rattle.sm_base.specs.Faults.{Rose};
 ghost use Rattle.sm_io.specs.Calls.{no_calls, fails_next};
-ghost use Rattle.sm_io.specs.Edge.{TakesFirst, HandsOut, NoneLeft, OnAcceptEnd, OnAcceptFailed, told_more};
+ghost use Rattle.sm_io.specs.Edge.{TakesFirst, HandsOut, NoneLeft, OnAcceptEnd, OnAcceptFailed, StaysUnlessAcceptFailed, told_more};
 
 use crate::calls::Calls;
 use crate::edge::{Accepted, Edge};
@@ -67,6 +67,7 @@ impl<N> Edge<N> for MemoryEdge<N> {
         ensures end { OnAcceptEnd result (NoneLeft (Some self.old.conns.items)) }
         ensures failed { OnAcceptFailed result (Rose self.old.calls.faults self.new.calls.faults) }
         ensures later { self.old.calls.faults ≤ self.new.calls.faults }
+        ensures no_other { StaysUnlessAcceptFailed result self.old.calls.faults self.new.calls.faults }
 
         // Exactly which accept fails.
         ensures told { IsTrue (fails_next self.old.calls) → result ≡ Accepted.Failed }

@@ -1,7 +1,7 @@
 //! A sink in memory.
 ghost use Rattle.std.specs.Prelude.{◌≡◌, ◌<◌, ◌≤◌, [], ◌++◌, length, min, if◌then◌else◌, IsTrue, Some};
 ghost use Rattle.sm_base.specs.Faults.{Rose};
-ghost use Rattle.sm_io.specs.Sink.{IfPut, OnPutFailed, Puts};
+ghost use Rattle.sm_io.specs.Sink.{IfPut, OnPutFailed, Puts, StaysUnlessPutFailed};
 ghost use Rattle.sm_io.specs.Calls.{no_calls, fails_next};
 ghost use Rattle.sm_io.specs.MemorySink.{after_put};
 
@@ -72,6 +72,7 @@ impl Sink for MemorySink {
         ensures bytes { Puts result piece.now (Some self.old.taken) (Some self.new.taken) }
         ensures failed { OnPutFailed result (Rose self.old.calls.faults self.new.calls.faults) }
         ensures later { self.old.calls.faults ≤ self.new.calls.faults }
+        ensures no_other { StaysUnlessPutFailed result self.old.calls.faults self.new.calls.faults }
 
         // Exactly how it ends where there is memory, and what was taken then.
         ensures told { IsTrue (fails_next self.old.calls) → result ≡ Gave.Failed }

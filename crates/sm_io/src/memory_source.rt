@@ -3,7 +3,7 @@ ghost use Rattle.std.specs.Prelude.{◌≡◌, ◌<◌, ◌≤◌, length, take,
 ghost use Rattle.std.specs.Io.KnownBytes.{IsAtEnd};
 ghost use Rattle.sm_base.specs.Faults.{Rose};
 ghost use Rattle.sm_io.specs.Calls.{no_calls};
-ghost use Rattle.sm_io.specs.Source.{IfGot, OnEnd, OnTakeFailed, Takes};
+ghost use Rattle.sm_io.specs.Source.{IfGot, OnEnd, OnTakeFailed, StaysUnlessTakeFailed, Takes};
 ghost use Rattle.sm_io.specs.MemorySource.{take_answer, after_take};
 
 use crate::calls::Calls;
@@ -65,6 +65,7 @@ impl Source for MemorySource {
         ensures end { OnEnd result (IsAtEnd (Some self.old.rest)) }
         ensures failed { OnTakeFailed result (Rose self.old.calls.faults self.new.calls.faults) }
         ensures later { self.old.calls.faults ≤ self.new.calls.faults }
+        ensures no_other { StaysUnlessTakeFailed result self.old.calls.faults self.new.calls.faults }
 
         // Exactly how it ends, and what is left then.
         ensures answer { result ≡ take_answer self.old (length buf.old) }

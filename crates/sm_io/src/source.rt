@@ -2,7 +2,7 @@
 ghost use Rattle.std.specs.Prelude.{◌≡◌, ◌<◌, ◌≤◌, ℕ, List, Option, length};
 ghost use Rattle.std.specs.Io.KnownBytes.{IsAtEnd};
 ghost use Rattle.sm_base.specs.Faults.{Rose};
-ghost use Rattle.sm_io.specs.Source.{IfGot, OnEnd, OnTakeFailed, Takes};
+ghost use Rattle.sm_io.specs.Source.{IfGot, OnEnd, OnTakeFailed, StaysUnlessTakeFailed, Takes};
 
 /// What a take answers: how many bytes it got, that nothing is left, or that it failed.
 #[derive(Clone, Copy, Debug, PartialEq, Eq)]
@@ -27,7 +27,8 @@ pub trait Source {
     ghost beside_source: { Self → Option (List ℕ) × ℕ };
 
     /// Takes the next bytes to the front of a buffer: at least one, if the buffer has room for one. An empty
-    /// buffer gets none. What is left in the rest of the buffer is not said.
+    /// buffer gets none. What is left in the rest of the buffer is not said. The count of faults rises only where it
+    /// answers `Failed`, so no take that failed is tried again unseen.
     fn take(&mut self, buf: &mut [u8]) -> Took
         ensures within { IfGot result (λ n. n ≤ length buf.old) }
         ensures some { IfGot result (λ n. 0 < length buf.old → 0 < n) }
@@ -35,5 +36,6 @@ pub trait Source {
         ensures end { OnEnd result (IsAtEnd (left self.old)) }
         ensures failed { OnTakeFailed result (Rose (source_faults self.old) (source_faults self.new)) }
         ensures later { source_faults self.old ≤ source_faults self.new }
+        ensures no_other { StaysUnlessTakeFailed result (source_faults self.old) (source_faults self.new) }
         ensures beside { beside_source self.new ≡ beside_source self.old };
 }

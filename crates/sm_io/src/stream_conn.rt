@@ -1,8 +1,8 @@
 //! A stream in both directions over the system's, as over TCP.
 ghost use Rattle.std.specs.Prelude.{◌≡◌, ◌<◌, ◌≤◌, length, None};
 ghost use Rattle.sm_base.specs.Faults.{Rose};
-ghost use Rattle.sm_io.specs.Source.{IfGot, OnTakeFailed, faults_after_take};
-ghost use Rattle.sm_io.specs.Sink.{IfPut, OnPutFailed, faults_after_put};
+ghost use Rattle.sm_io.specs.Source.{IfGot, OnTakeFailed, StaysUnlessTakeFailed, faults_after_take};
+ghost use Rattle.sm_io.specs.Sink.{IfPut, OnPutFailed, StaysUnlessPutFailed, faults_after_put};
 ghost use Rattle.sm_io.specs.StreamConn.{read_faults, write_faults};
 
 use crate::conn::Conn;
@@ -46,6 +46,7 @@ impl<S: Read + Write> Source for StreamConn<S> {
         ensures some { IfGot result (λ n. 0 < length buf.old → 0 < n) }
         ensures failed { OnTakeFailed result (Rose (read_faults self.old) (read_faults self.new)) }
         ensures later { read_faults self.old ≤ read_faults self.new }
+        ensures no_other { StaysUnlessTakeFailed result (read_faults self.old) (read_faults self.new) }
         ensures count { read_faults self.new ≡ faults_after_take result (read_faults self.old) }
         ensures beside { write_faults self.new ≡ write_faults self.old }
     {
@@ -75,6 +76,7 @@ impl<S: Read + Write> Sink for StreamConn<S> {
         ensures some { IfPut result (λ n. 0 < length piece.now → 0 < n) }
         ensures failed { OnPutFailed result (Rose (write_faults self.old) (write_faults self.new)) }
         ensures later { write_faults self.old ≤ write_faults self.new }
+        ensures no_other { StaysUnlessPutFailed result (write_faults self.old) (write_faults self.new) }
         ensures count { write_faults self.new ≡ faults_after_put result (write_faults self.old) }
         ensures beside { read_faults self.new ≡ read_faults self.old }
     {

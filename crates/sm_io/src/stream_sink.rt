@@ -4,7 +4,7 @@ ghost use Rattle.std.specs.Io.{WritesAtMost};
 ghost use Rattle.std.specs.Io.KnownBytes.{Appends, WriteAppends};
 ghost use Rattle.sm_io.specs.Adapters.{writer_of, write_faults};
 ghost use Rattle.sm_base.specs.Faults.{Rose};
-ghost use Rattle.sm_io.specs.Sink.{IfPut, OnPutFailed, faults_after_put};
+ghost use Rattle.sm_io.specs.Sink.{IfPut, OnPutFailed, StaysUnlessPutFailed, faults_after_put};
 
 use crate::sink::{Gave, Sink};
 use std::io;
@@ -43,6 +43,7 @@ impl<W: Write> Sink for StreamSink<W> {
         ensures some { IfPut result (λ n. 0 < length piece.now → 0 < n) }
         ensures failed { OnPutFailed result (Rose (write_faults self.old) (write_faults self.new)) }
         ensures later { write_faults self.old ≤ write_faults self.new }
+        ensures no_other { StaysUnlessPutFailed result (write_faults self.old) (write_faults self.new) }
 
         // What it does to the writer, where that says what it holds, and to the count.
         ensures writes { IfPut result (λ n. Appends (W.contents (writer_of self.old))

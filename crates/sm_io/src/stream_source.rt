@@ -4,7 +4,7 @@ ghost use Rattle.std.specs.Io.{ReadsAtMost};
 ghost use Rattle.std.specs.Io.KnownBytes.{ReadConsumes, Consumes, Keeps, IsAtEnd};
 ghost use Rattle.sm_io.specs.Adapters.{reader_of, read_faults};
 ghost use Rattle.sm_base.specs.Faults.{Rose};
-ghost use Rattle.sm_io.specs.Source.{IfGot, OnEnd, OnTakeFailed, faults_after_take};
+ghost use Rattle.sm_io.specs.Source.{IfGot, OnEnd, OnTakeFailed, StaysUnlessTakeFailed, faults_after_take};
 
 use crate::source::{Source, Took};
 use std::io;
@@ -43,6 +43,7 @@ impl<R: Read> Source for StreamSource<R> {
         ensures some { IfGot result (λ n. 0 < length buf.old → 0 < n) }
         ensures failed { OnTakeFailed result (Rose (read_faults self.old) (read_faults self.new)) }
         ensures later { read_faults self.old ≤ read_faults self.new }
+        ensures no_other { StaysUnlessTakeFailed result (read_faults self.old) (read_faults self.new) }
 
         // What it does to the reader, where that says what it has left, and to the count.
         ensures reads { IfGot result (λ n. Consumes (R.remaining (reader_of self.old))

@@ -2,7 +2,7 @@
 ghost use Rattle.std.specs.Prelude.{◌≡◌, ◌≢◌, ◌<◌, ◌≤◌, ◌+◌, ◌^◌, ◌↔◌, length, take, drop, vec_len, IfOk, IfErr, MatchResult};
 ghost use Rattle.std.specs.Io.KnownBytes.{prepend_known, IsAtEnd};
 ghost use Rattle.sm_base.specs.Faults.{Rose};
-ghost use Rattle.sm_io.specs.Transfer.{IfFault, Writes, OnReadEnd, OnReadFailed};
+ghost use Rattle.sm_io.specs.Transfer.{IfFault, StaysUnlessFault, Writes, OnReadEnd, OnReadFailed, StaysUnlessReadFailed};
 
 use crate::sink::{Gave, Sink};
 use crate::source::{Source, Took};
@@ -27,6 +27,7 @@ pub fn put_all<K: Sink>(sink: &mut K, piece: &[u8]) -> Wrote
     ensures short { IfFault result (λ n. n < length piece.now) }
     ensures failed { IfFault result (λ _. Rose (K.sink_faults sink.old) (K.sink_faults sink.new)) }
     ensures later { K.sink_faults sink.old ≤ K.sink_faults sink.new }
+    ensures no_other { StaysUnlessFault result (K.sink_faults sink.old) (K.sink_faults sink.new) }
     ensures beside { K.beside_sink sink.new ≡ K.beside_sink sink.old }
 {
     let mut at = 0;
@@ -69,6 +70,8 @@ pub fn read_to<S: Source>(alloc: Global, source: &mut S, limit: usize) -> ReadBy
     ensures failed { OnReadFailed result.end
         (Rose (S.source_faults source.old) (S.source_faults source.new)) }
     ensures later { S.source_faults source.old ≤ S.source_faults source.new }
+    ensures no_other { StaysUnlessReadFailed result.end
+        (S.source_faults source.old) (S.source_faults source.new) }
     ensures beside { S.beside_source source.new ≡ S.beside_source source.old }
 {
     let mut vec = Vec::new(alloc);
@@ -91,6 +94,8 @@ fn fill<S: Source>(source: &mut S, vec: &mut Vec<u8>, limit: usize) -> (usize, R
     ensures failed { OnReadFailed result.1
         (Rose (S.source_faults source.old) (S.source_faults source.new)) }
     ensures later { S.source_faults source.old ≤ S.source_faults source.new }
+    ensures no_other { StaysUnlessReadFailed result.1
+        (S.source_faults source.old) (S.source_faults source.new) }
     ensures beside { S.beside_source source.new ≡ S.beside_source source.old }
 {
     let mut at = 0;
@@ -126,6 +131,9 @@ fn take_at<S: Source>(
     ensures failed { IfErr result (λ end. OnReadFailed end
         (Rose (S.source_faults source.old) (S.source_faults source.new))) }
     ensures later { S.source_faults source.old ≤ S.source_faults source.new }
+    ensures no_other { MatchResult result
+        (λ _. S.source_faults source.new ≡ S.source_faults source.old)
+        (λ end. StaysUnlessReadFailed end (S.source_faults source.old) (S.source_faults source.new)) }
     ensures beside { S.beside_source source.new ≡ S.beside_source source.old }
 {
     let end = at + room;

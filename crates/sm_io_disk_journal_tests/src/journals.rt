@@ -6,10 +6,10 @@ ghost use Rattle.sm_journal.specs.Freshes.{IsBegun, has_failed};
 use crate::shown::{Shown, show_content};
 use sm_base::NoMemory;
 use sm_disk::{Disk, DiskFailed, MemoryDisk};
-use sm_gather::Gathered;
 use sm_journal::{Appended, Format, Fresh, Journal};
 use sm_memory_fixtures::disks::disk_of;
 use sm_memory_fixtures::fails::fails_from;
+use sm_write_buffer::Gathered;
 use std::alloc::Global;
 use std::test::Fail;
 

@@ -1,5 +1,5 @@
 -- What opening a journal leaves, from what its parts leave.
-use Rattle.std.proofs.Common.{◌≡◌, ℕ, ◌≤◌, List, [], length, sym, subst, inl, inr, arith}
+use Rattle.std.proofs.Common.{◌≡◌, ℕ, ◌≤◌, List, [], length, sym, ap, ◌∙◌, subst, inl, inr, arith}
 use Rattle.sm_base.proofs.FaultCounts.{rose_within}
 use Rattle.sm_disk.specs.Sight.{Sight}
 use Rattle.sm_disk.specs.Steps.{Keeps}
@@ -48,13 +48,13 @@ module _ {D : Type 0} (G : Ghosts D) (file : ℕ) (bytes : List ℕ) where
 
   module _ (old mid : D) (run : Leaves file Equal Equal (G.sight old) (G.sight mid))
       (reads : Keeps (G.sight old) (G.sight mid)) (loaded : ReadsAs file (λ b. b ≡ bytes) (G.sight old))
-      (images : EachHas file (λ b. b ≡ bytes) (G.sight mid).images) (later : G.faults old ≤ G.faults mid) where
+      (images : EachHas file (λ b. b ≡ bytes) (G.sight mid).images) (stay : G.faults mid ≡ G.faults old) where
     untouched : (now : D) → now ≡ mid → Untouched file (G.sight old) (G.sight now)
     untouched now is = subst (λ disk. Untouched file (G.sight old) (G.sight disk)) (sym is)
         (record { leaves = run; reads = reads })
 
-    faults_kept : (now : D) → now ≡ mid → G.faults old ≤ G.faults now
-    faults_kept now is = subst (λ disk. G.faults old ≤ G.faults disk) (sym is) later
+    faults_kept : (now : D) → now ≡ mid → G.faults now ≡ G.faults old
+    faults_kept now is = ap G.faults is ∙ stay
 
     pub loaded_refused : (refused : OpenRefused D) → IsRefusedAs G file bytes mid refused → IsRefused G file old refused
     loaded_refused (Damaged now damage) why = (
@@ -65,7 +65,7 @@ module _ {D : Type 0} (G : Ghosts D) (file : ℕ) (bytes : List ℕ) where
     )
     loaded_refused (Failed now) why = (
       after_load file (G.sight old) (G.sight mid) (G.sight now) run (why.0 images),
-      omega (arith, later, why.1),
-      rose_within _ _ _ _ later why.2 (omega arith),
+      omega (arith, stay, why.1),
+      rose_within _ _ _ _ (omega (arith, stay)) why.2 (omega arith),
     )
     loaded_refused (Memory now) why = (untouched now why, faults_kept now why)

@@ -1,5 +1,5 @@
 -- A journal, and what stands on its disk.
-use Rattle.std.specs.Prelude.{◌≡◌, ℕ, ◌+◌, ◌<◌, ◌≤◌, Bool, true, false, List, [], ◌∷◌, ◌++◌, length, Option, None, Some}
+use Rattle.std.specs.Prelude.{⊤, ◌≡◌, ℕ, ◌+◌, ◌<◌, ◌≤◌, Bool, true, false, List, [], ◌∷◌, ◌++◌, length, Option, None, Some}
 use Rattle.sm_disk.specs.declared.disk.Disk.{Ghosts}
 use Rattle.sm_disk.specs.OneFile.{EachHas, Leaves}
 use Rattle.sm_journal.specs.Records.{body_limit, record_size, size, Whole, AreWithin, IsWithin, RecoversEither}
@@ -69,6 +69,13 @@ AppendsAs old body new Ok = FitsBothLimits old body × (is_unsure new ≡ false)
     × HoldsJust new (bodies ++ body ∷ []))
 AppendsAs old body new Failed = FitsBothLimits old body × (is_unsure new ≡ true) × (length_of new ≡ length_of old)
     × ((bodies : List (List ℕ)) → Stands old bodies None → Stands new bodies (Some body))
+
+-- the count of faults stays where the answer is no failure
+abbrev pub AppendStays : Appended → ℕ → ℕ → Type 0
+AppendStays (TooLong n) old new = new ≡ old
+AppendStays (Full n) old new = new ≡ old
+AppendStays Ok old new = new ≡ old
+AppendStays Failed old new = ⊤
 
 -- a crash at any moment since old leaves the list, or the list with this body if there is one, and leaves the other
 -- files

@@ -8,7 +8,7 @@ ghost use Rattle.sm_journal.specs.Lengths.{SameLength, ReadsLength, ReadsAtLeast
 ghost use Rattle.sm_disk.specs.OneFile.{EachHas, Anyhow, Leaves};
 ghost use Rattle.sm_journal.specs.Making.{IsMaking};
 ghost use Rattle.sm_journal.specs.Records.{Gated, Closed, AtRest, Loose, Short, Whole, header, record_of, entry_of, body_limit};
-ghost use Rattle.sm_journal.specs.Openings.{ReadsAs};
+ghost use Rattle.sm_journal.specs.Openings.{ReadsAs, LoadStays};
 ghost use Rattle.std.specs.Int.{w32, to_be_bytes};
 ghost use Rattle.sm_journal.specs.declared.device.LoadRefused.TheVariants.{Failed, Memory};
 
@@ -184,6 +184,7 @@ pub fn load<D: Disk>(alloc: Global, disk: &mut D, file: u8) -> Result<Vec<u8>, L
         EachHas file (λ b. b ≡ bytes.items) (D.sight disk.new).images) }
     ensures later { D.faults disk.old ≤ D.faults disk.new }
     ensures failed { IsErrOf result LoadRefused.Failed → Rose (D.faults disk.old) (D.faults disk.new) }
+    ensures no_other { LoadStays result (D.faults disk.old) (D.faults disk.new) }
 {
     disk.sync(file)?;
     let length = disk.length(file)?;

@@ -44,7 +44,7 @@ impl<D: Disk> Fresh<D> {
             Leaves file Anyhow Anyhow (D.sight disk) (D.sight (disk_of fresh))) }
         ensures any_moment_err { IfErr result (λ now. Leaves file Anyhow Anyhow (D.sight disk) (D.sight now)) }
 
-        ensures later { IfOk result (λ fresh. D.faults disk ≤ D.faults (disk_of fresh)) }
+        ensures no_other { IfOk result (λ fresh. D.faults (disk_of fresh) ≡ D.faults disk) }
         ensures failed { IfErr result (λ now. (D.faults disk ≤ D.faults now) × Rose (D.faults disk) (D.faults now)) }
     {
         match begin(&mut disk, file, Format::Second) {
@@ -99,7 +99,7 @@ impl<D: Disk> Fresh<D> {
         ensures any_moment_err { IfErr result (λ now.
             Leaves (file_of self) Equal Equal (D.sight (disk_of self)) (D.sight now)) }
 
-        ensures later { IfOk result (λ journal. D.faults (disk_of self) ≤ D.faults (journals.disk_of journal)) }
+        ensures no_other { IfOk result (λ journal. D.faults (journals.disk_of journal) ≡ D.faults (disk_of self)) }
         ensures failed { IfErr result (λ now. (D.faults (disk_of self) ≤ D.faults now)
             × Rose (D.faults (disk_of self)) (D.faults now)) }
     {

@@ -29,7 +29,7 @@ pub struct Journal<D: Disk> {
 }
 
 impl<D: Disk> Journal<D> {
-    ghost use Rattle.sm_journal.specs.Journals.{disk_of, file_of, format_of, length_of, length_with, is_unsure, FitsBothLimits, SamePlace, Stands, HoldsJust, AppendsAs, LeavesEither, IsOpened};
+    ghost use Rattle.sm_journal.specs.Journals.{disk_of, file_of, format_of, length_of, length_with, is_unsure, FitsBothLimits, SamePlace, Stands, HoldsJust, AppendsAs, AppendStays, LeavesEither, IsOpened};
     ghost use Rattle.sm_journal.specs.Records.{front, place_behind, AreWithin, AtRest};
     ghost use Rattle.sm_journal.specs.Making.{IsIdle};
     ghost use Rattle.sm_journal.specs.Roots.{BeginsWith};
@@ -77,6 +77,7 @@ impl<D: Disk> Journal<D> {
         ensures later { D.faults (disk_of self.old) ≤ D.faults (disk_of self.new) }
         ensures failed { result ≡ Appended.Failed →
             Rose (D.faults (disk_of self.old)) (D.faults (disk_of self.new)) }
+        ensures no_other { AppendStays result (D.faults (disk_of self.old)) (D.faults (disk_of self.new)) }
     {
         if body.len() > BODY_LIMIT {
             return Appended::TooLong(body.len() as u64);

@@ -36,7 +36,7 @@ fn settle<D: Disk>(mut disk: D, file: u8, gate: u64, bytes: &[u8]) -> Result<D, 
     ensures run_err { IfErr result (λ now. (before : List ℕ) → gate ≡ length before → Loose before bytes.now →
         EachHas file (λ b. b ≡ bytes.now) (D.sight disk).images →
         Leaves file (λ _. Loose before) (λ _. Loose before) (D.sight disk) (D.sight now)) }
-    ensures later { IfOk result (λ now. D.faults disk ≤ D.faults now) }
+    ensures no_other { IfOk result (λ now. D.faults now ≡ D.faults disk) }
     ensures failed { IfErr result (λ now. (D.faults disk ≤ D.faults now) × Rose (D.faults disk) (D.faults now)) }
 {
     if bytes.len() as u64 == gate + 1 {
@@ -57,7 +57,7 @@ fn emptied<D: Disk>(mut disk: D, file: u8, format: Format) -> Result<D, D>
         Leaves file (λ _. Short) (λ _. Short) (D.sight disk) (D.sight now)) }
     ensures run_err { IfErr result (λ now. EachHas file Short (D.sight disk).images →
         Leaves file (λ _. Short) (λ _. Short) (D.sight disk) (D.sight now)) }
-    ensures later { IfOk result (λ now. D.faults disk ≤ D.faults now) }
+    ensures no_other { IfOk result (λ now. D.faults now ≡ D.faults disk) }
     ensures failed { IfErr result (λ now. (D.faults disk ≤ D.faults now) × Rose (D.faults disk) (D.faults now)) }
 {
     match make(&mut disk, file, format) {
@@ -82,7 +82,7 @@ fn open_new<D: Disk>(
     ensures format { IfOk result (λ opened. format_of opened.0 ≡ format) }
     ensures run { IfOk result (λ opened. EachHas file Short (D.sight disk).images →
         Leaves file (λ _. Short) (λ _. Short) (D.sight disk) (D.sight (disk_of opened.0))) }
-    ensures later { IfOk result (λ opened. D.faults disk ≤ D.faults (disk_of opened.0)) }
+    ensures no_other { IfOk result (λ opened. D.faults (disk_of opened.0) ≡ D.faults disk) }
     ensures failed { IfErr result (FailsFrom D.Disk file Short (λ _. Short) disk) }
 {
     match emptied(disk, file, format) {
@@ -114,7 +114,7 @@ fn open_old<D: Disk>(
         Recovers bytes.now (format_of opened.0) (bodies_at bytes.now opened.1.items)) }
     ensures run { IfOk result (λ opened. EachHas file (λ b. b ≡ bytes.now) (D.sight disk).images →
         Leaves file SameList SameList (D.sight disk) (D.sight (disk_of opened.0))) }
-    ensures later { IfOk result (λ opened. D.faults disk ≤ D.faults (disk_of opened.0)) }
+    ensures no_other { IfOk result (λ opened. D.faults (disk_of opened.0) ≡ D.faults disk) }
     ensures refused { IfErr result (IsRefusedAs D.Disk file bytes.now disk) }
 {
     match parse(alloc, bytes) {
@@ -151,7 +151,7 @@ fn open_kept<D: Disk>(
     ensures list { IfOk result (λ opened. Recovers bytes.items (format_of opened.0) opened.1) }
     ensures run { IfOk result (λ opened. EachHas file (λ b. b ≡ bytes.items) (D.sight disk).images →
         Leaves file SameList SameList (D.sight disk) (D.sight (disk_of opened.0))) }
-    ensures later { IfOk result (λ opened. D.faults disk ≤ D.faults (disk_of opened.0)) }
+    ensures no_other { IfOk result (λ opened. D.faults (disk_of opened.0) ≡ D.faults disk) }
     ensures refused { IfErr result (IsRefusedAs D.Disk file bytes.items disk) }
 {
     match open_old(alloc, disk, file, limit, bytes.as_slice()) {
@@ -179,7 +179,7 @@ fn open_loaded<D: Disk>(
     ensures list { IfOk result (λ opened. Recovers bytes.items (format_of opened.0) opened.1) }
     ensures run { IfOk result (λ opened. EachHas file (λ b. b ≡ bytes.items) (D.sight disk).images →
         Leaves file SameList SameList (D.sight disk) (D.sight (disk_of opened.0))) }
-    ensures later { IfOk result (λ opened. D.faults disk ≤ D.faults (disk_of opened.0)) }
+    ensures no_other { IfOk result (λ opened. D.faults (disk_of opened.0) ≡ D.faults disk) }
     ensures refused { IfErr result (IsRefusedAs D.Disk file bytes.items disk) }
 {
     if bytes.len() <= 9 {
@@ -215,7 +215,7 @@ impl<D: Disk> Journal<D> {
         ensures any_moment { IfOk result (λ opened.
             Leaves file SameList SameList (D.sight disk) (D.sight (disk_of opened.0))) }
 
-        ensures later { IfOk result (λ opened. D.faults disk ≤ D.faults (disk_of opened.0)) }
+        ensures no_other { IfOk result (λ opened. D.faults (disk_of opened.0) ≡ D.faults disk) }
         ensures refused { IfErr result (IsRefused D.Disk file disk) }
     {
         match load(alloc, &mut disk, file) {

@@ -27,13 +27,13 @@ use Rattle.sm_table.specs.Kept.{IsRowOf}
 use Rattle.sm_table.specs.Sound.{EachSound, Sound}
 use Rattle.sm_table.proofs.FoundLaws.{found_is_row}
 use Rattle.sm_table.proofs.SoundLaws.{sound_rows_kept, sweep_sound}
-use Rattle.sm_judging.specs.Changes.{change_named, settled, IsChange}
-use Rattle.sm_judging.specs.Judged.{refusal_told, IfAccepted, IfChange}
-use Rattle.sm_judging.specs.declared.judged.Judged.TheVariants.{Accept}
-use Rattle.sm_judging.specs.Refusals.{first_refusal, scheduled_refusal, refusal_at}
-use Rattle.sm_judging.specs.Secrets.{unless_scheduled}
-use Rattle.sm_judging.proofs.JudgedLemmas.{unless_scheduled_accepts}
-use Rattle.sm_judging.proofs.ChangeLemmas.{unless_scheduled_change, found_change_beside}
+use Rattle.sm_judge_common.specs.Changes.{change_named, settled, IsChange}
+use Rattle.sm_judge_common.specs.Judged.{refusal_told, IfAccepted, IfChange}
+use Rattle.sm_judge_common.specs.declared.judged.Judged.TheVariants.{Accept}
+use Rattle.sm_judge_common.specs.Refusals.{first_refusal, scheduled_refusal, refusal_at}
+use Rattle.sm_judge_common.specs.Secrets.{unless_scheduled}
+use Rattle.sm_judge_common.proofs.JudgedLemmas.{unless_scheduled_accepts}
+use Rattle.sm_judge_common.proofs.ChangeLemmas.{unless_scheduled_change, found_change_beside}
 use Rattle.sm_judge_deletion_and_tags.specs.declared.delete_secret.DeleteCall.{DeleteCall}
 use Rattle.sm_judge_deletion_and_tags.specs.declared.delete_secret.Deletion.TheVariants.{Forced, After}
 use Rattle.sm_judge_deletion_and_tags.specs.DeleteSecret.{window_days, HasEnd, delete_call, scheduled_at, delete_later, delete_found, delete_judgement, delete_refusal, deletes_nobody, without_row, drop_named, delete_effect}

@@ -11,10 +11,10 @@ use Rattle.sm_versions.specs.Sound.{UnsettledSound}
 use Rattle.sm_table.specs.Sweep.{sweep}
 use Rattle.sm_table.specs.Found.{found}
 use Rattle.sm_table.specs.Sound.{Sound}
-use Rattle.sm_judging.specs.Changes.{settled, IsChange}
-use Rattle.sm_judging.specs.Judged.{refusal_told, IfAccepted, IfChange}
-use Rattle.sm_judging.proofs.JudgedLemmas.{if_there_refusal, if_there_accepts, if_there_change}
-use Rattle.sm_judging.proofs.ChangeLemmas.{OnRow, found_change_beside}
+use Rattle.sm_judge_common.specs.Changes.{settled, IsChange}
+use Rattle.sm_judge_common.specs.Judged.{refusal_told, IfAccepted, IfChange}
+use Rattle.sm_judge_common.proofs.JudgedLemmas.{if_there_refusal, if_there_accepts, if_there_change}
+use Rattle.sm_judge_common.proofs.ChangeLemmas.{OnRow, found_change_beside}
 use Rattle.sm_judge_deletion_and_tags.specs.RestoreSecret.{unscheduled, restore_on, restore_judgement, restore_refusal, restore_effect}
 use Rattle.sm_judge_deletion_and_tags.proofs.RevisedLemmas.{tags_of, revised_sound}
 

@@ -11,10 +11,10 @@ use Rattle.sm_versions.specs.Sound.{UnsettledSound}
 use Rattle.sm_table.specs.Sweep.{sweep}
 use Rattle.sm_table.specs.Found.{found}
 use Rattle.sm_table.specs.Sound.{Sound}
-use Rattle.sm_judging.specs.Changes.{settled, IsChange}
-use Rattle.sm_judging.specs.Judged.{refusal_told, IfAccepted, IfChange}
-use Rattle.sm_judging.proofs.JudgedLemmas.{on_secret_refusal, on_secret_reads}
-use Rattle.sm_judging.proofs.ChangeLemmas.{OnRow, on_secret_change, found_change_beside}
+use Rattle.sm_judge_common.specs.Changes.{settled, IsChange}
+use Rattle.sm_judge_common.specs.Judged.{refusal_told, IfAccepted, IfChange}
+use Rattle.sm_judge_common.proofs.JudgedLemmas.{on_secret_refusal, on_secret_reads}
+use Rattle.sm_judge_common.proofs.ChangeLemmas.{OnRow, on_secret_change, found_change_beside}
 use Rattle.sm_judge_deletion_and_tags.specs.UntagResource.{without_tags, untagged, untag_on, untag_judgement, untag_refusal, untag_effect}
 use Rattle.sm_judge_deletion_and_tags.proofs.RevisedLemmas.{tags_of, revised_sound}
 use Rattle.sm_judge_deletion_and_tags.proofs.TagLemmas.{without_are}

@@ -17,11 +17,11 @@ use Rattle.sm_model.specs.Versions.{When}
 use Rattle.sm_dates.specs.Days.{days_after}
 use Rattle.sm_table.specs.Found.{named_by, found}
 use Rattle.sm_table.specs.Changes.{dropped}
-use Rattle.sm_judging.specs.declared.judged.Judged.{Judged}
-use Rattle.sm_judging.specs.declared.judged.Judged.TheVariants.{Accept, Refuse}
-use Rattle.sm_judging.specs.Changes.{change_named}
-use Rattle.sm_judging.specs.Refusals.{refusal_at}
-use Rattle.sm_judging.specs.Secrets.{unless_scheduled, finished_row}
+use Rattle.sm_judge_common.specs.declared.judged.Judged.{Judged}
+use Rattle.sm_judge_common.specs.declared.judged.Judged.TheVariants.{Accept, Refuse}
+use Rattle.sm_judge_common.specs.Changes.{change_named}
+use Rattle.sm_judge_common.specs.Refusals.{refusal_at}
+use Rattle.sm_judge_common.specs.Secrets.{unless_scheduled, finished_row}
 use Rattle.sm_judge_deletion_and_tags.specs.declared.delete_secret.DeleteCall.{DeleteCall}
 use Rattle.sm_judge_deletion_and_tags.specs.declared.delete_secret.Deletion.{Deletion}
 use Rattle.sm_judge_deletion_and_tags.specs.declared.delete_secret.Deletion.TheVariants.{Forced, After}

@@ -3,15 +3,15 @@ ghost use Rattle.std.specs.Prelude.{◌≡◌, ◌≤◌, IfOk, IfSome, IsTrue, 
 ghost use Rattle.sm_base.specs.declared.moment.TheConstants.{LAST_READING};
 ghost use Rattle.sm_forms.specs.DeleteSecret.{is_window, delete_forms};
 ghost use Rattle.sm_base.specs.declared.limits.TheConstants.{LONGEST_WINDOW};
-ghost use Rattle.sm_judging.specs.Secrets.{unless_scheduled};
+ghost use Rattle.sm_judge_common.specs.Secrets.{unless_scheduled};
 ghost use Rattle.sm_judge_deletion_and_tags.specs.DeleteSecret.{window_days, deletion_of, HasEnd, delete_call, deleted, deleted_absent, delete_absent, delete_at_once, delete_later, delete_on, delete_judged, delete_judgement};
 
 use sm_base::copy_two;
 use sm_base::limits::DEFAULT_WINDOW;
 use sm_dates::window_end;
-use sm_judging::Judged;
-use sm_judging::members::secret_id;
-use sm_judging::row_change::finish;
+use sm_judge_common::Judged;
+use sm_judge_common::members::secret_id;
+use sm_judge_common::row_change::finish;
 use sm_model::{
     Change, Copied, DeleteSecret, DeletedSecret, Moment, NoMemory, Reply, SecretId, SecretRow,
     Text, Why,

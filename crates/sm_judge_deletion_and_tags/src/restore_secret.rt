@@ -4,9 +4,9 @@ ghost use Rattle.sm_forms.specs.OfSecret.{of_secret_forms};
 ghost use Rattle.sm_judge_deletion_and_tags.specs.RestoreSecret.{restored, restore_on, restore_judgement};
 
 use sm_base::copy_two;
-use sm_judging::Judged;
-use sm_judging::members::secret_id;
-use sm_judging::row_change::finish;
+use sm_judge_common::Judged;
+use sm_judge_common::members::secret_id;
+use sm_judge_common::row_change::finish;
 use sm_model::{Change, Copied, NamedSecret, NoMemory, OfSecret, Reply, SecretRow, Why};
 use sm_table::Table;
 use sm_versions::When;

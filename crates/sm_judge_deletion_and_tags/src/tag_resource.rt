@@ -9,10 +9,10 @@ ghost use Rattle.sm_judge_deletion_and_tags.specs.TagResource.{with_tag, with_ta
 
 use sm_base::limits::TAGS_LIMIT;
 use sm_base::list::copies;
-use sm_judging::Judged;
-use sm_judging::members::secret_id;
-use sm_judging::row_change::finish;
-use sm_judging::standing::standing;
+use sm_judge_common::Judged;
+use sm_judge_common::members::secret_id;
+use sm_judge_common::row_change::finish;
+use sm_judge_common::standing::standing;
 use sm_model::{
     Change, Copied, List, NoMemory, Reply, SecretRow, Tag, TagResource, Text, What, Why,
 };
@@ -21,7 +21,7 @@ use sm_versions::When;
 use std::alloc::Global;
 
 /// Judges a TagResource.
-#[tactic(auto, using(sm_forms::proofs::TagResourceLemmas::tag_id, crate::proofs::TagResourceLemmas::given_once, sm_judging::proofs::JudgedLemmas::judged_of_standing, sm_judging::proofs::JudgedLemmas::refused_unless_standing))]
+#[tactic(auto, using(sm_forms::proofs::TagResourceLemmas::tag_id, crate::proofs::TagResourceLemmas::given_once, sm_judge_common::proofs::JudgedLemmas::judged_of_standing, sm_judge_common::proofs::JudgedLemmas::refused_unless_standing))]
 pub fn judge_tag(
     alloc: Global,
     table: &Table,

@@ -6,17 +6,17 @@ ghost use Rattle.sm_judge_deletion_and_tags.specs.UntagResource.{without_tags, u
 
 use crate::tag_resource::is_same_key;
 use sm_base::list::copies;
-use sm_judging::Judged;
-use sm_judging::members::secret_id;
-use sm_judging::row_change::finish;
-use sm_judging::standing::standing;
+use sm_judge_common::Judged;
+use sm_judge_common::members::secret_id;
+use sm_judge_common::row_change::finish;
+use sm_judge_common::standing::standing;
 use sm_model::{Change, Copied, List, NoMemory, Reply, SecretRow, Tag, Text, UntagResource};
 use sm_table::Table;
 use sm_versions::When;
 use std::alloc::Global;
 
 /// Judges an UntagResource.
-#[tactic(auto, using(sm_forms::proofs::UntagResourceLemmas::untag_id, sm_judging::proofs::JudgedLemmas::judged_of_standing, sm_judging::proofs::JudgedLemmas::refused_unless_standing))]
+#[tactic(auto, using(sm_forms::proofs::UntagResourceLemmas::untag_id, sm_judge_common::proofs::JudgedLemmas::judged_of_standing, sm_judge_common::proofs::JudgedLemmas::refused_unless_standing))]
 pub fn judge_untag(
     alloc: Global,
     table: &Table,

@@ -16,11 +16,11 @@ use Rattle.sm_versions.specs.Texts.{is_among}
 use Rattle.sm_table.specs.Sweep.{sweep}
 use Rattle.sm_table.specs.Found.{found}
 use Rattle.sm_table.specs.Sound.{Sound}
-use Rattle.sm_judging.specs.Changes.{settled, IsChange}
-use Rattle.sm_judging.specs.Judged.{refusal_told, IfAccepted, IfChange}
-use Rattle.sm_judging.proofs.JudgedLemmas.{on_secret_refusal, on_secret_reads}
-use Rattle.sm_judging.proofs.ChangeLemmas.{OnRow, on_secret_change, found_change_beside}
-use Rattle.sm_judging.proofs.RegionLemmas.{few_regions, each_region, regions_from}
+use Rattle.sm_judge_common.specs.Changes.{settled, IsChange}
+use Rattle.sm_judge_common.specs.Judged.{refusal_told, IfAccepted, IfChange}
+use Rattle.sm_judge_common.proofs.JudgedLemmas.{on_secret_refusal, on_secret_reads}
+use Rattle.sm_judge_common.proofs.ChangeLemmas.{OnRow, on_secret_change, found_change_beside}
+use Rattle.sm_judge_common.proofs.RegionLemmas.{few_regions, each_region, regions_from}
 use Rattle.sm_judge_labels_and_regions.specs.RemoveRegionsFromReplication.{without_regions, unreplicated, remove_on, remove_judgement, remove_refusal, remove_effect}
 use Rattle.sm_judge_labels_and_regions.proofs.RegionalLemmas.{regional_sound}
 

@@ -21,15 +21,15 @@ use Rattle.sm_versions.specs.Sound.{UnsettledSound}
 use Rattle.sm_table.specs.Sweep.{sweep}
 use Rattle.sm_table.specs.Found.{found}
 use Rattle.sm_table.specs.Sound.{Sound}
-use Rattle.sm_judging.specs.declared.judged.Judged.{Judged}
-use Rattle.sm_judging.specs.declared.judged.Judged.TheVariants.{Refuse}
-use Rattle.sm_judging.specs.Changes.{settled, IsChange}
-use Rattle.sm_judging.specs.Judged.{refusal_told, IfAccepted, IfChange}
-use Rattle.sm_judging.specs.Refusals.{refuse_if}
-use Rattle.sm_judging.specs.Regions.{with_regions}
-use Rattle.sm_judging.proofs.JudgedLemmas.{on_secret_refusal, on_secret_reads}
-use Rattle.sm_judging.proofs.ChangeLemmas.{OnRow, on_secret_change, found_change_beside}
-use Rattle.sm_judging.proofs.RegionLemmas.{with_regions_each, each_region, regions_from}
+use Rattle.sm_judge_common.specs.declared.judged.Judged.{Judged}
+use Rattle.sm_judge_common.specs.declared.judged.Judged.TheVariants.{Refuse}
+use Rattle.sm_judge_common.specs.Changes.{settled, IsChange}
+use Rattle.sm_judge_common.specs.Judged.{refusal_told, IfAccepted, IfChange}
+use Rattle.sm_judge_common.specs.Refusals.{refuse_if}
+use Rattle.sm_judge_common.specs.Regions.{with_regions}
+use Rattle.sm_judge_common.proofs.JudgedLemmas.{on_secret_refusal, on_secret_reads}
+use Rattle.sm_judge_common.proofs.ChangeLemmas.{OnRow, on_secret_change, found_change_beside}
+use Rattle.sm_judge_common.proofs.RegionLemmas.{with_regions_each, each_region, regions_from}
 use Rattle.sm_judge_labels_and_regions.specs.ReplicateSecretToRegions.{replicated, has_too_many_regions, replicate_within_limit, replicate_on, replicate_judgement, replicate_refusal_on, replicate_refusal, replicate_effect}
 use Rattle.sm_judge_labels_and_regions.proofs.RegionalLemmas.{regional_sound}
 

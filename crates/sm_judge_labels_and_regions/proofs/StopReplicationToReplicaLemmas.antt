@@ -7,9 +7,9 @@ use Rattle.sm_model.specs.declared.request.OfSecret.{OfSecret}
 use Rattle.sm_model.specs.declared.rows.Rows.{Rows}
 use Rattle.sm_model.specs.declared.why.Why.TheVariants.{NotReplica}
 use Rattle.sm_table.specs.Found.{found}
-use Rattle.sm_judging.specs.Judged.{refusal_told, IfAccepted, IfChange}
-use Rattle.sm_judging.proofs.JudgedLemmas.{on_secret_refusal, on_secret_reads}
-use Rattle.sm_judging.proofs.ChangeLemmas.{on_secret_change}
+use Rattle.sm_judge_common.specs.Judged.{refusal_told, IfAccepted, IfChange}
+use Rattle.sm_judge_common.proofs.JudgedLemmas.{on_secret_refusal, on_secret_reads}
+use Rattle.sm_judge_common.proofs.ChangeLemmas.{on_secret_change}
 use Rattle.sm_judge_labels_and_regions.specs.StopReplicationToReplica.{stop_on, stop_judgement, stop_refusal}
 
 pub stop_refuses : (rows : Rows) (moment : Moment) (stop : OfSecret)

@@ -26,12 +26,12 @@ use Rattle.sm_versions.proofs.SoundLaws.{move_sound}
 use Rattle.sm_table.specs.Sweep.{sweep}
 use Rattle.sm_table.specs.Found.{found}
 use Rattle.sm_table.specs.Sound.{Sound}
-use Rattle.sm_judging.specs.Changes.{settled, IsChange}
-use Rattle.sm_judging.specs.Judged.{refusal_told, IfAccepted, IfChange}
-use Rattle.sm_judging.specs.Refusals.{refuse_if, first_refusal}
-use Rattle.sm_judging.specs.Secrets.{finished_row}
-use Rattle.sm_judging.proofs.JudgedLemmas.{on_secret_refusal, on_secret_reads}
-use Rattle.sm_judging.proofs.ChangeLemmas.{OnRow, on_secret_change, found_change_beside}
+use Rattle.sm_judge_common.specs.Changes.{settled, IsChange}
+use Rattle.sm_judge_common.specs.Judged.{refusal_told, IfAccepted, IfChange}
+use Rattle.sm_judge_common.specs.Refusals.{refuse_if, first_refusal}
+use Rattle.sm_judge_common.specs.Secrets.{finished_row}
+use Rattle.sm_judge_common.proofs.JudgedLemmas.{on_secret_refusal, on_secret_reads}
+use Rattle.sm_judge_common.proofs.ChangeLemmas.{OnRow, on_secret_change, found_change_beside}
 use Rattle.sm_judge_labels_and_regions.specs.declared.update_secret_version_stage.MoveCall.{MoveCall}
 use Rattle.sm_judge_labels_and_regions.specs.UpdateSecretVersionStage.{move_call, move_outcome, move_in, move_on, move_judgement, absent_refusal, target_refusal, move_refusal_on, move_refusal, move_effect}
 

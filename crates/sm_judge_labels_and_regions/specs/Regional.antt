@@ -3,7 +3,7 @@
 use Rattle.std.specs.Prelude.{ℕ, List}
 use Rattle.sm_model.specs.declared.reply.ReplicatedSecret.{ReplicatedSecret}
 use Rattle.sm_model.specs.declared.rows.SecretRow.{SecretRow}
-use Rattle.sm_judging.specs.Regions.{region_statuses}
+use Rattle.sm_judge_common.specs.Regions.{region_statuses}
 
 -- the row with these regions in place of its own
 abbrev pub in_regions : List (List ℕ) → SecretRow → SecretRow

@@ -14,12 +14,12 @@ use Rattle.sm_model.specs.declared.why.Why.{Why}
 use Rattle.sm_model.specs.declared.why.Why.TheVariants.{Limit}
 use Rattle.sm_model.specs.Versions.{When}
 use Rattle.sm_table.specs.Found.{found}
-use Rattle.sm_judging.specs.declared.judged.Judged.{Judged}
-use Rattle.sm_judging.specs.declared.judged.Judged.TheVariants.{Accept, Refuse}
-use Rattle.sm_judging.specs.Changes.{change_named}
-use Rattle.sm_judging.specs.Refusals.{refuse_if, refusal_at}
-use Rattle.sm_judging.specs.Regions.{with_regions}
-use Rattle.sm_judging.specs.Secrets.{with_secret, finished_row}
+use Rattle.sm_judge_common.specs.declared.judged.Judged.{Judged}
+use Rattle.sm_judge_common.specs.declared.judged.Judged.TheVariants.{Accept, Refuse}
+use Rattle.sm_judge_common.specs.Changes.{change_named}
+use Rattle.sm_judge_common.specs.Refusals.{refuse_if, refusal_at}
+use Rattle.sm_judge_common.specs.Regions.{with_regions}
+use Rattle.sm_judge_common.specs.Secrets.{with_secret, finished_row}
 use Rattle.sm_judge_labels_and_regions.specs.Regional.{in_regions, replicated_secret}
 
 -- ---- the row

@@ -9,10 +9,10 @@ use Rattle.sm_model.specs.declared.rows.SecretRow.{SecretRow}
 use Rattle.sm_model.specs.declared.why.Why.{Why}
 use Rattle.sm_model.specs.declared.why.Why.TheVariants.{NotReplica}
 use Rattle.sm_table.specs.Found.{found}
-use Rattle.sm_judging.specs.declared.judged.Judged.{Judged}
-use Rattle.sm_judging.specs.declared.judged.Judged.TheVariants.{Refuse}
-use Rattle.sm_judging.specs.Refusals.{refusal_at}
-use Rattle.sm_judging.specs.Secrets.{with_secret}
+use Rattle.sm_judge_common.specs.declared.judged.Judged.{Judged}
+use Rattle.sm_judge_common.specs.declared.judged.Judged.TheVariants.{Refuse}
+use Rattle.sm_judge_common.specs.Refusals.{refusal_at}
+use Rattle.sm_judge_common.specs.Secrets.{with_secret}
 
 -- no secret of its own account is a replica
 abbrev pub stop_on : SecretRow → Judged

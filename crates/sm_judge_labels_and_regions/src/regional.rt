@@ -1,10 +1,10 @@
 //! A secret with other replica regions.
 ghost use Rattle.std.specs.Prelude.{◌≡◌, IfOk};
-ghost use Rattle.sm_judging.specs.Secrets.{finished_row};
+ghost use Rattle.sm_judge_common.specs.Secrets.{finished_row};
 ghost use Rattle.sm_judge_labels_and_regions.specs.Regional.{in_regions, replicated_secret};
 
-use sm_judging::regions::region_statuses;
-use sm_judging::row_change::finish;
+use sm_judge_common::regions::region_statuses;
+use sm_judge_common::row_change::finish;
 use sm_model::{Copied, List, NoMemory, ReplicatedSecret, SecretRow, Text};
 use sm_versions::When;
 use std::alloc::Global;

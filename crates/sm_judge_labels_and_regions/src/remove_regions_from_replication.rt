@@ -5,17 +5,17 @@ ghost use Rattle.sm_judge_labels_and_regions.specs.RemoveRegionsFromReplication.
 
 use crate::regional::{in_regions, replicated_secret};
 use sm_base::list::copies;
-use sm_judging::Judged;
-use sm_judging::members::secret_id;
-use sm_judging::regions::is_among;
-use sm_judging::standing::standing;
+use sm_judge_common::Judged;
+use sm_judge_common::members::secret_id;
+use sm_judge_common::regions::is_among;
+use sm_judge_common::standing::standing;
 use sm_model::{Change, List, NoMemory, RegionsOfSecret, Reply, SecretRow, Text};
 use sm_table::Table;
 use sm_versions::When;
 use std::alloc::Global;
 
 /// Judges a RemoveRegionsFromReplication.
-#[tactic(auto, using(sm_forms::proofs::RegionsOfSecretLemmas::remove_id, sm_judging::proofs::JudgedLemmas::judged_of_standing, sm_judging::proofs::JudgedLemmas::refused_unless_standing))]
+#[tactic(auto, using(sm_forms::proofs::RegionsOfSecretLemmas::remove_id, sm_judge_common::proofs::JudgedLemmas::judged_of_standing, sm_judge_common::proofs::JudgedLemmas::refused_unless_standing))]
 pub fn judge_remove(
     alloc: Global,
     table: &Table,

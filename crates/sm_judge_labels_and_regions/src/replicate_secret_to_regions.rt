@@ -5,17 +5,17 @@ ghost use Rattle.sm_judge_labels_and_regions.specs.ReplicateSecretToRegions.{has
 
 use crate::regional::{in_regions, replicated_secret};
 use sm_base::limits::REGIONS_LIMIT;
-use sm_judging::Judged;
-use sm_judging::members::secret_id;
-use sm_judging::regions::with_regions;
-use sm_judging::standing::standing;
+use sm_judge_common::Judged;
+use sm_judge_common::members::secret_id;
+use sm_judge_common::regions::with_regions;
+use sm_judge_common::standing::standing;
 use sm_model::{Change, List, NoMemory, RegionsOfSecret, Reply, SecretRow, Text, What, Why};
 use sm_table::Table;
 use sm_versions::When;
 use std::alloc::Global;
 
 /// Judges a ReplicateSecretToRegions.
-#[tactic(auto, using(sm_forms::proofs::RegionsOfSecretLemmas::replicate_id, sm_judging::proofs::JudgedLemmas::judged_of_standing, sm_judging::proofs::JudgedLemmas::refused_unless_standing))]
+#[tactic(auto, using(sm_forms::proofs::RegionsOfSecretLemmas::replicate_id, sm_judge_common::proofs::JudgedLemmas::judged_of_standing, sm_judge_common::proofs::JudgedLemmas::refused_unless_standing))]
 pub fn judge_replicate(
     alloc: Global,
     table: &Table,

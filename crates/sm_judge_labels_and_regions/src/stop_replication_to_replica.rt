@@ -4,15 +4,15 @@ ghost use Rattle.std.specs.Prelude.{◌≡◌, IfOk, None};
 ghost use Rattle.sm_forms.specs.OfSecret.{of_secret_forms};
 ghost use Rattle.sm_judge_labels_and_regions.specs.StopReplicationToReplica.{stop_judgement};
 
-use sm_judging::Judged;
-use sm_judging::members::secret_id;
-use sm_judging::standing::standing;
+use sm_judge_common::Judged;
+use sm_judge_common::members::secret_id;
+use sm_judge_common::standing::standing;
 use sm_model::{Moment, NoMemory, OfSecret, Why};
 use sm_table::Table;
 use std::alloc::Global;
 
 /// Judges a StopReplicationToReplica. It is refused, whatever secret it names.
-#[tactic(auto, using(sm_forms::proofs::OfSecretLemmas::named_id, sm_judging::proofs::JudgedLemmas::judged_of_standing, sm_judging::proofs::JudgedLemmas::refused_unless_standing))]
+#[tactic(auto, using(sm_forms::proofs::OfSecretLemmas::named_id, sm_judge_common::proofs::JudgedLemmas::judged_of_standing, sm_judge_common::proofs::JudgedLemmas::refused_unless_standing))]
 pub fn judge_stop(
     alloc: Global,
     table: &Table,

@@ -1,13 +1,13 @@
 //! Judging UpdateSecretVersionStage (AWS Secrets Manager API Reference, UpdateSecretVersionStage).
 ghost use Rattle.std.specs.Prelude.{◌≡◌, ◌⊎◌, IfOk, IsSome, None};
 ghost use Rattle.sm_forms.specs.UpdateSecretVersionStage.{move_forms};
-ghost use Rattle.sm_judging.specs.Secrets.{finished_row};
+ghost use Rattle.sm_judge_common.specs.Secrets.{finished_row};
 ghost use Rattle.sm_judge_labels_and_regions.specs.UpdateSecretVersionStage.{move_call, move_reply, move_outcome, move_on, move_judged, move_judgement};
 
-use sm_judging::Judged;
-use sm_judging::members::{label_of, secret_id, token_given};
-use sm_judging::row_change::finish;
-use sm_judging::standing::standing;
+use sm_judge_common::Judged;
+use sm_judge_common::members::{label_of, secret_id, token_given};
+use sm_judge_common::row_change::finish;
+use sm_judge_common::standing::standing;
 use sm_model::{
     Change, Copied, Label, NamedSecret, NoMemory, Reply, SecretId, SecretRow, Token,
     UpdateSecretVersionStage, What, Why,
@@ -55,7 +55,7 @@ fn move_call(alloc: Global, update: &UpdateSecretVersionStage) -> Result<MoveCal
 }
 
 /// Judges an UpdateSecretVersionStage by the secret that it names.
-#[tactic(auto, using(sm_judging::proofs::JudgedLemmas::judged_of_standing, sm_judging::proofs::JudgedLemmas::refused_unless_standing))]
+#[tactic(auto, using(sm_judge_common::proofs::JudgedLemmas::judged_of_standing, sm_judge_common::proofs::JudgedLemmas::refused_unless_standing))]
 fn judge_call(alloc: Global, table: &Table, when: When, call: &MoveCall) -> Result<Judged, NoMemory>
     requires { IsSome call.now.to ⊎ IsSome call.now.from }
     ensures { IfOk result (λ judged. judged ≡ move_judged table.now when call.now) }

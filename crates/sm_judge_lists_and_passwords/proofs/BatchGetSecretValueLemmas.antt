@@ -7,7 +7,7 @@ use Rattle.sm_model.specs.declared.entry.Change.{Change}
 use Rattle.sm_model.specs.declared.request.BatchGetSecretValue.{BatchGetSecretValue}
 use Rattle.sm_model.specs.declared.request.GetSecretValue.{GetSecretValue}
 use Rattle.sm_model.specs.declared.rows.Rows.{Rows}
-use Rattle.sm_judging.specs.Judged.{refusal_told, IfAccepted, IfChange}
+use Rattle.sm_judge_common.specs.Judged.{refusal_told, IfAccepted, IfChange}
 use Rattle.sm_model.specs.declared.reply.GotSecret.{GotSecret}
 use Rattle.sm_model.specs.declared.reply.Reply.TheVariants as replies
 use Rattle.sm_model.specs.declared.rows.SecretRow.{SecretRow}
@@ -16,9 +16,9 @@ use Rattle.sm_model.specs.declared.why.Why.TheVariants.{NoVersion}
 use Rattle.sm_base.specs.SecretId.{secret_id}
 use Rattle.sm_versions.specs.Find.{Lookup, here, nowhere, apart, lookup}
 use Rattle.sm_table.specs.Found.{found}
-use Rattle.sm_judging.specs.declared.judged.Judged.{Judged}
-use Rattle.sm_judging.specs.declared.judged.Judged.TheVariants.{Accept, Refuse}
-use Rattle.sm_judging.specs.Secrets.{unless_scheduled, on_secret}
+use Rattle.sm_judge_common.specs.declared.judged.Judged.{Judged}
+use Rattle.sm_judge_common.specs.declared.judged.Judged.TheVariants.{Accept, Refuse}
+use Rattle.sm_judge_common.specs.Secrets.{unless_scheduled, on_secret}
 use Rattle.sm_judge_reads.specs.GetSecretValue.{got_secret, get_call, get_found, get_on, get_judgement}
 use Rattle.sm_judge_lists_and_passwords.specs.BatchGetSecretValue.{IsAnswer, value_in, error_in, values_of, errors_of, batch_judgement, batch_refusal}
 

@@ -8,7 +8,7 @@ use Rattle.sm_password.specs.declared.ask.PasswordAsk.{PasswordAsk}
 use Rattle.sm_password.specs.Classes.{classes}
 use Rattle.sm_password.specs.Passwords.{required, password_text, password_of}
 use Rattle.sm_forms.specs.GetRandomPassword.{IsPasswordAsk}
-use Rattle.sm_judging.specs.Judged.{refusal_told, IfAccepted, IfChange}
+use Rattle.sm_judge_common.specs.Judged.{refusal_told, IfAccepted, IfChange}
 use Rattle.sm_judge_lists_and_passwords.specs.GetRandomPassword.{password_judgement, password_refusal}
 
 negated : (b : Bool) → not b ≡ true → b ≡ false

@@ -6,8 +6,8 @@ use Rattle.sm_model.specs.declared.entry.Change.{Change}
 use Rattle.sm_model.specs.declared.request.ListSecretVersionIds.{ListSecretVersionIds}
 use Rattle.sm_model.specs.declared.rows.Rows.{Rows}
 use Rattle.sm_table.specs.Found.{found}
-use Rattle.sm_judging.specs.Judged.{refusal_told, IfAccepted, IfChange}
-use Rattle.sm_judging.proofs.JudgedLemmas.{if_there_refusal, if_there_accepts, if_there_change}
+use Rattle.sm_judge_common.specs.Judged.{refusal_told, IfAccepted, IfChange}
+use Rattle.sm_judge_common.proofs.JudgedLemmas.{if_there_refusal, if_there_accepts, if_there_change}
 use Rattle.sm_judge_lists_and_passwords.specs.ListSecretVersionIds.{versions_call, versions_on, versions_judgement, versions_refusal}
 
 pub versions_refuses : (rows : Rows) (moment : Moment) (list : ListSecretVersionIds)

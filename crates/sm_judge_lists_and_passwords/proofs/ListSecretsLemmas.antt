@@ -4,7 +4,7 @@ use Rattle.sm_base.specs.declared.moment.Moment.{Moment}
 use Rattle.sm_model.specs.declared.entry.Change.{Change}
 use Rattle.sm_model.specs.declared.request.ListSecrets.{ListSecrets}
 use Rattle.sm_model.specs.declared.rows.Rows.{Rows}
-use Rattle.sm_judging.specs.Judged.{refusal_told, IfAccepted, IfChange}
+use Rattle.sm_judge_common.specs.Judged.{refusal_told, IfAccepted, IfChange}
 use Rattle.sm_judge_lists_and_passwords.specs.ListSecrets.{list_judgement, list_refusal}
 
 pub list_refuses : (rows : Rows) (moment : Moment) (list : ListSecrets)

@@ -21,8 +21,8 @@ use Rattle.sm_access.specs.Admission.{admission}
 use Rattle.sm_listing.specs.declared.asks.PageAsk.{PageAsk}
 use Rattle.sm_base.specs.declared.limits.TheConstants.{BATCH_LIMIT}
 use Rattle.sm_forms.specs.GetSecretValue.{get_forms}
-use Rattle.sm_judging.specs.declared.judged.Judged.{Judged}
-use Rattle.sm_judging.specs.declared.judged.Judged.TheVariants.{Accept, Refuse, Memory}
+use Rattle.sm_judge_common.specs.declared.judged.Judged.{Judged}
+use Rattle.sm_judge_common.specs.declared.judged.Judged.TheVariants.{Accept, Refuse, Memory}
 use Rattle.sm_judge_reads.specs.GetSecretValue.{get_judgement}
 use Rattle.sm_judge_lists_and_passwords.specs.Pages.{page_size, filters_given, listed, page_rows}
 

@@ -7,8 +7,8 @@ use Rattle.sm_model.specs.declared.request.GetRandomPassword.{GetRandomPassword}
 use Rattle.sm_model.specs.declared.why.Why.{Why}
 use Rattle.sm_password.specs.Passwords.{password_text}
 use Rattle.sm_forms.specs.GetRandomPassword.{password_ask}
-use Rattle.sm_judging.specs.declared.judged.Judged.{Judged}
-use Rattle.sm_judging.specs.declared.judged.Judged.TheVariants.{Accept}
+use Rattle.sm_judge_common.specs.declared.judged.Judged.{Judged}
+use Rattle.sm_judge_common.specs.declared.judged.Judged.TheVariants.{Accept}
 
 -- the password of the drawn bytes
 abbrev pub password_reply : List ℕ → GetRandomPassword → RandomPassword

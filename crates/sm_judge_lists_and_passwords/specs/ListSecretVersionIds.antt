@@ -18,11 +18,11 @@ use Rattle.sm_listing.specs.Pages.{version_serials, page_of}
 use Rattle.sm_base.specs.declared.limits.TheConstants.{PAGE_LIMIT}
 use Rattle.sm_forms.specs.Paging.{is_page_token}
 use Rattle.sm_table.specs.Found.{found}
-use Rattle.sm_judging.specs.declared.judged.Judged.{Judged}
-use Rattle.sm_judging.specs.declared.judged.Judged.TheVariants.{Accept}
-use Rattle.sm_judging.specs.LabelsShown.{labels_shown}
-use Rattle.sm_judging.specs.Refusals.{unless_there}
-use Rattle.sm_judging.specs.Secrets.{if_there}
+use Rattle.sm_judge_common.specs.declared.judged.Judged.{Judged}
+use Rattle.sm_judge_common.specs.declared.judged.Judged.TheVariants.{Accept}
+use Rattle.sm_judge_common.specs.LabelsShown.{labels_shown}
+use Rattle.sm_judge_common.specs.Refusals.{unless_there}
+use Rattle.sm_judge_common.specs.Secrets.{if_there}
 use Rattle.sm_judge_lists_and_passwords.specs.declared.list_secret_version_ids.VersionsCall.{VersionsCall}
 use Rattle.sm_judge_lists_and_passwords.specs.Pages.{page_size, token_serial, picked}
 

@@ -10,8 +10,8 @@ use Rattle.sm_model.specs.declared.why.Why.{Why}
 use Rattle.sm_base.specs.Texts.{same_text}
 use Rattle.sm_listing.specs.declared.asks.PageAsk.{PageAsk}
 use Rattle.sm_base.specs.declared.limits.TheConstants.{PAGE_LIMIT}
-use Rattle.sm_judging.specs.declared.judged.Judged.{Judged}
-use Rattle.sm_judging.specs.declared.judged.Judged.TheVariants.{Accept}
+use Rattle.sm_judge_common.specs.declared.judged.Judged.{Judged}
+use Rattle.sm_judge_common.specs.declared.judged.Judged.TheVariants.{Accept}
 use Rattle.sm_judge_reads.specs.DescribeSecret.{described}
 use Rattle.sm_judge_lists_and_passwords.specs.Pages.{page_size, filters_given, listed, page_rows}
 

@@ -14,8 +14,8 @@ use crate::pages::{Shown, filters_given, listed, page_size, shown_rows};
 use sm_access::{Admitted, admit_get};
 use sm_base::limits::BATCH_LIMIT;
 use sm_forms::get_secret_value::get_forms;
+use sm_judge_common::Judged;
 use sm_judge_reads::get_secret_value::judge_get;
-use sm_judging::Judged;
 use sm_listing::{Listed, PageAsk};
 use sm_model::{
     BatchError, BatchGetSecretValue, Copied, GetSecretValue, GotSecret, List, Moment, NoMemory,

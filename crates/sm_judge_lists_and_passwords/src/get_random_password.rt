@@ -9,7 +9,7 @@ ghost use Rattle.sm_base.specs.declared.limits.TheConstants.{PASSWORD_LIMIT};
 ghost use Rattle.sm_password.specs.Passwords.{password_text};
 
 use sm_base::limits::PASSWORD_LENGTH;
-use sm_judging::Judged;
+use sm_judge_common::Judged;
 use sm_model::{Copied, GetRandomPassword, NoMemory, RandomPassword, Reply, Request, Text};
 use sm_password::{PasswordAsk, PasswordRefused, password};
 use std::alloc::Global;

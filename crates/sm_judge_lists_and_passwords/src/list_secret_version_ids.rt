@@ -2,7 +2,7 @@
 ghost use Rattle.std.specs.Prelude.{◌≡◌, ◌≤◌, IfOk, IsTrue, Some, None, map};
 ghost use Rattle.sm_forms.specs.ListSecretVersionIds.{list_versions_forms};
 ghost use Rattle.sm_forms.specs.Paging.{is_page_token};
-ghost use Rattle.sm_judging.specs.LabelsShown.{labels_shown};
+ghost use Rattle.sm_judge_common.specs.LabelsShown.{labels_shown};
 ghost use Rattle.sm_listing.specs.declared.tokens.TheConstants.{VERSIONS};
 ghost use Rattle.sm_judge_lists_and_passwords.specs.ListSecretVersionIds.{versions_call, stages_shown, version_item, version_serial, versions_listed, version_page, versions_on, versions_judgement, IsVersionsCall};
 ghost use Rattle.sm_judge_lists_and_passwords.specs.Pages.{picked};
@@ -10,9 +10,9 @@ ghost use Rattle.sm_model.specs.Bounds.{fits};
 
 use crate::pages::{is_next, page_size};
 use sm_base::limits::PAGE_LIMIT;
-use sm_judging::Judged;
-use sm_judging::labels_shown::labels_shown;
-use sm_judging::members::secret_id;
+use sm_judge_common::Judged;
+use sm_judge_common::labels_shown::labels_shown;
+use sm_judge_common::members::secret_id;
 use sm_listing::{Listed, PageRefused};
 use sm_model::{
     Copied, Label, List, ListSecretVersionIds, Moment, NoMemory, Reply, SecretId, SecretRow, Text,

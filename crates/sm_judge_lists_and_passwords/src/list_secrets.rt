@@ -8,8 +8,8 @@ ghost use Rattle.sm_judge_reads.specs.DescribeSecret.{described};
 
 use crate::pages::{Shown, filters_given, listed, page_size, shown_rows};
 use sm_base::limits::PAGE_LIMIT;
+use sm_judge_common::Judged;
 use sm_judge_reads::describe_secret::described;
-use sm_judging::Judged;
 use sm_listing::{Listed, PageAsk};
 use sm_model::{
     Copied, Described, ListSecrets, Moment, NoMemory, Reply, SecretPage, SecretRow, Text,

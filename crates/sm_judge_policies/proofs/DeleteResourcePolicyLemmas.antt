@@ -8,10 +8,10 @@ use Rattle.sm_model.specs.Versions.{When}
 use Rattle.sm_table.specs.Sweep.{sweep}
 use Rattle.sm_table.specs.Found.{found}
 use Rattle.sm_table.specs.Sound.{Sound}
-use Rattle.sm_judging.specs.Changes.{settled, IsChange}
-use Rattle.sm_judging.specs.Judged.{refusal_told, IfAccepted, IfChange}
-use Rattle.sm_judging.proofs.JudgedLemmas.{on_secret_refusal, on_secret_reads}
-use Rattle.sm_judging.proofs.ChangeLemmas.{on_secret_change}
+use Rattle.sm_judge_common.specs.Changes.{settled, IsChange}
+use Rattle.sm_judge_common.specs.Judged.{refusal_told, IfAccepted, IfChange}
+use Rattle.sm_judge_common.proofs.JudgedLemmas.{on_secret_refusal, on_secret_reads}
+use Rattle.sm_judge_common.proofs.ChangeLemmas.{on_secret_change}
 use Rattle.sm_judge_policies.specs.DeleteResourcePolicy.{delete_policy_on, delete_policy_judgement, delete_policy_refusal, delete_policy_effect}
 use Rattle.sm_judge_policies.proofs.KeptLemmas.{keeps_policy}
 

@@ -6,8 +6,8 @@ use Rattle.sm_model.specs.declared.entry.Change.{Change}
 use Rattle.sm_model.specs.declared.request.OfSecret.{OfSecret}
 use Rattle.sm_model.specs.declared.rows.Rows.{Rows}
 use Rattle.sm_table.specs.Found.{found}
-use Rattle.sm_judging.specs.Judged.{refusal_told, IfAccepted, IfChange}
-use Rattle.sm_judging.proofs.JudgedLemmas.{if_there_refusal, if_there_accepts, if_there_change}
+use Rattle.sm_judge_common.specs.Judged.{refusal_told, IfAccepted, IfChange}
+use Rattle.sm_judge_common.proofs.JudgedLemmas.{if_there_refusal, if_there_accepts, if_there_change}
 use Rattle.sm_judge_policies.specs.GetResourcePolicy.{get_policy_on, get_policy_judgement, get_policy_refusal}
 
 pub get_policy_refuses : (rows : Rows) (moment : Moment) (get : OfSecret)

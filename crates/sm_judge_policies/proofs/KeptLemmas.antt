@@ -11,8 +11,8 @@ use Rattle.sm_policy_text.specs.Documents.{is_resource_policy}
 use Rattle.sm_versions.specs.Sound.{UnsettledSound}
 use Rattle.sm_table.specs.Found.{found}
 use Rattle.sm_table.specs.Sound.{Sound}
-use Rattle.sm_judging.specs.Secrets.{finished_row}
-use Rattle.sm_judging.proofs.ChangeLemmas.{OnRow, found_change_beside}
+use Rattle.sm_judge_common.specs.Secrets.{finished_row}
+use Rattle.sm_judge_common.proofs.ChangeLemmas.{OnRow, found_change_beside}
 use Rattle.sm_judge_policies.specs.Kept.{with_policy}
 
 with_policy_sound : (policy : Option (List ℕ)) (row : SecretRow) → IsTrue (fits is_resource_policy policy)

@@ -14,10 +14,10 @@ use Rattle.sm_table.specs.Found.{found}
 use Rattle.sm_table.specs.Sound.{Sound}
 use Rattle.sm_forms.specs.PutResourcePolicy.{put_policy_forms}
 use Rattle.sm_forms.proofs.PutResourcePolicyLemmas.{put_policy_text}
-use Rattle.sm_judging.specs.Changes.{settled, IsChange}
-use Rattle.sm_judging.specs.Judged.{refusal_told, IfAccepted, IfChange}
-use Rattle.sm_judging.proofs.JudgedLemmas.{on_secret_refusal, on_secret_reads}
-use Rattle.sm_judging.proofs.ChangeLemmas.{OnRow, on_secret_change}
+use Rattle.sm_judge_common.specs.Changes.{settled, IsChange}
+use Rattle.sm_judge_common.specs.Judged.{refusal_told, IfAccepted, IfChange}
+use Rattle.sm_judge_common.proofs.JudgedLemmas.{on_secret_refusal, on_secret_reads}
+use Rattle.sm_judge_common.proofs.ChangeLemmas.{OnRow, on_secret_change}
 use Rattle.sm_judge_policies.specs.Kept.{with_policy}
 use Rattle.sm_judge_policies.specs.PutResourcePolicy.{blocked, put_policy_unless, put_policy_on, put_policy_judgement, put_policy_refusal, put_policy_effect}
 use Rattle.sm_judge_policies.proofs.KeptLemmas.{keeps_policy}

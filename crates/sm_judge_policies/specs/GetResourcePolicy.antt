@@ -11,10 +11,10 @@ use Rattle.sm_model.specs.declared.rows.Rows.{Rows}
 use Rattle.sm_model.specs.declared.rows.SecretRow.{SecretRow}
 use Rattle.sm_model.specs.declared.why.Why.{Why}
 use Rattle.sm_table.specs.Found.{found}
-use Rattle.sm_judging.specs.declared.judged.Judged.{Judged}
-use Rattle.sm_judging.specs.declared.judged.Judged.TheVariants.{Accept}
-use Rattle.sm_judging.specs.Refusals.{unless_there}
-use Rattle.sm_judging.specs.Secrets.{if_there}
+use Rattle.sm_judge_common.specs.declared.judged.Judged.{Judged}
+use Rattle.sm_judge_common.specs.declared.judged.Judged.TheVariants.{Accept}
+use Rattle.sm_judge_common.specs.Refusals.{unless_there}
+use Rattle.sm_judge_common.specs.Secrets.{if_there}
 
 -- ---- the reply
 

@@ -16,11 +16,11 @@ use Rattle.sm_policy_text.specs.declared.policy.Policy.{Policy}
 use Rattle.sm_policy.specs.Decisions.{public_number}
 use Rattle.sm_policy_text.specs.Documents.{policy_of}
 use Rattle.sm_table.specs.Found.{found}
-use Rattle.sm_judging.specs.declared.judged.Judged.{Judged}
-use Rattle.sm_judging.specs.declared.judged.Judged.TheVariants.{Accept, Refuse}
-use Rattle.sm_judging.specs.Changes.{change_named}
-use Rattle.sm_judging.specs.Refusals.{refusal_at}
-use Rattle.sm_judging.specs.Secrets.{with_secret, finished_row}
+use Rattle.sm_judge_common.specs.declared.judged.Judged.{Judged}
+use Rattle.sm_judge_common.specs.declared.judged.Judged.TheVariants.{Accept, Refuse}
+use Rattle.sm_judge_common.specs.Changes.{change_named}
+use Rattle.sm_judge_common.specs.Refusals.{refusal_at}
+use Rattle.sm_judge_common.specs.Secrets.{with_secret, finished_row}
 use Rattle.sm_judge_policies.specs.Kept.{named, with_policy}
 
 -- ---- public statements

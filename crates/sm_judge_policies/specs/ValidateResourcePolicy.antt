@@ -16,10 +16,10 @@ use Rattle.sm_policy_text.specs.declared.policy.Policy.{Policy}
 use Rattle.sm_policy.specs.Decisions.{public_number}
 use Rattle.sm_policy_text.specs.Documents.{Flaw, policy_of}
 use Rattle.sm_table.specs.Found.{found}
-use Rattle.sm_judging.specs.declared.judged.Judged.{Judged}
-use Rattle.sm_judging.specs.declared.judged.Judged.TheVariants.{Accept}
-use Rattle.sm_judging.specs.Refusals.{unless_there}
-use Rattle.sm_judging.specs.Secrets.{if_there}
+use Rattle.sm_judge_common.specs.declared.judged.Judged.{Judged}
+use Rattle.sm_judge_common.specs.declared.judged.Judged.TheVariants.{Accept}
+use Rattle.sm_judge_common.specs.Refusals.{unless_there}
+use Rattle.sm_judge_common.specs.Secrets.{if_there}
 
 -- ---- the reply
 

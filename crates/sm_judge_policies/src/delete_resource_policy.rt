@@ -4,16 +4,16 @@ ghost use Rattle.sm_forms.specs.OfSecret.{of_secret_forms};
 ghost use Rattle.sm_judge_policies.specs.DeleteResourcePolicy.{delete_policy_on, delete_policy_judgement};
 
 use crate::kept::{keep, named};
-use sm_judging::Judged;
-use sm_judging::members::secret_id;
-use sm_judging::standing::standing;
+use sm_judge_common::Judged;
+use sm_judge_common::members::secret_id;
+use sm_judge_common::standing::standing;
 use sm_model::{Change, NoMemory, OfSecret, Reply, SecretRow};
 use sm_table::Table;
 use sm_versions::When;
 use std::alloc::Global;
 
 /// Judges a DeleteResourcePolicy.
-#[tactic(auto, using(sm_forms::proofs::OfSecretLemmas::named_id, sm_judging::proofs::JudgedLemmas::judged_of_standing, sm_judging::proofs::JudgedLemmas::refused_unless_standing))]
+#[tactic(auto, using(sm_forms::proofs::OfSecretLemmas::named_id, sm_judge_common::proofs::JudgedLemmas::judged_of_standing, sm_judge_common::proofs::JudgedLemmas::refused_unless_standing))]
 pub fn judge_delete_policy(
     alloc: Global,
     table: &Table,

@@ -4,8 +4,8 @@ ghost use Rattle.sm_forms.specs.OfSecret.{of_secret_forms};
 ghost use Rattle.sm_judge_policies.specs.GetResourcePolicy.{policy_shown, get_policy_on, get_policy_judgement};
 
 use sm_base::copy_two;
-use sm_judging::Judged;
-use sm_judging::members::secret_id;
+use sm_judge_common::Judged;
+use sm_judge_common::members::secret_id;
 use sm_model::{
     Copied, KeptPolicy, Moment, NoMemory, OfSecret, PolicyOfSecret, Reply, SecretRow, Text, Why,
 };

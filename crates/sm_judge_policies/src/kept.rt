@@ -1,10 +1,10 @@
 //! The policy that a secret keeps, and the reply that names the secret.
 ghost use Rattle.std.specs.Prelude.{◌≡◌, IfOk};
-ghost use Rattle.sm_judging.specs.Secrets.{finished_row};
+ghost use Rattle.sm_judge_common.specs.Secrets.{finished_row};
 ghost use Rattle.sm_judge_policies.specs.Kept.{named, with_policy};
 
 use sm_base::copy_two;
-use sm_judging::row_change::finish;
+use sm_judge_common::row_change::finish;
 use sm_model::{Copied, KeptPolicy, NamedSecret, NoMemory, SecretRow};
 use sm_versions::When;
 use std::alloc::Global;

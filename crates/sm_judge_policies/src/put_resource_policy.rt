@@ -4,9 +4,9 @@ ghost use Rattle.sm_forms.specs.PutResourcePolicy.{put_policy_forms};
 ghost use Rattle.sm_judge_policies.specs.PutResourcePolicy.{public_statement, blocked, put_policy_kept, put_policy_on, put_policy_judgement};
 
 use crate::kept::{keep, named};
-use sm_judging::Judged;
-use sm_judging::members::secret_id;
-use sm_judging::standing::standing;
+use sm_judge_common::Judged;
+use sm_judge_common::members::secret_id;
+use sm_judge_common::standing::standing;
 use sm_model::{Change, Copied, KeptPolicy, NoMemory, PutResourcePolicy, Reply, SecretRow, Why};
 use sm_policy::is_public;
 use sm_table::Table;
@@ -14,7 +14,7 @@ use sm_versions::When;
 use std::alloc::Global;
 
 /// Judges a PutResourcePolicy.
-#[tactic(auto, using(sm_forms::proofs::PutResourcePolicyLemmas::put_policy_id, sm_judging::proofs::JudgedLemmas::judged_of_standing, sm_judging::proofs::JudgedLemmas::refused_unless_standing))]
+#[tactic(auto, using(sm_forms::proofs::PutResourcePolicyLemmas::put_policy_id, sm_judge_common::proofs::JudgedLemmas::judged_of_standing, sm_judge_common::proofs::JudgedLemmas::refused_unless_standing))]
 pub fn judge_put_policy(
     alloc: Global,
     table: &Table,

@@ -4,8 +4,8 @@ ghost use Rattle.sm_base.specs.Spelling.{is_secret_id};
 ghost use Rattle.sm_forms.specs.ValidateResourcePolicy.{validate_forms};
 ghost use Rattle.sm_judge_policies.specs.ValidateResourcePolicy.{check_fault, public_fault, fault_of, validation_of, validated, validate_for, validate_judgement};
 
-use sm_judging::Judged;
-use sm_judging::members::secret_id;
+use sm_judge_common::Judged;
+use sm_judge_common::members::secret_id;
 use sm_model::{
     List, Moment, NoMemory, PolicyValidation, Reply, Text, ValidateResourcePolicy, ValidationError,
     Why,

@@ -9,9 +9,9 @@ use Rattle.sm_model.specs.declared.rows.Rows.{Rows}
 use Rattle.sm_model.specs.declared.rows.SecretRow.{SecretRow}
 use Rattle.sm_model.specs.declared.rows.VersionRow.{VersionRow}
 use Rattle.sm_table.specs.Found.{found}
-use Rattle.sm_judging.specs.Judged.{refusal_told, IfAccepted, IfChange}
-use Rattle.sm_judging.specs.LabelsShown.{labels_shown}
-use Rattle.sm_judging.proofs.JudgedLemmas.{if_there_refusal, if_there_accepts, if_there_change}
+use Rattle.sm_judge_common.specs.Judged.{refusal_told, IfAccepted, IfChange}
+use Rattle.sm_judge_common.specs.LabelsShown.{labels_shown}
+use Rattle.sm_judge_common.proofs.JudgedLemmas.{if_there_refusal, if_there_accepts, if_there_change}
 use Rattle.sm_judge_reads.specs.DescribeSecret.{with_labels, staged, describe_on, describe_judgement, describe_refusal}
 
 pub describe_refuses : (rows : Rows) (moment : Moment) (describe : OfSecret)

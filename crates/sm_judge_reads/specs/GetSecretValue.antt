@@ -15,11 +15,11 @@ use Rattle.sm_model.specs.declared.why.Why.{Why}
 use Rattle.sm_model.specs.declared.why.Why.TheVariants.{NoVersion, Differ}
 use Rattle.sm_versions.specs.Find.{Lookup, here, nowhere, apart, lookup}
 use Rattle.sm_table.specs.Found.{found}
-use Rattle.sm_judging.specs.declared.judged.Judged.{Judged}
-use Rattle.sm_judging.specs.declared.judged.Judged.TheVariants.{Accept, Refuse}
-use Rattle.sm_judging.specs.LabelsShown.{labels_shown}
-use Rattle.sm_judging.specs.Refusals.{refuse_if, first_refusal, refusal_at}
-use Rattle.sm_judging.specs.Secrets.{with_secret}
+use Rattle.sm_judge_common.specs.declared.judged.Judged.{Judged}
+use Rattle.sm_judge_common.specs.declared.judged.Judged.TheVariants.{Accept, Refuse}
+use Rattle.sm_judge_common.specs.LabelsShown.{labels_shown}
+use Rattle.sm_judge_common.specs.Refusals.{refuse_if, first_refusal, refusal_at}
+use Rattle.sm_judge_common.specs.Secrets.{with_secret}
 use Rattle.sm_judge_reads.specs.declared.get_secret_value.GetCall.{GetCall}
 
 -- ---- the members

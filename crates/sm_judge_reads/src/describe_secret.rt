@@ -1,14 +1,14 @@
 //! Judging DescribeSecret (AWS Secrets Manager API Reference, DescribeSecret).
 ghost use Rattle.std.specs.Prelude.{◌≡◌, ◌++◌, IfOk, OnOk, None};
 ghost use Rattle.sm_forms.specs.OfSecret.{of_secret_forms};
-ghost use Rattle.sm_judging.specs.LabelsShown.{labels_shown};
+ghost use Rattle.sm_judge_common.specs.LabelsShown.{labels_shown};
 ghost use Rattle.sm_judge_reads.specs.DescribeSecret.{with_labels, staged, keeps_rules, rules_shown, described, describe_on, describe_judgement};
 
 use sm_base::{copy_three, copy_two};
-use sm_judging::Judged;
-use sm_judging::labels_shown::labels_shown;
-use sm_judging::members::secret_id;
-use sm_judging::regions::replicas_shown;
+use sm_judge_common::Judged;
+use sm_judge_common::labels_shown::labels_shown;
+use sm_judge_common::members::secret_id;
+use sm_judge_common::regions::replicas_shown;
 use sm_model::{
     Copied, Described, List, Moment, NoMemory, OfSecret, Reply, Rotation, RulesShown, SecretRow,
     Staged, Token, Why,

@@ -5,10 +5,10 @@ ghost use Rattle.sm_judge_reads.specs.GetSecretValue.{get_call, text_of, bytes_o
 ghost use Rattle.sm_table.specs.Changes.{row_with};
 ghost use Rattle.sm_versions.specs.Find.{lookup, looked_up};
 
-use sm_judging::Judged;
-use sm_judging::labels_shown::labels_shown;
-use sm_judging::members::{label_given, secret_id, token_given};
-use sm_judging::standing::standing;
+use sm_judge_common::Judged;
+use sm_judge_common::labels_shown::labels_shown;
+use sm_judge_common::members::{label_given, secret_id, token_given};
+use sm_judge_common::standing::standing;
 use sm_model::{
     Bytes, Copied, GetSecretValue, GotSecret, Label, Moment, NoMemory, Reply, SecretId, SecretRow,
     Text, Token, Value, VersionRow, Why,
@@ -53,7 +53,7 @@ fn get_call(alloc: Global, get: &GetSecretValue) -> Result<GetCall, NoMemory>
 }
 
 /// Judges a GetSecretValue by the secret that it names.
-#[tactic(auto, using(sm_judging::proofs::JudgedLemmas::judged_of_standing, sm_judging::proofs::JudgedLemmas::refused_unless_standing))]
+#[tactic(auto, using(sm_judge_common::proofs::JudgedLemmas::judged_of_standing, sm_judge_common::proofs::JudgedLemmas::refused_unless_standing))]
 fn judge_call(
     alloc: Global,
     table: &Table,

@@ -19,8 +19,8 @@ use Rattle.sm_rotation.proofs.SoundLemmas.{begin_sound, begin_counted}
 use Rattle.sm_table.specs.Sweep.{sweep}
 use Rattle.sm_table.specs.Found.{found_arn}
 use Rattle.sm_table.specs.Sound.{Sound}
-use Rattle.sm_judging.specs.Changes.{settled, IsChange}
-use Rattle.sm_judging.specs.Secrets.{finished_row}
+use Rattle.sm_judge_common.specs.Changes.{settled, IsChange}
+use Rattle.sm_judge_common.specs.Secrets.{finished_row}
 use Rattle.sm_judge_rotations.specs.declared.begun.TheConstants.{TOKEN_BYTES}
 use Rattle.sm_judge_rotations.specs.Begun.{begun_found, begun_change, MayBegin, begun_effect}
 use Rattle.sm_judge_rotations.proofs.ActLemmas.{Agrees, with_bytes}

@@ -22,8 +22,8 @@ use Rattle.sm_rotation.proofs.SoundLemmas.{applied_sound}
 use Rattle.sm_table.specs.Sweep.{sweep}
 use Rattle.sm_table.specs.Found.{found_arn}
 use Rattle.sm_table.specs.Sound.{Sound}
-use Rattle.sm_judging.specs.Changes.{settled, IsChange}
-use Rattle.sm_judging.specs.Secrets.{finished_row}
+use Rattle.sm_judge_common.specs.Changes.{settled, IsChange}
+use Rattle.sm_judge_common.specs.Secrets.{finished_row}
 use Rattle.sm_judge_rotations.specs.Reported.{is_at_step, answered, reported_found, reported_change, MayReport, reported_effect}
 use Rattle.sm_judge_rotations.proofs.ActLemmas.{Agrees}
 use Rattle.sm_judge_rotations.proofs.WholeArnLemmas.{OnArn, arn_row_sound, arn_change}

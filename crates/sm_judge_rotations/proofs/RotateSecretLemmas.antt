@@ -36,13 +36,13 @@ use Rattle.sm_dates.proofs.RotationLemmas.{rotation_after_fits}
 use Rattle.sm_table.specs.Sweep.{sweep}
 use Rattle.sm_table.specs.Found.{found}
 use Rattle.sm_table.specs.Sound.{Sound}
-use Rattle.sm_judging.specs.declared.judged.Judged.{Judged}
-use Rattle.sm_judging.specs.Changes.{settled, IsChange}
-use Rattle.sm_judging.specs.Judged.{refusal_told, IfAccepted, IfChange}
-use Rattle.sm_judging.specs.Refusals.{refuse_if, first_refusal}
-use Rattle.sm_judging.specs.Secrets.{finished_row}
-use Rattle.sm_judging.proofs.JudgedLemmas.{on_secret_refusal, on_secret_repeat}
-use Rattle.sm_judging.proofs.ChangeLemmas.{OnRow, on_secret_change, found_row_sound, found_change, found_change_beside}
+use Rattle.sm_judge_common.specs.declared.judged.Judged.{Judged}
+use Rattle.sm_judge_common.specs.Changes.{settled, IsChange}
+use Rattle.sm_judge_common.specs.Judged.{refusal_told, IfAccepted, IfChange}
+use Rattle.sm_judge_common.specs.Refusals.{refuse_if, first_refusal}
+use Rattle.sm_judge_common.specs.Secrets.{finished_row}
+use Rattle.sm_judge_common.proofs.JudgedLemmas.{on_secret_refusal, on_secret_repeat}
+use Rattle.sm_judge_common.proofs.ChangeLemmas.{OnRow, on_secret_change, found_row_sound, found_change, found_change_beside}
 use Rattle.sm_judge_rotations.specs.declared.rotate_secret.KeptRules.{KeptRules}
 use Rattle.sm_judge_rotations.specs.declared.rotate_secret.Plan.{Plan}
 use Rattle.sm_judge_rotations.specs.RotateSecret.{days_of, rules_given, plan_of, token_to_start, days_or, schedule_or, turned_on, turned_on_in, dated, waits, rotates, started_by, start_judged, rotate_on, rotate_judgement, starts_again, pending_refusal, start_refusal, rotate_refusal_on, rotate_refusal, rotate_repeat, rotate_effect}

@@ -13,9 +13,9 @@ use Rattle.sm_table.specs.Sweep.{swept, sweep}
 use Rattle.sm_table.specs.Found.{row_with_arn, row_with_short_arn, or_else, row_by_arn, found_arn}
 use Rattle.sm_table.specs.Sound.{Sound}
 use Rattle.sm_table.proofs.SoundLaws.{found_arn_sound}
-use Rattle.sm_judging.specs.Changes.{with_row, settled, IsChange}
-use Rattle.sm_judging.specs.Secrets.{finished_row}
-use Rattle.sm_judging.proofs.ChangeLemmas.{InPlaceOf, found_change}
+use Rattle.sm_judge_common.specs.Changes.{with_row, settled, IsChange}
+use Rattle.sm_judge_common.specs.Secrets.{finished_row}
+use Rattle.sm_judge_common.proofs.ChangeLemmas.{InPlaceOf, found_change}
 use Rattle.sm_judge_rotations.specs.WholeArns.{change_with_arn}
 
 -- a change of the row that has exactly this ARN

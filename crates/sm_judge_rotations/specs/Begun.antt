@@ -10,7 +10,7 @@ use Rattle.sm_model.specs.Versions.{When}
 use Rattle.sm_model.specs.Due.{is_due_for_when}
 use Rattle.sm_rotation.specs.Begin.{begin_row}
 use Rattle.sm_table.specs.Found.{found_arn}
-use Rattle.sm_judging.specs.Secrets.{finished_row}
+use Rattle.sm_judge_common.specs.Secrets.{finished_row}
 use Rattle.sm_judge_rotations.specs.declared.begun.TheConstants.{TOKEN_BYTES}
 use Rattle.sm_judge_rotations.specs.WholeArns.{change_with_arn}
 

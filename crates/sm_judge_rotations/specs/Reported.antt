@@ -12,7 +12,7 @@ use Rattle.sm_model.specs.declared.rows.SecretRow.{SecretRow}
 use Rattle.sm_model.specs.Versions.{When}
 use Rattle.sm_rotation.specs.Step.{is_at, applied_row}
 use Rattle.sm_table.specs.Found.{found_arn}
-use Rattle.sm_judging.specs.Secrets.{finished_row}
+use Rattle.sm_judge_common.specs.Secrets.{finished_row}
 use Rattle.sm_judge_rotations.specs.WholeArns.{change_with_arn}
 
 -- there is a job, and it is at the step: it has its token, its stage and its attempt

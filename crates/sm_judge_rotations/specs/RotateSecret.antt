@@ -26,12 +26,12 @@ use Rattle.sm_rotation.specs.declared.starting.Began.{Began}
 use Rattle.sm_rotation.specs.declared.starting.Began.TheVariants as starts
 use Rattle.sm_rotation.specs.Begin.{is_of_rotation, begin_answer, begin_row}
 use Rattle.sm_table.specs.Found.{found}
-use Rattle.sm_judging.specs.declared.judged.Judged.{Judged}
-use Rattle.sm_judging.specs.declared.judged.Judged.TheVariants.{Accept, Refuse}
-use Rattle.sm_judging.specs.Changes.{change_named}
-use Rattle.sm_judging.specs.Members.{token_or_drawn}
-use Rattle.sm_judging.specs.Refusals.{refuse_if, first_refusal, refusal_at, repeat_at}
-use Rattle.sm_judging.specs.Secrets.{with_secret, finished_row}
+use Rattle.sm_judge_common.specs.declared.judged.Judged.{Judged}
+use Rattle.sm_judge_common.specs.declared.judged.Judged.TheVariants.{Accept, Refuse}
+use Rattle.sm_judge_common.specs.Changes.{change_named}
+use Rattle.sm_judge_common.specs.Members.{token_or_drawn}
+use Rattle.sm_judge_common.specs.Refusals.{refuse_if, first_refusal, refusal_at, repeat_at}
+use Rattle.sm_judge_common.specs.Secrets.{with_secret, finished_row}
 use Rattle.sm_judge_rotations.specs.declared.rotate_secret.KeptRules.{KeptRules}
 use Rattle.sm_judge_rotations.specs.declared.rotate_secret.Plan.{Plan}
 use Rattle.sm_judge_rotations.specs.declared.rotate_secret.RotateCall.{RotateCall}

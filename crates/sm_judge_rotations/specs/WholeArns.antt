@@ -6,7 +6,7 @@ use Rattle.sm_model.specs.declared.rows.Rows.{Rows}
 use Rattle.sm_model.specs.declared.rows.SecretRow.{SecretRow}
 use Rattle.sm_model.specs.Versions.{When}
 use Rattle.sm_table.specs.Found.{row_with_arn}
-use Rattle.sm_judging.specs.Changes.{with_row}
+use Rattle.sm_judge_common.specs.Changes.{with_row}
 
 -- the rows with the one that has exactly this ARN changed
 abbrev pub change_with_arn : Rows → List ℕ → When → (SecretRow → SecretRow) → Rows

@@ -2,12 +2,12 @@
 ghost use Rattle.std.specs.Prelude.{◌≡◌, ◌≤◌, IfOk, length};
 ghost use Rattle.sm_base.specs.declared.moment.TheConstants.{LAST_READING};
 ghost use Rattle.sm_base.specs.Drawn.{drawn_token};
-ghost use Rattle.sm_judging.specs.Secrets.{finished_row};
+ghost use Rattle.sm_judge_common.specs.Secrets.{finished_row};
 ghost use Rattle.sm_rotation.specs.Begin.{begin_answer, begin_row};
 ghost use Rattle.sm_rotation.specs.declared.starting.Began.TheVariants.{Ok as Begun};
 ghost use Rattle.sm_judge_rotations.specs.Begun.{begun_on, begun_found, begun_change};
 
-use sm_judging::row_change::finish;
+use sm_judge_common::row_change::finish;
 use sm_model::{Arn, Change, Copied, NoMemory, SecretRow, Token};
 use sm_rotation::{Began, begin, is_due};
 use sm_table::Table;

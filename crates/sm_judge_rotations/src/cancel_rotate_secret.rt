@@ -4,17 +4,17 @@ ghost use Rattle.sm_forms.specs.OfSecret.{of_secret_forms};
 ghost use Rattle.sm_judge_rotations.specs.CancelRotateSecret.{cancelled, job_token, cancel_reply, cancel_on, cancel_judgement};
 
 use sm_base::copy_two;
-use sm_judging::Judged;
-use sm_judging::members::secret_id;
-use sm_judging::row_change::finish;
-use sm_judging::standing::standing;
+use sm_judge_common::Judged;
+use sm_judge_common::members::secret_id;
+use sm_judge_common::row_change::finish;
+use sm_judge_common::standing::standing;
 use sm_model::{Change, Copied, Job, NoMemory, OfSecret, Reply, SecretRow, Token, VersionedSecret};
 use sm_table::Table;
 use sm_versions::When;
 use std::alloc::Global;
 
 /// Judges a CancelRotateSecret.
-#[tactic(auto, using(sm_forms::proofs::OfSecretLemmas::named_id, sm_judging::proofs::JudgedLemmas::judged_of_standing, sm_judging::proofs::JudgedLemmas::refused_unless_standing))]
+#[tactic(auto, using(sm_forms::proofs::OfSecretLemmas::named_id, sm_judge_common::proofs::JudgedLemmas::judged_of_standing, sm_judge_common::proofs::JudgedLemmas::refused_unless_standing))]
 pub fn judge_cancel(
     alloc: Global,
     table: &Table,

@@ -1,12 +1,12 @@
 //! Judging a reported step of a rotation (AWS Secrets Manager User Guide, "Lambda rotation functions").
 ghost use Rattle.std.specs.Prelude.{◌≡◌, ◌≤◌, IfOk, IsTrue};
 ghost use Rattle.sm_base.specs.declared.moment.TheConstants.{LAST_READING};
-ghost use Rattle.sm_judging.specs.Secrets.{finished_row};
+ghost use Rattle.sm_judge_common.specs.Secrets.{finished_row};
 ghost use Rattle.sm_judge_rotations.specs.Reported.{is_at_step, answered, reported_on, reported_change};
 ghost use Rattle.sm_table.specs.Sound.{Sound};
 ghost use Rattle.sm_versions.specs.Kept.{CurrentKept};
 
-use sm_judging::row_change::finish;
+use sm_judge_common::row_change::finish;
 use sm_model::{Answer, Arn, At, Change, Copied, Job, NoMemory, SecretRow};
 use sm_rotation::stepping::is_at;
 use sm_rotation::{Applied, apply};

@@ -3,17 +3,17 @@ ghost use Rattle.std.specs.Prelude.{◌≡◌, ◌≤◌, IfOk, IfSome, IsTrue, 
 ghost use Rattle.std.specs.Option.{option_or};
 ghost use Rattle.sm_base.specs.declared.moment.TheConstants.{LAST_READING};
 ghost use Rattle.sm_forms.specs.RotateSecret.{is_period, rotate_forms};
-ghost use Rattle.sm_judging.specs.Secrets.{finished_row};
+ghost use Rattle.sm_judge_common.specs.Secrets.{finished_row};
 ghost use Rattle.sm_model.specs.Bounds.{fits};
 ghost use Rattle.sm_model.specs.Needed.{token_bytes_if};
 ghost use Rattle.sm_judge_rotations.specs.RotateSecret.{days_of, rules_given, plan_of, token_to_start, rotate_call, days_or, schedule_or, turned_on, dated, with_rotation, turned_on_in, rotated, rotate_accepted, rotate_repeated, started, start_on, wait_on, rotate_on, rotate_judged, rotate_judgement};
 
 use sm_base::copy_two;
 use sm_dates::next_rotation;
-use sm_judging::Judged;
-use sm_judging::members::{secret_id, token_or_drawn};
-use sm_judging::row_change::finish;
-use sm_judging::standing::standing;
+use sm_judge_common::Judged;
+use sm_judge_common::members::{secret_id, token_or_drawn};
+use sm_judge_common::row_change::finish;
+use sm_judge_common::standing::standing;
 use sm_model::{
     Change, Copied, Moment, NoMemory, Reply, RotateSecret, Rotation, Rules, SecretId, SecretRow,
     Text, Token, VersionedSecret, What, Why,
@@ -153,7 +153,7 @@ fn rotate_call(alloc: Global, drawn: &[u8], rotate: &RotateSecret) -> Result<Rot
 // ---- the tests
 
 /// Judges a RotateSecret by the secret that it names.
-#[tactic(auto, using(sm_judging::proofs::JudgedLemmas::judged_of_standing, sm_judging::proofs::JudgedLemmas::refused_unless_standing))]
+#[tactic(auto, using(sm_judge_common::proofs::JudgedLemmas::judged_of_standing, sm_judge_common::proofs::JudgedLemmas::refused_unless_standing))]
 fn judge_call(
     alloc: Global,
     table: &Table,

@@ -32,16 +32,16 @@ use Rattle.sm_table.specs.Sweep.{swept, sweep}
 use Rattle.sm_table.specs.Found.{row_named}
 use Rattle.sm_table.specs.Sound.{Sound}
 use Rattle.sm_table.proofs.SoundLaws.{sweep_sound}
-use Rattle.sm_judging.specs.declared.judged.Judged.{Judged}
-use Rattle.sm_judging.specs.declared.judged.Judged.TheVariants.{Accept, Refuse}
-use Rattle.sm_judging.specs.Changes.{settled, IsChange}
-use Rattle.sm_judging.specs.Judged.{refusal_told, IfAccepted, IfChange}
-use Rattle.sm_judging.specs.Members.{value_of}
-use Rattle.sm_judging.specs.Refusals.{refuse_if, first_refusal, scheduled_refusal}
-use Rattle.sm_judging.specs.Secrets.{unless_scheduled}
-use Rattle.sm_judging.proofs.JudgedLemmas.{unless_scheduled_accepts}
-use Rattle.sm_judging.proofs.ChangeLemmas.{map_settle_push, unless_scheduled_change}
-use Rattle.sm_judging.proofs.RegionLemmas.{new_regions}
+use Rattle.sm_judge_common.specs.declared.judged.Judged.{Judged}
+use Rattle.sm_judge_common.specs.declared.judged.Judged.TheVariants.{Accept, Refuse}
+use Rattle.sm_judge_common.specs.Changes.{settled, IsChange}
+use Rattle.sm_judge_common.specs.Judged.{refusal_told, IfAccepted, IfChange}
+use Rattle.sm_judge_common.specs.Members.{value_of}
+use Rattle.sm_judge_common.specs.Refusals.{refuse_if, first_refusal, scheduled_refusal}
+use Rattle.sm_judge_common.specs.Secrets.{unless_scheduled}
+use Rattle.sm_judge_common.proofs.JudgedLemmas.{unless_scheduled_accepts}
+use Rattle.sm_judge_common.proofs.ChangeLemmas.{map_settle_push, unless_scheduled_change}
+use Rattle.sm_judge_common.proofs.RegionLemmas.{new_regions}
 use Rattle.sm_judge_values.specs.declared.new_value.NewValue.{NewValue}
 use Rattle.sm_judge_values.specs.declared.create_secret.CreateCall.{CreateCall}
 use Rattle.sm_judge_values.specs.NewValue.{is_repeat}

@@ -19,10 +19,10 @@ use Rattle.sm_versions.specs.Labels.{place_all}
 use Rattle.sm_versions.specs.Versions.{version_of, same_value, is_value, same}
 use Rattle.sm_versions.specs.Put.{has_too_many, put_held, put_answer_on, put_answer, put_row}
 use Rattle.sm_versions.proofs.VersionLemmas.{value_of_is}
-use Rattle.sm_judging.specs.declared.judged.Judged.{Judged}
-use Rattle.sm_judging.specs.Judged.{refusal_told, IfAccepted, IfChange}
-use Rattle.sm_judging.specs.Members.{value_of}
-use Rattle.sm_judging.specs.Refusals.{refuse_if, first_refusal}
+use Rattle.sm_judge_common.specs.declared.judged.Judged.{Judged}
+use Rattle.sm_judge_common.specs.Judged.{refusal_told, IfAccepted, IfChange}
+use Rattle.sm_judge_common.specs.Members.{value_of}
+use Rattle.sm_judge_common.specs.Refusals.{refuse_if, first_refusal}
 use Rattle.sm_judge_values.specs.declared.new_value.NewValue.{NewValue}
 use Rattle.sm_judge_values.specs.declared.new_value.Placed.{Placed}
 use Rattle.sm_judge_values.specs.declared.new_value.Placed.TheVariants.{Added, Repeat, Refused}

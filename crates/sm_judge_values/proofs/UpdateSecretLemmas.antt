@@ -21,13 +21,13 @@ use Rattle.sm_versions.proofs.SoundLaws.{put_sound, put_same_secret}
 use Rattle.sm_table.specs.Sweep.{sweep}
 use Rattle.sm_table.specs.Found.{found}
 use Rattle.sm_table.specs.Sound.{Sound}
-use Rattle.sm_judging.specs.declared.judged.Judged.{Judged}
-use Rattle.sm_judging.specs.Changes.{settled, IsChange}
-use Rattle.sm_judging.specs.Judged.{refusal_told, IfAccepted, IfChange}
-use Rattle.sm_judging.specs.Members.{value_of}
-use Rattle.sm_judging.specs.Secrets.{finished_row}
-use Rattle.sm_judging.proofs.JudgedLemmas.{on_secret_refusal, on_secret_repeat}
-use Rattle.sm_judging.proofs.ChangeLemmas.{OnRow, on_secret_change, found_row_sound, found_row_few, found_change, found_change_beside}
+use Rattle.sm_judge_common.specs.declared.judged.Judged.{Judged}
+use Rattle.sm_judge_common.specs.Changes.{settled, IsChange}
+use Rattle.sm_judge_common.specs.Judged.{refusal_told, IfAccepted, IfChange}
+use Rattle.sm_judge_common.specs.Members.{value_of}
+use Rattle.sm_judge_common.specs.Secrets.{finished_row}
+use Rattle.sm_judge_common.proofs.JudgedLemmas.{on_secret_refusal, on_secret_repeat}
+use Rattle.sm_judge_common.proofs.ChangeLemmas.{OnRow, on_secret_change, found_row_sound, found_row_few, found_change, found_change_beside}
 use Rattle.sm_judge_values.specs.declared.new_value.NewValue.{NewValue}
 use Rattle.sm_judge_values.specs.declared.update_secret.UpdateCall.{UpdateCall}
 use Rattle.sm_judge_values.specs.NewValue.{token_of, judged_by, is_repeat}

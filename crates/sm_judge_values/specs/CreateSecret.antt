@@ -23,11 +23,11 @@ use Rattle.sm_model.specs.Labels.{aws_current}
 use Rattle.sm_versions.specs.Versions.{same}
 use Rattle.sm_table.specs.Sweep.{swept}
 use Rattle.sm_table.specs.Found.{row_named}
-use Rattle.sm_judging.specs.declared.judged.Judged.{Judged}
-use Rattle.sm_judging.specs.declared.judged.Judged.TheVariants.{Accept, Refuse}
-use Rattle.sm_judging.specs.Refusals.{refuse_if, first_refusal, scheduled_refusal}
-use Rattle.sm_judging.specs.Regions.{with_regions, replicas_shown}
-use Rattle.sm_judging.specs.Secrets.{unless_scheduled}
+use Rattle.sm_judge_common.specs.declared.judged.Judged.{Judged}
+use Rattle.sm_judge_common.specs.declared.judged.Judged.TheVariants.{Accept, Refuse}
+use Rattle.sm_judge_common.specs.Refusals.{refuse_if, first_refusal, scheduled_refusal}
+use Rattle.sm_judge_common.specs.Regions.{with_regions, replicas_shown}
+use Rattle.sm_judge_common.specs.Secrets.{unless_scheduled}
 use Rattle.sm_judge_values.specs.declared.new_value.NewValue.{NewValue}
 use Rattle.sm_judge_values.specs.declared.create_secret.Names.{Names}
 use Rattle.sm_judge_values.specs.declared.create_secret.Details.{Details}

@@ -16,10 +16,10 @@ use Rattle.sm_versions.specs.declared.values.PutDone.TheVariants as puts
 use Rattle.sm_versions.specs.Labels.{place_all}
 use Rattle.sm_versions.specs.Versions.{version_of, same_value, same}
 use Rattle.sm_versions.specs.Put.{has_too_many, put_answer, put_row}
-use Rattle.sm_judging.specs.declared.judged.Judged.{Judged}
-use Rattle.sm_judging.specs.declared.judged.Judged.TheVariants.{Refuse}
-use Rattle.sm_judging.specs.Members.{token_or_drawn, value_of}
-use Rattle.sm_judging.specs.Refusals.{refuse_if, first_refusal}
+use Rattle.sm_judge_common.specs.declared.judged.Judged.{Judged}
+use Rattle.sm_judge_common.specs.declared.judged.Judged.TheVariants.{Refuse}
+use Rattle.sm_judge_common.specs.Members.{token_or_drawn, value_of}
+use Rattle.sm_judge_common.specs.Refusals.{refuse_if, first_refusal}
 use Rattle.sm_judge_values.specs.declared.new_value.NewValue.{NewValue}
 use Rattle.sm_judge_values.specs.declared.new_value.Placed.{Placed}
 use Rattle.sm_judge_values.specs.declared.new_value.Placed.TheVariants.{Added, Repeat, Refused}

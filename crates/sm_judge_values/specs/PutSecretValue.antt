@@ -16,12 +16,12 @@ use Rattle.sm_model.specs.Versions.{When}
 use Rattle.sm_versions.specs.Versions.{same}
 use Rattle.sm_versions.specs.Put.{put_row}
 use Rattle.sm_table.specs.Found.{found}
-use Rattle.sm_judging.specs.declared.judged.Judged.{Judged}
-use Rattle.sm_judging.specs.declared.judged.Judged.TheVariants.{Accept, Refuse}
-use Rattle.sm_judging.specs.Changes.{change_named}
-use Rattle.sm_judging.specs.LabelsShown.{labels_shown}
-use Rattle.sm_judging.specs.Refusals.{refusal_at, repeat_at}
-use Rattle.sm_judging.specs.Secrets.{with_secret, finished_row}
+use Rattle.sm_judge_common.specs.declared.judged.Judged.{Judged}
+use Rattle.sm_judge_common.specs.declared.judged.Judged.TheVariants.{Accept, Refuse}
+use Rattle.sm_judge_common.specs.Changes.{change_named}
+use Rattle.sm_judge_common.specs.LabelsShown.{labels_shown}
+use Rattle.sm_judge_common.specs.Refusals.{refusal_at, repeat_at}
+use Rattle.sm_judge_common.specs.Secrets.{with_secret, finished_row}
 use Rattle.sm_judge_values.specs.declared.new_value.NewValue.{NewValue}
 use Rattle.sm_judge_values.specs.declared.put_secret_value.PutCall.{PutCall}
 use Rattle.sm_judge_values.specs.NewValue.{new_value, placed, judged_by, value_refusal}

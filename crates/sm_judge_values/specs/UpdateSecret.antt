@@ -13,11 +13,11 @@ use Rattle.sm_model.specs.Labels.{aws_current}
 use Rattle.sm_model.specs.Versions.{When}
 use Rattle.sm_versions.specs.Put.{put_row}
 use Rattle.sm_table.specs.Found.{found}
-use Rattle.sm_judging.specs.declared.judged.Judged.{Judged}
-use Rattle.sm_judging.specs.declared.judged.Judged.TheVariants.{Accept}
-use Rattle.sm_judging.specs.Changes.{change_named}
-use Rattle.sm_judging.specs.Refusals.{refusal_at, repeat_at}
-use Rattle.sm_judging.specs.Secrets.{with_secret, finished_row}
+use Rattle.sm_judge_common.specs.declared.judged.Judged.{Judged}
+use Rattle.sm_judge_common.specs.declared.judged.Judged.TheVariants.{Accept}
+use Rattle.sm_judge_common.specs.Changes.{change_named}
+use Rattle.sm_judge_common.specs.Refusals.{refusal_at, repeat_at}
+use Rattle.sm_judge_common.specs.Secrets.{with_secret, finished_row}
 use Rattle.sm_judge_values.specs.declared.new_value.NewValue.{NewValue}
 use Rattle.sm_judge_values.specs.declared.new_value.Placed.{Placed}
 use Rattle.sm_judge_values.specs.declared.new_value.Placed.TheVariants.{Added}

@@ -2,14 +2,14 @@
 ghost use Rattle.std.specs.Prelude.{◌≡◌, ◌≤◌, [], IfOk, None, Some, length, take, unwrap_or};
 ghost use Rattle.sm_base.specs.Drawn.{drawn_arn};
 ghost use Rattle.sm_forms.specs.CreateSecret.{create_forms};
-ghost use Rattle.sm_judging.specs.Regions.{with_regions};
-ghost use Rattle.sm_judging.specs.Secrets.{unless_scheduled};
+ghost use Rattle.sm_judge_common.specs.Regions.{with_regions};
+ghost use Rattle.sm_judge_common.specs.Secrets.{unless_scheduled};
 ghost use Rattle.sm_judge_values.specs.CreateSecret.{create_needs, first_of, names_of, details_of, create_call, first_version, no_rotation, empty_row, created_row, created_secret, with_first, has_too_many_tags, is_full, create_with_room, create_new, create_held, create_judged, create_judgement};
 
 use crate::new_value::{NewValue, is_repeat, new_value, token_of};
 use sm_base::limits::{NO_SERIAL, SECRETS_LIMIT, TAGS_LIMIT};
-use sm_judging::Judged;
-use sm_judging::regions::{replicas_shown, with_regions};
+use sm_judge_common::Judged;
+use sm_judge_common::regions::{replicas_shown, with_regions};
 use sm_model::{
     Arn, Change, Copied, CreateSecret, CreatedSecret, List, Moment, Name, NoMemory, Pair, Reply,
     Rotation, SecretRow, SharedList, Tag, Text, Token, VersionRow, What, Why,

@@ -5,7 +5,7 @@ ghost use Rattle.sm_base.specs.Spelling.{is_token};
 ghost use Rattle.sm_model.specs.Needed.{token_bytes_if};
 ghost use Rattle.sm_judge_values.specs.NewValue.{new_value, token_of, versioned_secret, placed, is_repeat};
 
-use sm_judging::members::{token_or_drawn, value_of};
+use sm_judge_common::members::{token_or_drawn, value_of};
 use sm_model::{
     Bytes, Copied, Label, NoMemory, SecretRow, Text, Token, Value, VersionedSecret, What, Why,
 };

@@ -3,17 +3,17 @@ ghost use Rattle.std.specs.Prelude.{◌≡◌, IfOk, IfSome, IsTrue, None, Some,
 ghost use Rattle.std.specs.List.{list_all};
 ghost use Rattle.sm_base.specs.Spelling.{is_label};
 ghost use Rattle.sm_forms.specs.PutSecretValue.{put_forms};
-ghost use Rattle.sm_judging.specs.Secrets.{finished_row};
+ghost use Rattle.sm_judge_common.specs.Secrets.{finished_row};
 ghost use Rattle.sm_model.specs.Needed.{token_bytes};
 ghost use Rattle.sm_judge_values.specs.PutSecretValue.{labels_asked, labels_placed, put_value, put_call, put_reply, put_accepted, put_repeated, put_on, put_judged, put_judgement};
 ghost use Rattle.sm_model.specs.Labels.{holder, aws_current};
 
 use crate::new_value::{NewValue, Placed, new_value, place};
-use sm_judging::Judged;
-use sm_judging::labels_shown::labels_shown;
-use sm_judging::members::{labels_of, secret_id};
-use sm_judging::row_change::finish;
-use sm_judging::standing::standing;
+use sm_judge_common::Judged;
+use sm_judge_common::labels_shown::labels_shown;
+use sm_judge_common::members::{labels_of, secret_id};
+use sm_judge_common::row_change::finish;
+use sm_judge_common::standing::standing;
 use sm_model::{
     Change, Copied, Label, List, NoMemory, PutSecretValue, PutValue, Reply, SecretId, SecretRow,
     Text, Token,
@@ -105,7 +105,7 @@ fn only_current(alloc: Global) -> Result<List<Label>, NoMemory>
 // ---- the tests
 
 /// Judges a PutSecretValue by the secret that it names.
-#[tactic(auto, using(sm_judging::proofs::JudgedLemmas::judged_of_standing, sm_judging::proofs::JudgedLemmas::refused_unless_standing))]
+#[tactic(auto, using(sm_judge_common::proofs::JudgedLemmas::judged_of_standing, sm_judge_common::proofs::JudgedLemmas::refused_unless_standing))]
 fn judge_call(alloc: Global, table: &Table, when: When, call: &PutCall) -> Result<Judged, NoMemory>
     ensures { IfOk result (λ judged. judged ≡ put_judged table.now when call.now) }
 {

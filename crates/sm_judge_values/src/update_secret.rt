@@ -1,16 +1,16 @@
 //! Judging UpdateSecret (AWS Secrets Manager API Reference, UpdateSecret).
 ghost use Rattle.std.specs.Prelude.{◌≡◌, ◌||◌, ◌≤◌, ◌∷◌, [], IfOk, None, is_some, length};
 ghost use Rattle.sm_forms.specs.UpdateSecret.{update_forms};
-ghost use Rattle.sm_judging.specs.Secrets.{finished_row};
+ghost use Rattle.sm_judge_common.specs.Secrets.{finished_row};
 ghost use Rattle.sm_model.specs.Needed.{token_bytes_if};
 ghost use Rattle.sm_judge_values.specs.NewValue.{new_value, token_of};
 ghost use Rattle.sm_judge_values.specs.UpdateSecret.{update_call, given_or, redescribed, update_placed, update_accepted, update_repeated, update_on, update_judged, update_judgement};
 
 use crate::new_value::{NewValue, Placed, new_value, place, token_of, versioned_secret};
-use sm_judging::Judged;
-use sm_judging::members::secret_id;
-use sm_judging::row_change::finish;
-use sm_judging::standing::standing;
+use sm_judge_common::Judged;
+use sm_judge_common::members::secret_id;
+use sm_judge_common::row_change::finish;
+use sm_judge_common::standing::standing;
 use sm_model::{Change, Copied, NoMemory, Reply, SecretId, SecretRow, Text, UpdateSecret};
 use sm_table::Table;
 use sm_versions::When;
@@ -70,7 +70,7 @@ fn update_call(alloc: Global, drawn: &[u8], update: &UpdateSecret) -> Result<Upd
 // ---- the tests
 
 /// Judges an UpdateSecret by the secret that it names.
-#[tactic(auto, using(sm_judging::proofs::JudgedLemmas::judged_of_standing, sm_judging::proofs::JudgedLemmas::refused_unless_standing))]
+#[tactic(auto, using(sm_judge_common::proofs::JudgedLemmas::judged_of_standing, sm_judge_common::proofs::JudgedLemmas::refused_unless_standing))]
 fn judge_call(
     alloc: Global,
     table: &Table,

@@ -1,5 +1,5 @@
 -- A turn of an account that nobody else holds.
-use Rattle.std.proofs.Common.{ℕ, ◌≤◌, Option, None, subst, inl, inr, arith}
+use Rattle.std.proofs.Common.{ℕ, ◌≤◌, Option, None, ap, subst, inl, inr, arith}
 use Rattle.std.specs.Prelude.{◌⊎◌}
 use Rattle.sm_base.specs.Faults.{Rose}
 use Rattle.sm_base.proofs.FaultCounts.{rose_within}
@@ -15,6 +15,7 @@ use Rattle.sm_account.specs.Efforts.{Due, Effort, Over, Undue}
 use Rattle.sm_account.specs.Report.{ReportsAs, reported_by}
 use Rattle.sm_account.specs.StartDue.{StartsAs, started_by}
 use Rattle.sm_account.specs.States.{Base}
+use Rattle.sm_account.specs.History.{entries_in}
 use Rattle.sm_account.specs.SeatTraces.{History, SeatTrace, NoGap}
 use Rattle.sm_pool.specs.declared.done.Done.{Done}
 use Rattle.sm_pool.specs.Alone.{IsStale, OnDisk}
@@ -77,7 +78,7 @@ module _ (seat : ℕ) (from to : History) where
   course_stale (Starts hold (Begins drawn next started)) late seat_trace is = start_stale started is
   course_stale (Works hold work Unasked) late seat_trace is = is
   course_stale (Works hold work (Asked answer next reported)) late seat_trace is =
-      late (report_stale work reported is) seat_trace.2.0
+      late (report_stale work reported is) (ap entries_in seat_trace.2.0)
 
   pub never_stale : (replies : Replies) (base : Base) (passing : Passing) (done : Done)
       → TurnDone replies base NoGap seat passing from to done → IsStale done → ⊥

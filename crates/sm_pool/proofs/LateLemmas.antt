@@ -18,10 +18,10 @@ use Rattle.sm_account.specs.declared.report.Reported.{Reported}
 use Rattle.sm_account.specs.declared.report.Reported.TheVariants as reports
 use Rattle.sm_account.specs.Claims.{ready_at}
 use Rattle.sm_account.specs.Efforts.{Undue, effort_within}
-use Rattle.sm_account.specs.History.{by_seat}
+use Rattle.sm_account.specs.History.{by_seat, entries_in}
 use Rattle.sm_account.specs.Limits.{passed_at}
 use Rattle.sm_account.specs.Report.{ReportsAs, report_at, reported_entry}
-use Rattle.sm_account.specs.States.{Base, State, state_at}
+use Rattle.sm_account.specs.States.{Base, State, state_after, state_at}
 use Rattle.sm_account.proofs.StateLaws.{state_claimed}
 use Rattle.sm_account.specs.SeatTraces.{History}
 use Rattle.sm_pool.specs.Holds.{Hold, ReportsIn}
@@ -50,11 +50,12 @@ module _ (base : Base) (seat : ℕ) (before : History) (moment : Moment) (work :
       else Undue (step_of (found_arn s.rows stands work.arn)))) fresh is')
 
   pub late_apart : (answer : Answer) (hold : Hold) (reported : Reported) → ReportsIn base hold work answer reported
-      → IsLate reported → hold.before ≡ before ++ by_seat seat (Claim work.arn work.at moment ∷ []) → ⊥
+      → IsLate reported
+      → entries_in hold.before ≡ entries_in (before ++ by_seat seat (Claim work.arn work.at moment ∷ [])) → ⊥
   late_apart answer hold reports.Moved is late same = late
   late_apart answer hold (reports.Stale at) is late same =
       not_late (state_at base hold.before) hold.now answer at
-      (ap (state_at base) same ∙ state_claimed base before seat work.arn work.at moment) is.0
+      (ap (state_after base) same ∙ state_claimed base before seat work.arn work.at moment) is.0
   late_apart answer hold (reports.Limit limit) is late same = late
   late_apart answer hold reports.DiskFault is late same = late
   late_apart answer hold reports.Memory is late same = late

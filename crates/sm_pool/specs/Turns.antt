@@ -11,7 +11,7 @@ use Rattle.sm_rotator.specs.declared.told.Told.{Told}
 use Rattle.sm_account.specs.declared.report.Reported.{Reported}
 use Rattle.sm_account.specs.declared.report.Reported.TheVariants as reports
 use Rattle.sm_account.specs.declared.start_due.StartedDue.{StartedDue}
-use Rattle.sm_account.specs.History.{by_seat}
+use Rattle.sm_account.specs.History.{by_seat, entries_in}
 use Rattle.sm_account.specs.States.{Base}
 use Rattle.sm_pool.specs.declared.done.Done.{Done}
 use Rattle.sm_pool.specs.declared.done.Done.TheVariants as ends
@@ -231,10 +231,11 @@ IsLate (reports.Limit limit) = ⊥
 IsLate reports.DiskFault = ⊥
 IsLate reports.Memory = ⊥
 
--- a verdict comes too late only where others' marks stand between the hold in which its step was claimed and its own
+-- A verdict comes too late only where the history has more entries at its hold than behind the hold in which its step
+-- was claimed. What lies between the two is the gap's, so it is an entry of another seat.
 abbrev pub LateBehind : History → WorkCourse → Type 0
 LateBehind claimed Unasked = ⊤
-LateBehind claimed (Asked answer hold reported) = IsLate reported → hold.before ≡ claimed → ⊥
+LateBehind claimed (Asked answer hold reported) = IsLate reported → entries_in hold.before ≡ entries_in claimed → ⊥
 
 abbrev pub LateApart : ℕ → Course → Type 0
 LateApart seat (Wants hold) = ⊤

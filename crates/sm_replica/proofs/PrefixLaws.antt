@@ -5,16 +5,16 @@ use Rattle.std.proofs.lemmas.List.{take_all}
 use Rattle.sm_base.specs.declared.moment.Moment.{Moment}
 use Rattle.sm_core.specs.Effects.{effect}
 use Rattle.sm_core.specs.Histories.{replay, last_moment, Legal, InTime}
-use Rattle.sm_frames.specs.declared.frame.Frame.{Frame as frames}
-use Rattle.sm_frames.specs.declared.frame.Frame.TheVariants as frame
-use Rattle.sm_frames.specs.declared.frame.TheConstants.{FRAME_ENTRIES}
+use Rattle.sm_replication.specs.declared.frame.Frame.{Frame as frames}
+use Rattle.sm_replication.specs.declared.frame.Frame.TheVariants as frame
+use Rattle.sm_replication.specs.declared.frame.TheConstants.{FRAME_ENTRIES}
 use Rattle.sm_model.specs.declared.entry.Entry.{Entry}
 use Rattle.sm_model.specs.declared.rows.Rows.{Rows}
 use Rattle.sm_record.specs.declared.base.Base.{Base}
-use Rattle.sm_opening.specs.Following.{origin, after_all, MayCome}
-use Rattle.sm_opening.proofs.FollowLemmas.{nothing_sound, after_joined, after_rows, after_last, after_count, come_front}
-use Rattle.sm_opening.proofs.SoundLaws.{come_sound}
-use Rattle.sm_sound.specs.Bases.{IsSound}
+use Rattle.sm_recovery.specs.Following.{origin, after_all, MayCome}
+use Rattle.sm_recovery.proofs.FollowLemmas.{nothing_sound, after_joined, after_rows, after_last, after_count, come_front}
+use Rattle.sm_recovery.proofs.SoundLaws.{come_sound}
+use Rattle.sm_base_check.specs.Bases.{IsSound}
 use Rattle.sm_replica.specs.declared.replica.Taken.{Taken}
 use Rattle.sm_replica.specs.declared.replica.Taken.TheVariants.{At, Ahead, Broken, Promoted, Memory}
 use Rattle.sm_replica.specs.Histories.{IsHistory, point, IsAt, AreFrom, IsOf, Step, Says, held_after, frames_in}

@@ -3,10 +3,10 @@ use Rattle.std.proofs.Common.{◌≡◌, ℕ, zero, suc, ◌+◌, ◌-◌, ◌<�
 use Rattle.std.proofs.lemmas.Bool.{cases_lt}
 use Rattle.std.proofs.lemmas.List.{take_all, take_more}
 use Rattle.std.proofs.lemmas.Option.{slice_get_within, get_or_from_slice_get}
-use Rattle.sm_frames.specs.declared.frame.Frame.{Frame}
-use Rattle.sm_frames.specs.declared.frame.Frame.TheVariants.{Rows}
-use Rattle.sm_frames.specs.declared.frame.TheConstants.{FRAME_ENTRIES}
-use Rattle.sm_frames.specs.Spelled.{AreSpelled}
+use Rattle.sm_replication.specs.declared.frame.Frame.{Frame}
+use Rattle.sm_replication.specs.declared.frame.Frame.TheVariants.{Rows}
+use Rattle.sm_replication.specs.declared.frame.TheConstants.{FRAME_ENTRIES}
+use Rattle.sm_replication.specs.Spelled.{AreSpelled}
 use Rattle.sm_model.specs.declared.entry.Entry.{Entry}
 use Rattle.sm_record.specs.declared.base.Base.{Base}
 use Rattle.sm_record.specs.Snapshots.{HasSnapshot}
@@ -16,7 +16,7 @@ use Rattle.sm_rotator.specs.declared.rotator.Rotator.{Ghosts as RotatorGhosts}
 use Rattle.sm_account.specs.declared.account.Account.{Account}
 use Rattle.sm_disk.specs.declared.disk.Disk.{Ghosts as DiskGhosts}
 use Rattle.sm_store.specs.Held.{AreEntries, edition_of}
-use Rattle.sm_sound.specs.Bases.{IsSound}
+use Rattle.sm_base_check.specs.Bases.{IsSound}
 use Rattle.sm_replica.specs.Shipping.{entries_at, next_frame, end_of, Ships}
 use Rattle.sm_replica.proofs.PrefixLaws.{Next, rows_next, entries_next, next_is}
 use Rattle.sm_replica.specs.Shipped.{entries_of, IsShippable, AreShippable}

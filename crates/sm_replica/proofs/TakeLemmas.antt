@@ -3,8 +3,8 @@ use Rattle.std.proofs.Common.{◌≡◌, ℕ, zero, suc, ◌-◌, List, [], ◌�
 use Rattle.sm_core.specs.Histories.{InTime}
 use Rattle.sm_model.specs.declared.entry.Entry.{Entry}
 use Rattle.sm_record.specs.declared.base.Base.{Base}
-use Rattle.sm_opening.proofs.SoundLaws.{come_sound}
-use Rattle.sm_sound.specs.Bases.{IsSound}
+use Rattle.sm_recovery.proofs.SoundLaws.{come_sound}
+use Rattle.sm_base_check.specs.Bases.{IsSound}
 use Rattle.sm_replica.specs.declared.replica.Taken.{Taken}
 use Rattle.sm_replica.specs.declared.replica.Taken.TheVariants.{At, Ahead, Broken, Promoted, Memory}
 use Rattle.sm_replica.specs.Taking.{Follows, TakesEntries, Stands, TakesRows}

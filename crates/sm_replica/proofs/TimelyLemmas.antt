@@ -3,9 +3,9 @@ use Rattle.std.proofs.Common.{◌≤◌, nat_le, List, [], ◌∷◌}
 use Rattle.std.proofs.lemmas.Bool.{and_parts, leb-true}
 use Rattle.sm_base.specs.declared.moment.TheConstants.{LAST_READING}
 use Rattle.sm_core.specs.Histories.{InTime}
-use Rattle.sm_frames.specs.declared.frame.Frame.{Frame}
-use Rattle.sm_frames.specs.declared.frame.Frame.TheVariants.{Entries, Rows}
-use Rattle.sm_frames.specs.Spelled.{AreSpelled, HasParts}
+use Rattle.sm_replication.specs.declared.frame.Frame.{Frame}
+use Rattle.sm_replication.specs.declared.frame.Frame.TheVariants.{Entries, Rows}
+use Rattle.sm_replication.specs.Spelled.{AreSpelled, HasParts}
 use Rattle.sm_model.specs.declared.entry.Entry.{Entry}
 use Rattle.sm_record.specs.Editions.{mark}
 use Rattle.sm_record.specs.Entries.{entry, head, head_of}

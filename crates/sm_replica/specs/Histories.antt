@@ -1,11 +1,11 @@
 -- A primary's history, what stands at its places, and what frames tell of it.
 use Rattle.std.specs.Prelude.{⊤, ◌≡◌, ℕ, ◌+◌, ◌≤◌, List, [], ◌∷◌, length, take, drop}
 use Rattle.sm_core.specs.Histories.{InTime}
-use Rattle.sm_frames.specs.declared.frame.Frame.{Frame}
-use Rattle.sm_frames.specs.declared.frame.Frame.TheVariants as frame
+use Rattle.sm_replication.specs.declared.frame.Frame.{Frame}
+use Rattle.sm_replication.specs.declared.frame.Frame.TheVariants as frame
 use Rattle.sm_model.specs.declared.entry.Entry.{Entry}
 use Rattle.sm_record.specs.declared.base.Base.{Base}
-use Rattle.sm_opening.specs.Following.{origin, after_all, MayCome}
+use Rattle.sm_recovery.specs.Following.{origin, after_all, MayCome}
 use Rattle.sm_replica.specs.declared.replica.Taken.{Taken}
 use Rattle.sm_replica.specs.declared.replica.Taken.TheVariants.{At, Ahead, Broken, Promoted, Memory}
 use Rattle.sm_replica.specs.Taking.{TakesFrame}

@@ -1,6 +1,6 @@
 -- A replica is a prefix: what holds of a replica that takes a primary's frames.
 use Rattle.std.specs.Prelude.{ℕ, ◌+◌, ◌≤◌, List, length}
-use Rattle.sm_frames.specs.declared.frame.Frame.{Frame}
+use Rattle.sm_replication.specs.declared.frame.Frame.{Frame}
 use Rattle.sm_model.specs.declared.entry.Entry.{Entry}
 use Rattle.sm_record.specs.declared.base.Base.{Base}
 use Rattle.sm_replica.specs.Histories.{IsHistory, IsAt, AreFrom, IsOf, Step, TakesAll, EachOf, Climbs, held_after, frames_in, HasMemory}

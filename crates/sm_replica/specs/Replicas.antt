@@ -1,8 +1,8 @@
 -- What a replica holds.
 use Rattle.std.specs.Prelude.{⊤, ℕ, Bool, List}
 use Rattle.sm_core.specs.Histories.{InTime}
-use Rattle.sm_frames.specs.declared.frame.Frame.{Frame}
-use Rattle.sm_frames.specs.declared.frame.Frame.TheVariants.{Entries, Rows}
+use Rattle.sm_replication.specs.declared.frame.Frame.{Frame}
+use Rattle.sm_replication.specs.declared.frame.Frame.TheVariants.{Entries, Rows}
 use Rattle.sm_record.specs.declared.base.Base.{Base}
 
 -- The region that it stands for; the rows, the last moment and the number of the entries that it followed, which is its

@@ -3,14 +3,14 @@ use Rattle.std.specs.Prelude.{⊤, ◌∷◌, [], List}
 use Rattle.sm_account.specs.declared.account.Account.{Account}
 use Rattle.sm_account.specs.Accounts.{all_of, taken}
 use Rattle.sm_disk.specs.declared.disk.Disk.{Ghosts as DiskGhosts}
-use Rattle.sm_frames.specs.declared.frame.Frame.{Frame}
-use Rattle.sm_frames.specs.declared.frame.Frame.TheVariants as frame
-use Rattle.sm_frames.specs.Spelled.{HasParts}
+use Rattle.sm_replication.specs.declared.frame.Frame.{Frame}
+use Rattle.sm_replication.specs.declared.frame.Frame.TheVariants as frame
+use Rattle.sm_replication.specs.Spelled.{HasParts}
 use Rattle.sm_model.specs.declared.entry.Entry.{Entry}
-use Rattle.sm_opening.specs.Lawful.{base_under}
+use Rattle.sm_recovery.specs.Lawful.{base_under}
 use Rattle.sm_record.specs.declared.base.Base.{Base}
 use Rattle.sm_rotator.specs.declared.rotator.Rotator.{Ghosts as RotatorGhosts}
-use Rattle.sm_sound.specs.Bases.{IsSound}
+use Rattle.sm_base_check.specs.Bases.{IsSound}
 
 module _ {D R : Type 0} {G : DiskGhosts D} {V : RotatorGhosts R} where
   -- what an account's entries are counted from, and those that it has

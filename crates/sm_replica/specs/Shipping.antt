@@ -1,8 +1,8 @@
 -- The frames that bring a replica from a position to the end of an account.
 use Rattle.std.specs.Prelude.{◌≡◌, ℕ, ◌+◌, ◌-◌, nat_lt, if◌then◌else◌, List, [], ◌∷◌, length, take, drop, Option, Some, None}
-use Rattle.sm_frames.specs.declared.frame.Frame.{Frame}
-use Rattle.sm_frames.specs.declared.frame.Frame.TheVariants.{Entries, Rows}
-use Rattle.sm_frames.specs.declared.frame.TheConstants.{FRAME_ENTRIES}
+use Rattle.sm_replication.specs.declared.frame.Frame.{Frame}
+use Rattle.sm_replication.specs.declared.frame.Frame.TheVariants.{Entries, Rows}
+use Rattle.sm_replication.specs.declared.frame.TheConstants.{FRAME_ENTRIES}
 use Rattle.sm_model.specs.declared.entry.Entry.{Entry}
 use Rattle.sm_record.specs.declared.base.Base.{Base}
 

@@ -1,11 +1,11 @@
 -- What a replica makes of a frame.
 use Rattle.std.specs.Prelude.{◌≡◌, ◌⊎◌, ℕ, ◌+◌, ◌-◌, ◌<◌, ◌≤◌, Bool, true, false, List, drop}
-use Rattle.sm_frames.specs.declared.frame.Frame.{Frame}
-use Rattle.sm_frames.specs.declared.frame.Frame.TheVariants as frame
+use Rattle.sm_replication.specs.declared.frame.Frame.{Frame}
+use Rattle.sm_replication.specs.declared.frame.Frame.TheVariants as frame
 use Rattle.sm_model.specs.declared.entry.Entry.{Entry}
 use Rattle.sm_record.specs.declared.base.Base.{Base}
-use Rattle.sm_opening.specs.Following.{after_all, MayCome, StopsAfter}
-use Rattle.sm_sound.specs.Bases.{IsSound}
+use Rattle.sm_recovery.specs.Following.{after_all, MayCome, StopsAfter}
+use Rattle.sm_base_check.specs.Bases.{IsSound}
 use Rattle.sm_replica.specs.declared.replica.Taken.{Taken}
 use Rattle.sm_replica.specs.declared.replica.Taken.TheVariants.{At, Ahead, Broken, Promoted, Memory}
 use Rattle.sm_replica.specs.Replicas.{Replica}

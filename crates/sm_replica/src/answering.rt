@@ -7,7 +7,7 @@ ghost use Rattle.sm_base.specs.declared.moment.TheConstants.{LAST_READING};
 ghost use Rattle.sm_access.specs.Admission.{admission};
 ghost use Rattle.sm_core.specs.Judging.{judgement_for};
 ghost use Rattle.sm_forms.specs.Forms.{forms_of};
-ghost use Rattle.sm_judging.specs.Judged.{judged_told, IfAccepted};
+ghost use Rattle.sm_judge_common.specs.Judged.{judged_told, IfAccepted};
 ghost use Rattle.sm_table.specs.Found.{found};
 ghost use Rattle.sm_table.specs.Sound.{Sound};
 ghost use Rattle.sm_versions.specs.Prune.{pruning};
@@ -15,8 +15,8 @@ ghost use Rattle.sm_replica.specs.Answering.{read_by, is_in, is_shown, in_region
 
 use sm_base::text::same_text;
 use sm_core::{Admitted, admit, forms, judge};
-use sm_judging::Judged;
-use sm_judging::members::secret_id;
+use sm_judge_common::Judged;
+use sm_judge_common::members::secret_id;
 use sm_model::{Moment, NoMemory, Person, Request, SecretId, SecretRow, Text, Why};
 use sm_table::Table;
 use sm_versions::When;

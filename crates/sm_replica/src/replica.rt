@@ -2,9 +2,9 @@
 ghost use Rattle.std.specs.Prelude.{◌≡◌, ◌≤◌, false, None, IfOk};
 ghost use Rattle.sm_base.specs.Outcomes.{OrMemory};
 ghost use Rattle.sm_base.specs.declared.moment.TheConstants.{LAST_READING};
-ghost use Rattle.sm_judging.specs.Judged.{judged_told, IfAccepted};
-ghost use Rattle.sm_opening.specs.Following.{origin};
-ghost use Rattle.sm_sound.specs.Bases.{IsSound};
+ghost use Rattle.sm_judge_common.specs.Judged.{judged_told, IfAccepted};
+ghost use Rattle.sm_recovery.specs.Following.{origin};
+ghost use Rattle.sm_base_check.specs.Bases.{IsSound};
 ghost use Rattle.sm_table.specs.Sound.{Sound};
 ghost use Rattle.sm_replica.specs.Answering.{answer};
 ghost use Rattle.sm_replica.specs.Promoting.{Promotes};
@@ -13,11 +13,11 @@ ghost use Rattle.sm_replica.specs.Taking.{Takes};
 
 use crate::answering::{answer_request, shows};
 use crate::taking::{take_entries, take_rows};
-use sm_frames::Frame;
-use sm_judging::Judged;
+use sm_judge_common::Judged;
 use sm_model::{Moment, NoMemory, Person, Request, SecretId, Text};
-use sm_opening::ReplayState;
 use sm_record::Base;
+use sm_recovery::ReplayState;
+use sm_replication::Frame;
 use sm_table::Table;
 use std::alloc::Global;
 use std::marker::Model;
@@ -56,7 +56,7 @@ pub struct Replica {
 
 impl Model for Replica {
     ghost use Rattle.sm_replica.specs.Replicas.{Replica};
-    ghost use Rattle.sm_sound.specs.Bases.{IsSound};
+    ghost use Rattle.sm_base_check.specs.Bases.{IsSound};
 
     ghost Value = { Replica };
 
@@ -67,7 +67,7 @@ impl Model for Replica {
 
 impl Replica {
     /// A replica of this region that followed no entries. It takes no memory.
-    #[tactic(auto, using(sm_opening::proofs::FollowLemmas::nothing_sound))]
+    #[tactic(auto, using(sm_recovery::proofs::FollowLemmas::nothing_sound))]
     pub fn new(alloc: Global, region: Text) -> Replica
         ensures { result ≡ record { region = region; base = origin; promoted = false } }
     {

@@ -1,6 +1,6 @@
 //! The frames of an account.
 ghost use Rattle.std.specs.Prelude.{◌≡◌, ◌+◌, ◌^◌, ◌<◌, IfOk, IfSome, length, take, drop};
-ghost use Rattle.sm_frames.specs.declared.frame.TheConstants as limits;
+ghost use Rattle.sm_replication.specs.declared.frame.TheConstants as limits;
 ghost use Rattle.sm_replica.specs.Shipping.{entries_at, next_frame, end_of, Ships};
 ghost use Rattle.sm_replica.specs.Shipped.{base_of, entries_of, IsShippable, AreShippable};
 
@@ -8,9 +8,9 @@ use sm_account::Account;
 use sm_base::Copied;
 use sm_disk::Disk;
 use sm_encoded_size::note_spelled;
-use sm_frames::{FRAME_ENTRIES, Frame};
 use sm_model::{Entry, List, NoMemory};
 use sm_record::Base;
+use sm_replication::{FRAME_ENTRIES, Frame};
 use sm_rotator::Rotator;
 use std::alloc::Global;
 
@@ -26,7 +26,7 @@ fn copy_of(alloc: Global, base: &Base) -> Result<Base, NoMemory>
 }
 
 /// How many entries an account has, those before its base among them: where its history ends.
-#[tactic(auto, using(sm_opening::proofs::FollowLemmas::after_count))]
+#[tactic(auto, using(sm_recovery::proofs::FollowLemmas::after_count))]
 fn end_of_account<D: Disk, R: Rotator>(account: &Account<D, R>) -> u64
     ensures { result ≡ (base_of account.now).entries + length (entries_of account.now) }
 {

@@ -5,10 +5,10 @@ ghost use Rattle.sm_core.specs.Histories.{InTime};
 ghost use Rattle.sm_replica.specs.Taking.{Follows, MayStand, Stands, TakesEntries, TakesRows};
 
 use crate::replica::Taken;
+use sm_base_check::is_sound;
 use sm_model::{Entry, NoMemory};
-use sm_opening::{Refusal, ReplayState, Stopped};
 use sm_record::Base;
-use sm_sound::is_sound;
+use sm_recovery::{Refusal, ReplayState, Stopped};
 use std::alloc::Global;
 
 /// Follows one entry, which stands behind so many in its frame. No secret is copied.

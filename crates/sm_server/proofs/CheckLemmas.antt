@@ -5,7 +5,7 @@ use Rattle.sm_base.specs.Faults.{Rose}
 use Rattle.sm_base.specs.declared.moment.Moment.{Moment}
 use Rattle.sm_model.specs.declared.rows.Rows.{Rows}
 use Rattle.sm_account.specs.States.{Base}
-use Rattle.sm_opening.specs.Lawful.{made_of}
+use Rattle.sm_recovery.specs.Lawful.{made_of}
 use Rattle.sm_store.specs.Held.{Held}
 use Rattle.sm_principal.specs.declared.people.People.{People as Persons}
 use Rattle.sm_rotation.specs.Vouched.{Replies}

@@ -5,7 +5,7 @@ use Rattle.sm_base.specs.Faults.{Rose}
 use Rattle.sm_base.specs.declared.memory.NoMemory.{NoMemory}
 use Rattle.sm_base.specs.declared.moment.Moment.{Moment}
 use Rattle.sm_account.specs.States.{Base}
-use Rattle.sm_opening.specs.Lawful.{made_of}
+use Rattle.sm_recovery.specs.Lawful.{made_of}
 use Rattle.sm_store.specs.Held.{Held}
 use Rattle.sm_drill.specs.Lines.{lines, lines_of, refused_count, shown_by}
 use Rattle.sm_drill.proofs.ReplyLemmas.{got_last, refused_push}

@@ -1,7 +1,7 @@
 -- Caching readers: their words, and how they run.
 use Rattle.std.proofs.Common.{◌≡◌, ◌∙◌, Option, None, Some, Result, Ok, Err, sym, ap, subst, inl, inr}
 use Rattle.sm_agent.specs.Agents.{AgentState}
-use Rattle.sm_agent_stream.specs.Streams.{Around}
+use Rattle.sm_agent_server.specs.Streams.{Around}
 use Rattle.sm_command_line.specs.declared.settings.Mode.{Mode}
 use Rattle.sm_command_line.specs.declared.settings.Mode.TheVariants.{Exec, Serve, Check, Drill, Agent, Ship, Follow}
 use Rattle.sm_command_line.specs.declared.settings.Settings.{Settings}

@@ -11,7 +11,7 @@ use Rattle.sm_model.specs.declared.entry.Mark.{Mark}
 use Rattle.sm_base.specs.declared.limits.TheConstants.{JOURNAL_LIMIT}
 use Rattle.sm_principal.specs.declared.people.People.{People as Persons}
 use Rattle.sm_rotator.specs.declared.rotator.Rotator.{Ghosts as RotatorGhosts}
-use Rattle.sm_opening.specs.Openings.{IsRefused}
+use Rattle.sm_recovery.specs.Openings.{IsRefused}
 use Rattle.sm_store.specs.Held.{Held}
 use Rattle.sm_account.specs.declared.account.Account.{Account}
 use Rattle.sm_account.specs.Accounts.{base, began, disk, failed, history, taken}
@@ -32,7 +32,7 @@ use Rattle.sm_server.specs.declared.status.Status.{Status}
 use Rattle.sm_server.specs.declared.status.Status.TheVariants as statuses
 use Rattle.sm_server.specs.Asked.{FollowsPeople}
 use Rattle.sm_workers.specs.Workers.{HasNoPass}
-use Rattle.sm_server.specs.Served.{EndsServed, EndsServer, EndsWorkers, FollowsOrders, LeavesAt, LeavesOver, OpenedOver, RanAs, UnopenedOver, end_of_server, end_of_serving}
+use Rattle.sm_server.specs.Served.{EndsServed, EndsServer, EndsWorkers, FollowsOrders, LeavesAt, LeavesOver, OpenedOver, RanAs, UnopenedOver, connection_workers_in, end_of_server, end_of_serving}
 use Rattle.sm_server.specs.Stored.{disk_unopened, status_unopened}
 
 -- words that do not ask for a server
@@ -117,11 +117,12 @@ module _ {E K C W R A O D : Type 0} {g : StoriedGhosts A O Mark} (views : Views 
 
   -- an account that was opened over a disk
   pub opened_over : (first : D) (doors : ℕ) (before after : Account D R G V) (status : Status)
+      → doors ≡ connection_workers_in old
       → IsOpenedOver first doors JOURNAL_LIMIT before
       → TakenFrom G first JOURNAL_LIMIT (taken before) (disk before)
       → LeavesAt views G people before after status old new
       → OpenedOver views G people first status after old new
-  opened_over first doors before after status opened found left =
+  opened_over first doors before after status counted opened found left =
       let began_is : began after ≡ first = left.began_stays ∙ opened.began_is in
       let faults : FaultsBound (G.faults first) (history after) (G.faults (disk after)) =
       subst (λ d. FaultsBound (G.faults d) (history after) (G.faults (disk after))) began_is left.faults in
@@ -131,6 +132,7 @@ module _ {E K C W R A O D : Type 0} {g : StoriedGhosts A O Mark} (views : Views 
         began_is = began_is;
         base_is = left.base_stays ∙ opened.base_is
             ∙ ap (λ (t : Held). base_of t JOURNAL_LIMIT) (sym left.taken_stays);
+        doors_are = left.doors_stay ∙ opened.doors_at_opening_are ∙ counted;
         on_disk = left.on_disk;
         risen = λ there. risen_for (failed after) (G.faults first) (faults_in (history after)) (G.faults (disk after))
             there left.told faults;

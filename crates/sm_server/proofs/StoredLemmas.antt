@@ -14,8 +14,8 @@ use Rattle.sm_account.specs.History.{entries_in}
 use Rattle.sm_account.specs.declared.account.Account.{Account}
 use Rattle.sm_account.proofs.HeldLemmas.{made_rows}
 use Rattle.sm_account.specs.AccountState.{with_entries}
-use Rattle.sm_opening.specs.Lawful.{made_of}
-use Rattle.sm_opening.proofs.LawfulLaws.{makes_one_more}
+use Rattle.sm_recovery.specs.Lawful.{made_of}
+use Rattle.sm_recovery.proofs.LawfulLaws.{makes_one_more}
 use Rattle.sm_record.specs.declared.base.Base.{Base as Made}
 use Rattle.sm_store.specs.Held.{Held}
 use Rattle.sm_core.specs.Effects.{effect}

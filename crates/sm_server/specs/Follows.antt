@@ -7,7 +7,7 @@ use Rattle.sm_follow.specs.Disks.{FollowsOver}
 use Rattle.sm_follow.specs.Streams.{Around}
 use Rattle.sm_journal.specs.declared.answers.OpenRefused.{OpenRefused}
 use Rattle.sm_principal.specs.declared.people.People.{People as Persons}
-use Rattle.sm_store.specs.BaseOpenings.{IsOpenRefused}
+use Rattle.sm_store.specs.Openings.{IsOpenRefused}
 use Rattle.sm_command_line.specs.declared.settings.Settings.{Settings}
 use Rattle.sm_server.specs.declared.asked.Role.TheVariants.{Replica}
 use Rattle.sm_server.specs.declared.status.Status.{Status}

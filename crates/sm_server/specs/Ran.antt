@@ -5,7 +5,7 @@ use Rattle.sm_base.specs.Faults.{Rose}
 use Rattle.sm_base.specs.declared.bad_kind.BadKind.{BadKind}
 use Rattle.sm_model.specs.declared.entry.Entry.{Entry}
 use Rattle.sm_base.specs.declared.limits.TheConstants.{JOURNAL_LIMIT}
-use Rattle.sm_opening.specs.Lawful.{made_of}
+use Rattle.sm_recovery.specs.Lawful.{made_of}
 use Rattle.sm_rotation.specs.Vouched.{Replies}
 use Rattle.sm_store.specs.Held.{Held}
 use Rattle.sm_account.specs.States.{Base, base_of}

@@ -1,7 +1,7 @@
 -- What a caching reader does by its words, and how it ends.
 use Rattle.std.specs.Prelude.{◌≡◌, ◌⊎◌, Option, Some, None, Result, Ok, Err}
 use Rattle.sm_agent.specs.Agents.{AgentState, empty_agent}
-use Rattle.sm_agent_stream.specs.Streams.{Around, StreamOf}
+use Rattle.sm_agent_server.specs.Streams.{Around, StreamOf}
 use Rattle.sm_session.specs.declared.ended.Ended.{Ended}
 use Rattle.sm_command_line.specs.declared.settings.Mode.{Mode}
 use Rattle.sm_command_line.specs.declared.settings.Mode.TheVariants.{Exec, Serve, Check, Drill, Agent, Ship, Follow}

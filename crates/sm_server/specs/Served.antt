@@ -9,9 +9,9 @@ use Rattle.sm_model.specs.declared.entry.Mark.{Mark}
 use Rattle.sm_base.specs.declared.limits.TheConstants.{JOURNAL_LIMIT}
 use Rattle.sm_principal.specs.declared.people.People.{People as Persons}
 use Rattle.sm_rotator.specs.declared.rotator.Rotator.{Ghosts as RotatorGhosts}
-use Rattle.sm_opening.specs.Openings.{IsRefused}
+use Rattle.sm_recovery.specs.Openings.{IsRefused}
 use Rattle.sm_account.specs.declared.account.Account.{Account}
-use Rattle.sm_account.specs.Accounts.{all_of, base, began, disk, failed, history, taken}
+use Rattle.sm_account.specs.Accounts.{all_of, base, began, disk, doors_at_opening, failed, history, taken}
 use Rattle.sm_account.specs.AccountState.{FaultsBound, faults_of}
 use Rattle.sm_account.specs.Crashes.{HoldsOnDisk}
 use Rattle.sm_account.specs.History.{faults_in}
@@ -112,20 +112,22 @@ module _ {E K C W R A O D : Type 0} {g : StoriedGhosts A O Mark} (views : Views 
     pub taken_stays : taken after ≡ taken before
     pub began_stays : began after ≡ began before
     pub base_stays : base after ≡ base before
+    pub doors_stay : doors_at_opening after ≡ doors_at_opening before
     pub on_disk : HoldsOnDisk (all_of after) (failed after) (G.sight (disk after))
     pub told : faults_of (failed after) ≤ faults_in (history after)
     pub faults : FaultsBound (G.faults (began after)) (history after) (G.faults (disk after))
     pub ends : EndsServed people after status old new
 
-  -- What a server leaves: the account that it opened over what it took from the disk, which kept its state then, whose
-  -- whole history was made by its workers, each at its seat. One entry more may stand on the disk only where the disk's
-  -- count rose.
+  -- What a server leaves: the account that it opened over what it took from the disk, which kept its state then, with a
+  -- door for each connection worker, whose whole history was made by its workers, each at its seat. One entry more may
+  -- stand on the disk only where the disk's count rose.
   pub record OpenedOver (people : Persons) (first : D) (status : Status) (account : Account D R G V)
       (old new : List (WorkerBy E C W R A O Mark g)) : Type 0 where
     pub opened : D
     pub recovered : TakenFrom G first JOURNAL_LIMIT (taken account) opened
     pub began_is : began account ≡ first
     pub base_is : base account ≡ base_of (taken account) JOURNAL_LIMIT
+    pub doors_are : doors_at_opening account ≡ connection_workers_in old
     pub on_disk : HoldsOnDisk (all_of account) (failed account) (G.sight (disk account))
     pub risen : IsSome (failed account) → Rose (G.faults first) (G.faults (disk account))
     pub faults : FaultsBound (G.faults first) (history account) (G.faults (disk account))

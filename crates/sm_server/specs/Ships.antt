@@ -1,10 +1,10 @@
 -- What a run writes that brings a replica to the end of its account.
 use Rattle.std.specs.Prelude.{◌≡◌, ◌⊎◌, ℕ, ◌<◌, min, List, [], ◌++◌, length}
 use Rattle.std.specs.List.{flat_map}
-use Rattle.sm_frames.specs.declared.frame.Frame.{Frame}
-use Rattle.sm_frames.specs.declared.input.Input.TheVariants as inputs
-use Rattle.sm_frames.specs.Frames.{frame_bytes}
-use Rattle.sm_opening.specs.Lawful.{base_under}
+use Rattle.sm_replication.specs.declared.frame.Frame.{Frame}
+use Rattle.sm_replication.specs.declared.input.Input.TheVariants as inputs
+use Rattle.sm_replication.specs.Frames.{frame_bytes}
+use Rattle.sm_recovery.specs.Lawful.{base_under}
 use Rattle.sm_replica.specs.Shipping.{Ships}
 use Rattle.sm_session.specs.Endings.{count_limit}
 use Rattle.sm_store.specs.Held.{Held}

@@ -7,8 +7,8 @@ use Rattle.sm_journal.specs.declared.answers.OpenRefused.{OpenRefused}
 use Rattle.sm_journal.specs.declared.answers.OpenRefused.TheVariants as refusals
 use Rattle.sm_model.specs.declared.entry.Entry.{Entry}
 use Rattle.sm_store.specs.Held.{Held, with_entry}
-use Rattle.sm_opening.specs.Lawful.{made_of}
-use Rattle.sm_opening.specs.Openings.{IsRefused}
+use Rattle.sm_recovery.specs.Lawful.{made_of}
+use Rattle.sm_recovery.specs.Openings.{IsRefused}
 use Rattle.sm_account.specs.AccountState.{FaultsBound, with_entries}
 use Rattle.sm_account.specs.Crashes.{HoldsOnDisk}
 use Rattle.sm_account.specs.History.{entries_in}

@@ -4,7 +4,7 @@ ghost use Rattle.std.specs.Io.KnownBytes.{append_known};
 ghost use Rattle.sm_base.specs.Faults.{Rose};
 ghost use Rattle.sm_base.specs.declared.moment.Moment.{Moment as moments};
 ghost use Rattle.sm_account.specs.Accounts.{all_of, rows};
-ghost use Rattle.sm_opening.specs.Lawful.{made_of};
+ghost use Rattle.sm_recovery.specs.Lawful.{made_of};
 ghost use Rattle.sm_server.specs.Checks.{Shows, WritesBy};
 
 use crate::status::Status;

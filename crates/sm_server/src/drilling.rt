@@ -9,7 +9,7 @@ ghost use Rattle.sm_http.specs.Reading.{content};
 ghost use Rattle.sm_session.specs.Answer.{heard};
 ghost use Rattle.sm_session.specs.Replies.{reply_of};
 ghost use Rattle.sm_session.specs.Views.{local_state_by};
-ghost use Rattle.sm_opening.specs.Lawful.{made_of};
+ghost use Rattle.sm_recovery.specs.Lawful.{made_of};
 ghost use Rattle.sm_server.specs.declared.asked.RunTask.TheVariants.{Practise};
 ghost use Rattle.sm_server.specs.Drills.{AnswersMade, Says, totals_after};
 ghost use Rattle.sm_server.specs.Outside.{outside_beside, outside_inside};

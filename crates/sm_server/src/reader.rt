@@ -1,12 +1,12 @@
 //! The top call of a caching reader, over one connection.
 ghost use Rattle.std.specs.Prelude.{◌≡◌, ◌≤◌, map, string_bytes};
-ghost use Rattle.sm_agent_stream.specs.Streams.{around_by};
+ghost use Rattle.sm_agent_server.specs.Streams.{around_by};
 ghost use Rattle.sm_command_line.specs.Reading.{settings_of};
 ghost use Rattle.sm_server.specs.Readers.{AgentRan, BuildsAgent, EndsReader, IsNewAgent, StreamRan, end_of_reading};
 
 use crate::status::{Status, status_of};
 use sm_agent::{Agent, CACHE_SIZE, TTL, Upstream};
-use sm_agent_stream::answer_stream;
+use sm_agent_server::answer_stream;
 use sm_base::NoMemory;
 use sm_command_line::{Mode, WordsRefused, read_words};
 use sm_io::{Clock, Sink, Source};

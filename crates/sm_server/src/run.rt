@@ -6,7 +6,7 @@ ghost use Rattle.sm_base.specs.declared.moment.Moment.{Moment as moments};
 ghost use Rattle.sm_account.specs.Accounts.{history, base, began, taken, disk, failed};
 ghost use Rattle.sm_account.specs.States.{base_of};
 ghost use Rattle.sm_base.specs.declared.limits.TheConstants.{JOURNAL_LIMIT};
-ghost use Rattle.sm_opening.specs.Lawful.{made_of};
+ghost use Rattle.sm_recovery.specs.Lawful.{made_of};
 ghost use Rattle.sm_server.specs.declared.asked.RunTask.TheVariants.{Answer, Practise, Ship, Summarize};
 ghost use Rattle.sm_principal.specs.declared.people.People.{People as Persons};
 ghost use Rattle.sm_principal.specs.Callers.{people_of};

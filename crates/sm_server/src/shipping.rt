@@ -11,9 +11,9 @@ use crate::status::Status;
 use sm_account::Account;
 use sm_base::NoMemory;
 use sm_disk::Disk;
-use sm_frames::{Frame, encode};
 use sm_io::{Sink, Wrote, put_all};
 use sm_replica::ship;
+use sm_replication::{Frame, encode};
 use sm_rotator::Rotator;
 use std::alloc::Global;
 

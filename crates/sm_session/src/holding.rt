@@ -7,11 +7,11 @@ ghost use Rattle.sm_account.specs.Accounts.{base};
 ghost use Rattle.sm_lock.specs.Handles.{built_with, number, seen, IsIn};
 ghost use Rattle.sm_session.specs.Sessions.{Holds};
 
-use sm_account::{Account, Handled};
+use sm_account::{Account, Handled, TestedRequest};
 use sm_disk::Disk;
 use sm_io::Clock;
 use sm_lock::{Gate, Pass, Storied};
-use sm_model::{Moment, Person, Request};
+use sm_model::{Moment, Person};
 use sm_rotator::Rotator;
 use std::sync::Wait;
 
@@ -32,10 +32,10 @@ pub(crate) fn hold_once<D: Disk, R: Rotator, C: Clock, H: Wait>(
     clock: &mut C,
     person: &Person,
     drawn: &[u8],
-    request: &Request,
+    tested: TestedRequest<'_>,
 ) -> Hold<Account<D, R>>
     requires gate { IsIn gate.now pass }
-    requires drawn { length drawn.now ≡ needed request.now }
+    requires drawn { length drawn.now ≡ needed tested.request.now }
     requires person { HasShortTexts person.now }
     ensures gate { IsIn gate.now result.pass }
     ensures number { number result.pass ≡ number pass }
@@ -44,7 +44,7 @@ pub(crate) fn hold_once<D: Disk, R: Rotator, C: Clock, H: Wait>(
       person = person.now;
       now = result.now;
       drawn = drawn.now;
-      request = request.now;
+      request = tested.entry.request.now;
     }) (seen pass) (seen result.pass) result.handled)
         × (result.position ≡ length held.before) }
 {
@@ -52,7 +52,7 @@ pub(crate) fn hold_once<D: Disk, R: Rotator, C: Clock, H: Wait>(
     let mut held = gate.enter(rt, pass);
     let position = held.value().length();
     let now = clock.now();
-    let handled = held.value().handle(seat, person, now, drawn, request);
+    let handled = held.value().handle_tested(seat, person, now, drawn, tested);
     Hold {
         pass: gate.leave(held),
         handled,

@@ -16,7 +16,7 @@ use crate::holding::{Hold, hold_once};
 use crate::said::Said;
 use crate::saying::{say_handled, say_refusal};
 use crate::trace::TraceItem;
-use sm_account::Account;
+use sm_account::{Account, TestedRequest};
 use sm_disk::Disk;
 use sm_http::Message;
 use sm_io::{Clock, Drew, Words};
@@ -66,8 +66,8 @@ pub(crate) fn take_turn<D: Disk, R: Rotator, C: Clock, W: Words, H: Wait>(
     }
 }
 
-/// Asks the account for a person: the random bytes that the request needs are drawn before the lock is entered, and the
-/// reply is made after it was left.
+/// Asks the account for a person: the random bytes that the request needs are drawn and its forms are tested before the
+/// lock is entered, and the reply is made after it was left.
 fn ask<D: Disk, R: Rotator, C: Clock, W: Words, H: Wait>(
     rt: &H,
     alloc: Global,
@@ -90,12 +90,13 @@ fn ask<D: Disk, R: Rotator, C: Clock, W: Words, H: Wait>(
 {
     match draw(alloc, words, need(request)) {
         Drew::Bytes(drawn) => {
+            let tested = TestedRequest::new(alloc, request);
             let Hold {
                 pass,
                 handled,
                 now,
                 position,
-            } = hold_once(rt, gate, pass, clock, person, drawn.as_slice(), request);
+            } = hold_once(rt, gate, pass, clock, person, drawn.as_slice(), tested);
             let said = say_handled(alloc, handled);
             let status = status_of(&said);
             Taken {

@@ -1,8 +1,7 @@
 -- Entries that are read one after the other, in a format and behind other bodies.
-use Rattle.std.proofs.Common.{◌≡◌, ℕ, ◌+◌, ◌^◌, ◌<◌, List, [], ◌∷◌, ◌++◌, map, length, take, drop, get_or, suc, refl, sym, ◌∙◌, ap, subst, arith, Result, Err}
+use Rattle.std.proofs.Common.{◌≡◌, ℕ, ◌+◌, ◌^◌, ◌<◌, List, [], ◌∷◌, ◌++◌, map, length, take, drop, get_or, suc, refl, sym, ◌∙◌, ap, arith}
 use Rattle.std.proofs.lemmas.List.{map_push, take_more, length-take}
 use Rattle.sm_journal.specs.Records.{size}
-use Rattle.sm_journal.specs.declared.parse.Damage.{Damage}
 use Rattle.sm_journal.proofs.Front.{size-push}
 use Rattle.sm_model.specs.declared.entry.Entry.{Entry}
 use Rattle.sm_record.specs.declared.edition.Edition.{Edition}
@@ -10,8 +9,6 @@ use Rattle.sm_record.specs.Spelling.{spelling, HasSpelling}
 use Rattle.sm_store.proofs.ReadingRuns.{size_take, parted}
 use Rattle.sm_store.specs.Held.{AreEntries}
 use Rattle.sm_store.specs.Loading.{IsNoEntryIn}
-use Rattle.sm_store.specs.declared.entries.EntriesRefused.{EntriesRefused}
-use Rattle.sm_store.specs.declared.entries.EntriesRefused.TheVariants.{Damaged}
 
 pub entries_push : (edition : Edition) (list : List Entry) (e : Entry) → AreEntries edition list
     → HasSpelling edition e → AreEntries edition (list ++ e ∷ [])
@@ -63,9 +60,8 @@ module _ (edition : Edition) (bodies : List (List ℕ)) (gate before : ℕ) (lis
   )
 
   pub no_entry_here : ((e : Entry) → HasSpelling edition e → ¬ (spelling edition e ≡ body))
-      → IsNoEntryIn edition bodies gate before at (before + length list)
+      → IsNoEntryIn edition list bodies gate before at (before + length list)
   no_entry_here none = record {
-    list = list;
     body = body;
     after = drop (suc i) bodies;
     spelled = all;
@@ -75,13 +71,3 @@ module _ (edition : Edition) (bodies : List (List ℕ)) (gate before : ℕ) (lis
     place = here;
     number = refl;
   }
-
--- the damage that is told is the one that was found
-pub told_damage : {A : Type 0} (P : ℕ → ℕ → Type 0) (here damage : Damage)
-    → ◌≡◌ {A = Result A EntriesRefused} (Err (Damaged here)) (Err (Damaged damage))
-    → P here.at here.entry → P damage.at damage.entry
-told_damage {A} P here damage same found =
-    let is : here ≡ damage = damage_of same in subst (λ (d : Damage). P d.at d.entry) is found
-  where
-    damage_of : ◌≡◌ {A = Result A EntriesRefused} (Err (Damaged here)) (Err (Damaged damage)) → here ≡ damage
-    damage_of same = cc

@@ -66,6 +66,7 @@ module _ {D : Type 0} {G : Ghosts D} where
     sure = sure;
     length = omega arith;
     makes = λ before makes. subst (Makes a) (sym (append-nil before)) makes;
+    no_fault = refl;
   }
 
   pub added_more : (xs ys : List (List ℕ)) (a b c : Fresh D G) → HasAdded xs a b → HasAdded ys b c
@@ -75,6 +76,7 @@ module _ {D : Type 0} {G : Ghosts D} where
     length = omega (arith, first.length, second.length, size-append xs ys);
     makes = λ before makes. subst (Makes c) (append_assoc before xs ys)
         (second.makes (before ++ xs) (first.makes before makes));
+    no_fault = second.no_fault ∙ first.no_fault;
   }
 
   pub room_front : (xs ys : List (List ℕ)) (a : Fresh D G) → MayBeAdded (xs ++ ys) a → MayBeAdded xs a
@@ -114,7 +116,7 @@ module _ {D : Type 0} {G : Ghosts D} where
       → GoesOn a b → Fills ys b c result → Fills (xs ++ ys) a c result
   fills_on xs ys a b c (Ok x) first goes then_ = added_more xs ys a b c first then_
   fills_on xs ys a b c (Err Failed) first goes then_ = rose_on a b c goes then_
-  fills_on xs ys a b c (Err Memory) first goes then_ = tt
+  fills_on xs ys a b c (Err Memory) first goes then_ = then_ ∙ first.no_fault
 
   -- ---- the bodies of many things, one thing after the other
 

@@ -24,7 +24,7 @@ use Rattle.sm_record.specs.declared.base.Base.{Base}
 use Rattle.sm_record.specs.declared.edition.Edition.{Edition}
 use Rattle.sm_record.specs.declared.edition.Edition.TheVariants.{First, Second}
 use Rattle.sm_store.proofs.EntryLists.{first_is, rest_is, none_is_some}
-use Rattle.sm_store.specs.BaseFiles.{nothing_held, HoldsAs, IsForeign}
+use Rattle.sm_store.specs.Files.{nothing_held, HoldsAs, IsForeign}
 use Rattle.sm_store.specs.Held.{edition_of, Held, base_bodies, bodies_in, IsSnapshot, AreEntries, IsSpelledIn, HoldsFile}
 use Rattle.sm_store.specs.Loading.{is_marked, marked_count, marked, behind_marked, IsUnheld}
 
@@ -125,7 +125,7 @@ has_start edition base same =
     none_is_some (start_body base) (flat_map (secret_bodies edition) base.rows.secrets)
     (same ∙ snapshot_bodies edition base)
 
-same_base : (edition : Edition) (a b : Option Base) → IsSnapshot edition a → IsSnapshot edition b
+pub same_base : (edition : Edition) (a b : Option Base) → IsSnapshot edition a → IsSnapshot edition b
     → base_bodies edition a ≡ base_bodies edition b → a ≡ b
 same_base edition None None left right same = refl
 same_base edition None (Some b) left right same = absurd (has_start edition b same)
@@ -182,6 +182,20 @@ one_held bytes a b left right = elim (cases_lt 9 (length bytes)) [
       ∙ sym (none_held (edition_of right.0) b right.2 (short_none bytes right.0 _ short right.1))
 ]
 
+-- the bodies of a file that holds something spell it
+pub held_bodies : (bytes : List ℕ) (h : Held) (f : Format) (bodies : List (List ℕ)) → HoldsFile h bytes
+    → Recovers bytes f bodies → (bodies ≡ bodies_in (edition_of f) h) × IsSpelledIn (edition_of f) h
+held_bodies bytes h f bodies has recovers = elim (cases_lt 9 (length bytes)) [
+  | inl long ↦
+      let is = one_format bytes has.0 f (bodies_in (edition_of has.0) h) bodies long has.1 recovers in
+      let same = one_list bytes f has.0 bodies (bodies_in (edition_of has.0) h) recovers has.1 in
+      subst (λ (k : Format). (bodies ≡ bodies_in (edition_of k) h) × IsSpelledIn (edition_of k) h) is (same, has.2)
+  | inr short ↦
+      let none = none_held (edition_of has.0) h has.2 (short_none bytes has.0 _ short has.1) in
+      subst (λ (k : Held). (bodies ≡ bodies_in (edition_of f) k) × IsSpelledIn (edition_of f) k) (sym none)
+      (short_none bytes f bodies short recovers, record { base = tt; entries = tt })
+]
+
 pub held_not_damaged : (bytes : List ℕ) (h : Held) (at entry : ℕ) → HoldsFile h bytes → IsDamaged bytes at entry → ⊥
 held_not_damaged bytes h at entry has damaged =
     not_damaged bytes has.0 (bodies_in (edition_of has.0) h) at entry has.1 damaged
@@ -202,7 +216,7 @@ among edition (e ∷ list) (b ∷ before) body after all same none = among editi
     (map (spelling edition) before ++ body ∷ after) same) none
 
 -- marked bodies are some
-some_marked : (bodies : List (List ℕ)) → 0 < marked_count bodies → marked bodies ≡ [] → ⊥
+pub some_marked : (bodies : List (List ℕ)) → 0 < marked_count bodies → marked bodies ≡ [] → ⊥
 some_marked bodies some same = absurd (omega (
   arith,
   some,
@@ -219,8 +233,9 @@ not_unheld edition h at entry spelled (inl none) = by h.base spelled.base (marke
     by None fits same = some_marked (bodies_in edition h) none.0 same
     by (Some base) fits same = none.1.none base fits (sym same)
 not_unheld edition h at entry spelled (inr none) =
-    among edition h.entries none.behind.list none.behind.body none.behind.after spelled.entries
-    (sym (behind_in edition h spelled) ∙ none.behind.split) none.behind.none
+    let behind = none.1.behind in
+    among edition h.entries none.0.entries behind.body behind.after spelled.entries
+    (sym (behind_in edition h spelled) ∙ behind.split) behind.none
 
 nothing_unheld : (edition : Edition) (at entry : ℕ) → IsUnheld edition [] at entry → ⊥
 nothing_unheld edition at entry foreign =

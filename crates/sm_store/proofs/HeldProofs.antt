@@ -16,10 +16,10 @@ use Rattle.sm_record.specs.declared.base.Base.{Base}
 use Rattle.sm_record.specs.declared.edition.Edition.{Edition}
 use Rattle.sm_store.proofs.HeldLaws.{one_held}
 use Rattle.sm_store.proofs.OneProof.{either_side}
-use Rattle.sm_store.specs.BaseFiles.{HoldsAs, HoldsEither}
-use Rattle.sm_store.specs.BaseStores.{bodies_edition, Holds}
+use Rattle.sm_store.specs.Files.{HoldsAs, HoldsEither}
+use Rattle.sm_store.specs.Stores.{bodies_edition, Holds}
 use Rattle.sm_store.specs.Held.{edition_of, Held, with_entry, bodies_in, IsSnapshot, AreEntries, IsEntry, IsSpelledIn}
-use Rattle.sm_store.specs.declared.base_store.BaseStore.{BaseStore}
+use Rattle.sm_store.specs.declared.store.Store.{Store}
 
 base_prop : (edition : Edition) (base : Option Base) → IsProp (IsSnapshot edition base)
 base_prop edition None = Unit-prop
@@ -54,7 +54,7 @@ either_held_prop f h (Some e) bytes = either_side (as_prop f h bytes) (as_prop f
     (λ without with_it. not_more h e (one_held bytes h (with_entry h e) (f, without.0, without.1)
     (f, with_it.0, with_it.1)))
 
-pub base_holds_prop : {D : Type 0} {G : Ghosts D} (store : BaseStore D G) (h : Held) (failed : Option Entry)
+pub base_holds_prop : {D : Type 0} {G : Ghosts D} (store : Store D G) (h : Held) (failed : Option Entry)
     → IsProp (Holds store h failed)
 base_holds_prop store h failed a b = λ i. record {
   stands = stands_prop store.journal (bodies_in (bodies_edition store) h)

@@ -20,8 +20,8 @@ use Rattle.sm_disk.specs.declared.disk.Disk.{Ghosts}
 use Rattle.sm_journal.specs.Journals as journals
 use Rattle.sm_journal.specs.declared.journal.Journal.{Journal}
 use Rattle.sm_store.specs.Held.{edition_of, Held, only, bodies_in, IsSpelledIn, HoldsFile, Recovered, HeldOr, HeldNew, AreTwo}
-use Rattle.sm_store.specs.BaseStores.{disk_of, format_of, bodies_edition, Holds}
-use Rattle.sm_store.specs.declared.base_store.BaseStore.{BaseStore}
+use Rattle.sm_store.specs.Stores.{disk_of, format_of, bodies_edition, Holds}
+use Rattle.sm_store.specs.declared.store.Store.{Store}
 
 -- what recovers to the bodies of a base alone has the base
 pub only_held : (base : Base) (f : Format) (bytes : List ℕ) → HasSnapshot editions.Second base → f ≡ formats.Second
@@ -119,7 +119,7 @@ module _ (h new : Held) (file other : ℕ) (two : AreTwo file other) where
           (λ d m c was image by on. either m c image on)
           (λ d m c was image here by on. after m c image (all c here) on)
 
-module _ {D : Type 0} {G : Ghosts D} (store : BaseStore D G) (base : Base) (fits : HasSnapshot editions.Second base)
+module _ {D : Type 0} {G : Ghosts D} (store : Store D G) (base : Base) (fits : HasSnapshot editions.Second base)
     (second : format_of store ≡ formats.Second) where
   edition_is : bodies_edition store ≡ editions.Second
   edition_is = ap edition_of second
@@ -138,7 +138,7 @@ module _ {D : Type 0} {G : Ghosts D} (store : BaseStore D G) (base : Base) (fits
   }
 
 -- what each image of a store's disk has in the store's file
-pub file_holds : {D : Type 0} {G : Ghosts D} (store : BaseStore D G) (h : Held) → Holds store h None
+pub file_holds : {D : Type 0} {G : Ghosts D} (store : Store D G) (h : Held) → Holds store h None
     → EachHas store.file (HoldsFile h) (G.sight (disk_of store)).images
 file_holds {D} {G} store h holds = subst (λ file. EachHas file (HoldsFile h) (G.sight (disk_of store)).images)
     store.in_file (λ c was. (format_of store, holds.stands.recovers c was, holds.spelled))

@@ -1,14 +1,13 @@
 pub mod EntryLists
 pub mod OneProof
-pub mod StoreStands
-pub mod OpenRuns
 pub mod ReadingRuns
 pub mod FillRuns
 pub mod HeldRuns
 pub mod EntryRuns
 pub mod LoadRuns
 pub mod NamedRuns
-pub mod BaseStands
+pub mod StoreStands
 pub mod HeldLaws
 pub mod HeldProofs
 pub mod OpenedRuns
+pub mod FrontLaws

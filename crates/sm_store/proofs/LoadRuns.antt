@@ -1,16 +1,16 @@
 -- What a list of bodies holds, from what its parts hold.
-use Rattle.std.proofs.Common.{◌≡◌, ℕ, ◌+◌, ◌<◌, ◌≤◌, ◌^◌, true, false, List, [], ◌∷◌, ◌++◌, map, length, take, drop, get_or, Option, Result, Err, sym, ap, subst, ◌∙◌, inl, inr, arith, take-append-drop}
+use Rattle.std.proofs.Common.{◌≡◌, ℕ, ◌+◌, ◌<◌, ◌≤◌, ◌^◌, true, false, List, [], ◌∷◌, ◌++◌, map, length, take, drop, get_or, Option, None, Some, Result, Err, sym, ap, subst, ◌∙◌, arith, take-append-drop}
 use Rattle.std.proofs.lemmas.List.{length-take, take_more, get_or-drop, get_or_default}
 use Rattle.std.proofs.lemmas.List.Sums.{prefix_len-drop_yes, prefix_len-drop_no, prefix_len-drop_all, prefix_len-le-length}
 use Rattle.std.specs.List.{prefix_len}
 use Rattle.sm_journal.proofs.Front.{size-push}
 use Rattle.sm_journal.specs.Records.{size, place_behind}
-use Rattle.sm_record.specs.declared.base.Base.{Base}
+use Rattle.sm_journal.specs.declared.parse.Damage.{Damage}
 use Rattle.sm_record.specs.declared.edition.Edition.{Edition}
 use Rattle.sm_record.specs.Spelling.{spelling}
-use Rattle.sm_store.specs.BaseOpenings.{Loads}
+use Rattle.sm_store.specs.Openings.{Loads, LoadsUpTo}
 use Rattle.sm_store.specs.Held.{AreEntries, IsSnapshot, base_bodies}
-use Rattle.sm_store.specs.Loading.{is_marked, marked_count, IsNoSnapshot, IsNoEntryIn, IsUnheld}
+use Rattle.sm_store.specs.Loading.{is_marked, marked_count, IsNoSnapshot, IsNoEntryIn, ReadsUpTo, IsNoBase}
 use Rattle.sm_store.specs.declared.entries.EntriesRefused.{EntriesRefused}
 use Rattle.sm_store.specs.declared.loading.Loaded.{Loaded}
 use Rattle.sm_store.proofs.FillRuns.{size-append}
@@ -87,29 +87,40 @@ pub size_behind : (count : ℕ) (bodies : List (List ℕ))
 size_behind count bodies = sym (size-append (take count bodies) (drop count bodies))
     ∙ ap size (take-append-drop count bodies)
 
--- behind bodies that are a base, or none, stands one that is no entry
-pub no_entry : (edition : Edition) (bodies : List (List ℕ)) (count : ℕ) (base : Option Base) (at entry : ℕ)
-    → count ≡ marked_count bodies → IsSnapshot edition base → take count bodies ≡ base_bodies edition base
-    → IsNoEntryIn edition (drop count bodies) (place_behind (take count bodies)) (length (take count bodies)) at entry
-    → IsUnheld edition bodies at entry
-no_entry edition bodies count base at entry marked spelled front behind =
-    inr (record {
-      base = base;
-      spelled = spelled;
-      front = sym (ap (λ (n : ℕ). take n bodies) marked) ∙ front;
-      behind = subst (λ (n : ℕ). IsNoEntryIn edition (drop n bodies) (place_behind (take n bodies))
-          (length (take n bodies)) at entry) marked behind;
-    })
+-- the same, or what stands before a body that is no entry's spelling
+pub loads_up_to : (edition : Edition) (file : ℕ) (bodies : List (List ℕ)) (count : ℕ) (loaded : Loaded)
+    (damage : Option Damage) → count ≡ marked_count bodies → IsSnapshot edition loaded.base
+    → take count bodies ≡ base_bodies edition loaded.base → loaded.file ≡ file
+    → loaded.gate ≡ place_behind (take count bodies)
+    → ReadsUpTo edition (drop count bodies) loaded.gate count loaded.entries damage
+    → LoadsUpTo edition file bodies loaded damage
+loads_up_to edition file bodies count loaded None marked base front file_is gate read =
+    loads_both edition file bodies count loaded base front read.0 read.1 file_is gate
+loads_up_to edition file bodies count loaded (Some damage) marked base front file_is gate read = (
+  record {
+    spelled = base;
+    front = sym (ap (λ (n : ℕ). take n bodies) marked) ∙ front;
+    behind = subst (λ (n : ℕ). IsNoEntryIn edition loaded.entries (drop n bodies) (place_behind (take n bodies))
+        (length (take n bodies)) damage.at damage.entry) marked
+        (subst (λ (n : ℕ). IsNoEntryIn edition loaded.entries (drop count bodies) (place_behind (take count bodies)) n
+        damage.at damage.entry) counted
+        (subst (λ (n : ℕ). IsNoEntryIn edition loaded.entries (drop count bodies) n count damage.at damage.entry) gate
+        read));
+  },
+  gate ∙ ap place_behind front,
+)
+  where
+    counted : count ≡ length (take count bodies)
+    counted = omega (arith, length-take count bodies, marked, prefix_len-le-length is_marked bodies)
 
 -- the first bodies are of rows and no base
 pub no_base : (edition : Edition) (bodies : List (List ℕ)) (count at entry : ℕ) → count ≡ marked_count bodies
     → 0 < length (take count bodies) → IsNoSnapshot edition (take count bodies) at entry
-    → IsUnheld edition bodies at entry
-no_base edition bodies count at entry marked some none =
-    inl (
-      omega (arith, some, marked, length-take count bodies),
-      subst (λ (n : ℕ). IsNoSnapshot edition (take n bodies) at entry) marked none,
-    )
+    → IsNoBase edition bodies at entry
+no_base edition bodies count at entry marked some none = (
+  omega (arith, some, marked, length-take count bodies),
+  subst (λ (n : ℕ). IsNoSnapshot edition (take n bodies) at entry) marked none,
+)
 
 -- one refusal, whatever was wanted
 pub same_refusal : {A B : Type 0} (x y : EntriesRefused) → ◌≡◌ {A = Result A EntriesRefused} (Err x) (Err y)

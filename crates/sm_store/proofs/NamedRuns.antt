@@ -13,9 +13,13 @@ use Rattle.sm_journal.specs.Roots.{named, AllName}
 use Rattle.sm_journal.specs.declared.answers.OpenRefused.{OpenRefused}
 use Rattle.sm_journal.specs.declared.answers.OpenRefused.TheVariants.{Damaged, Failed, Memory}
 use Rattle.sm_journal.specs.declared.root.TheConstants.{ROOT}
-use Rattle.sm_store.specs.BaseFiles.{IsForeign, KeepsList}
-use Rattle.sm_store.specs.BaseOpenings.{ReadsActive, AllStay, ListsStay, IsOpenRefused, IsRefusedIn}
+use Rattle.sm_store.specs.Files.{HasFault, KeepsList}
+use Rattle.sm_store.specs.Openings.{held_of, ReadsActive, AllStay, ListsStay, IsRefusedBy, IsOpenRefused, IsUnopened, IsRefusedIn, IsUnopenedIn}
 use Rattle.sm_store.specs.Held.{HoldsFile, SameHeld}
+use Rattle.sm_store.specs.Loading.{IsNoBase}
+use Rattle.sm_store.specs.declared.unopened.Front.{Front}
+use Rattle.sm_store.specs.declared.unopened.Unopened.{Unopened}
+use Rattle.sm_store.specs.declared.unopened.Unopened.TheVariants.{NoEntry, Refused}
 
 -- files that stay keep their lists
 same_list : (x y : List ℕ) → y ≡ x → SameList x y
@@ -80,32 +84,64 @@ reads_active P file old mid keeps names reads s read =
 module _ {D : Type 0} (G : Ghosts D) (file : ℕ) (old mid : D)
     (rooted : Leaves ROOT Equal Equal (G.sight old) (G.sight mid)) (keeps : Keeps (G.sight old) (G.sight mid))
     (all : AllName file (G.sight mid).images) (names : (s : Image) → (G.sight old).reads s → named (s ROOT) ≡ file)
-    (later : G.faults old ≤ G.faults mid) where
+    (stay : G.faults mid ≡ G.faults old) where
   -- why the named file isn't opened, the store isn't
-  pub open_refused : (refused : OpenRefused D) → IsRefusedIn G file mid refused → IsOpenRefused G old refused
-  open_refused (Damaged now damage) why = (
+  refused_by : (refused : OpenRefused D) → IsRefusedIn G file mid refused → IsRefusedBy IsNoBase G old refused
+  refused_by (Damaged now damage) why = (
     ⊎_elim
         (λ broken. inl (
           all_stay file (G.sight old) (G.sight mid) (G.sight now) rooted all keeps broken.0.leaves broken.0.reads,
           reads_active (λ bytes. IsDamaged bytes damage.at damage.entry) file (G.sight old) (G.sight mid) keeps names
               broken.1,
         ))
-        (λ foreign. inr (
-          lists_stay file (G.sight old) (G.sight mid) (G.sight now) rooted all foreign.0,
-          reads_active (λ bytes. IsForeign bytes damage.at damage.entry) file (G.sight old) (G.sight mid) keeps names
-              foreign.1,
+        (λ baseless. inr (
+          lists_stay file (G.sight old) (G.sight mid) (G.sight now) rooted all baseless.0,
+          reads_active (λ bytes. HasFault IsNoBase bytes damage.at damage.entry) file (G.sight old) (G.sight mid) keeps
+              names baseless.1,
         ))
         why.0,
-    omega (arith, later, why.1),
+    why.1 ∙ stay,
   )
-  open_refused (Failed now) why = (
+  refused_by (Failed now) why = (
     lists_stay file (G.sight old) (G.sight mid) (G.sight now) rooted all why.0,
-    omega (arith, later, why.1),
-    rose_within _ _ _ _ later why.2 (omega arith),
+    omega (arith, stay, why.1),
+    rose_within _ _ _ _ (omega (arith, stay)) why.2 (omega arith),
   )
-  open_refused (Memory now) why = (
+  refused_by (Memory now) why = (
     lists_stay file (G.sight old) (G.sight mid) (G.sight now) rooted all why.0,
-    omega (arith, later, why.1),
+    why.1 ∙ stay,
+  )
+
+  pub open_refused : (unopened : Unopened D) → IsUnopenedIn G file mid unopened → IsUnopened G old unopened
+  open_refused (NoEntry now front) why = (
+    lists_stay file (G.sight old) (G.sight mid) (G.sight now) rooted all why.0,
+    why.1 ∙ stay,
+    why.2,
+    why.3,
+    reads_active (λ bytes. Recovers bytes front.format why.2) file (G.sight old) (G.sight mid) keeps names why.4,
+  )
+  open_refused (Refused refused) why = refused_by refused why
+
+-- what is told of it
+module _ {D : Type 0} (G : Ghosts D) (old : D) where
+  pub refused_told : (refused : OpenRefused D) → IsRefusedBy IsNoBase G old refused → IsOpenRefused G old refused
+  refused_told (Damaged now damage) why = (
+    ⊎_elim inl
+        (λ baseless. inr (
+          baseless.0,
+          λ s read. let has = baseless.1 s read in (has.0, has.1, has.2, inl has.3),
+        ))
+        why.0,
+    why.1,
+  )
+  refused_told (Failed now) why = why
+  refused_told (Memory now) why = why
+
+  pub no_entry_told : (now : D) (front : Front) → IsUnopened G old (NoEntry now front)
+      → IsOpenRefused G old (Damaged now front.damage)
+  no_entry_told now front why = (
+    inr (why.0, λ s read. (front.format, why.2, why.4 s read, inr (held_of front.loaded, why.3.behind))),
+    why.1,
   )
 
 -- the root of an image is none of its journals

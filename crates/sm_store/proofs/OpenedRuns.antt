@@ -1,5 +1,5 @@
 -- What opening the file that each root names says, from what its journal and its bodies say.
-use Rattle.std.proofs.Common.{◌≡◌, ℕ, ◌<◌, ◌≤◌, false, List, [], None, sym, subst, inl, inr, arith}
+use Rattle.std.proofs.Common.{◌≡◌, ℕ, ◌<◌, ◌≤◌, false, List, [], None, sym, ap, ◌∙◌, subst, inl, inr, arith}
 use Rattle.sm_disk.specs.Sight.{Image, Sight}
 use Rattle.sm_disk.specs.OneFile.{Leaves}
 use Rattle.sm_disk.specs.declared.disk.Disk.{Ghosts}
@@ -15,12 +15,14 @@ use Rattle.sm_journal.specs.declared.answers.OpenRefused.TheVariants.{Damaged, F
 use Rattle.sm_journal.specs.declared.format.Format.TheVariants as formats
 use Rattle.sm_journal.specs.declared.journal.Journal.{Journal}
 use Rattle.sm_journal.specs.declared.root.TheConstants.{ROOT}
-use Rattle.sm_store.specs.BaseFiles.{nothing_held, HoldsAs}
-use Rattle.sm_store.specs.BaseOpenings.{held_of, OpensOver, IsUnloaded, IsRefusedIn}
-use Rattle.sm_store.specs.BaseStores.{disk_of, format_of, bodies_edition, HoldsJust, IsOpened}
+use Rattle.sm_store.specs.Files.{nothing_held, HoldsAs}
+use Rattle.sm_store.specs.Openings.{held_of, OpensOver, IsUnloaded, IsRefusedIn, IsUnopenedIn}
+use Rattle.sm_store.specs.Stores.{disk_of, format_of, bodies_edition, HoldsJust, IsOpened}
 use Rattle.sm_store.specs.Held.{edition_of, base_bodies, bodies_in, IsSpelledIn}
-use Rattle.sm_store.specs.declared.base_store.BaseStore.{BaseStore}
+use Rattle.sm_store.specs.declared.store.Store.{Store}
 use Rattle.sm_store.specs.declared.loading.Loaded.{Loaded}
+use Rattle.sm_store.specs.declared.unopened.Unopened.{Unopened}
+use Rattle.sm_store.specs.declared.unopened.Unopened.TheVariants.{NoEntry, Refused}
 
 -- a file that stays keeps its list
 list_kept : (file : ℕ) (old now : Sight) → Leaves file Equal Equal old now → Leaves file SameList SameList old now
@@ -40,25 +42,32 @@ module _ {D : Type 0} (G : Ghosts D) (file : ℕ) (old : D) where
 
   module _ (journal : Journal D G) (bodies : List (List ℕ))
       (run : Leaves file SameList SameList (G.sight old) (G.sight (journals.disk_of journal)))
-      (later : G.faults old ≤ G.faults (journals.disk_of journal))
+      (stay : G.faults (journals.disk_of journal) ≡ G.faults old)
       (list : ReadsAs file (λ bytes. Recovers bytes (journals.format_of journal) bodies) (G.sight old)) where
     run_to : (now : D) → now ≡ journals.disk_of journal → Leaves file SameList SameList (G.sight old) (G.sight now)
     run_to now is = subst (λ disk. Leaves file SameList SameList (G.sight old) (G.sight disk)) (sym is) run
 
-    later_than : (now : D) → now ≡ journals.disk_of journal → G.faults old ≤ G.faults now
-    later_than now is = subst (λ disk. G.faults old ≤ G.faults disk) (sym is) later
+    faults_kept : (now : D) → now ≡ journals.disk_of journal → G.faults now ≡ G.faults old
+    faults_kept now is = ap G.faults is ∙ stay
 
     -- why its bodies aren't loaded, the store isn't opened
-    pub bodies_refused : (refused : OpenRefused D) → IsUnloaded journal bodies refused
-        → IsRefusedIn G file old refused
-    bodies_refused (Damaged now damage) why = (
-      inr (run_to now why.0, λ s read. (journals.format_of journal, bodies, list s read, why.1)),
-      later_than now why.0,
+    pub bodies_refused : (unopened : Unopened D) → IsUnloaded journal bodies unopened
+        → IsUnopenedIn G file old unopened
+    bodies_refused (NoEntry now front) why = (
+      run_to now why.0,
+      faults_kept now why.0,
+      bodies,
+      why.2,
+      λ s read. subst (λ f. Recovers (s file) f bodies) (sym why.1) (list s read),
     )
-    bodies_refused (Failed now) why = absurd why
-    bodies_refused (Memory now) why = (run_to now why, later_than now why)
+    bodies_refused (Refused (Damaged now damage)) why = (
+      inr (run_to now why.0, λ s read. (journals.format_of journal, bodies, list s read, why.1)),
+      faults_kept now why.0,
+    )
+    bodies_refused (Refused (Failed now)) why = absurd why
+    bodies_refused (Refused (Memory now)) why = (run_to now why, faults_kept now why)
 
-    module _ (opened : BaseStore D G × Loaded) (over : OpensOver journal file bodies opened) where
+    module _ (opened : Store D G × Loaded) (over : OpensOver journal file bodies opened) where
       -- what is said of the journal is said of the store's
       moved : (P : Journal D G → Type 0) → P journal → P opened.0.journal
       moved P has = subst P (sym over.over) has
@@ -66,8 +75,8 @@ module _ {D : Type 0} (G : Ghosts D) (file : ℕ) (old : D) where
       pub any_moment : Leaves file SameList SameList (G.sight old) (G.sight (disk_of opened.0))
       any_moment = moved (λ j. Leaves file SameList SameList (G.sight old) (G.sight (journals.disk_of j))) run
 
-      pub no_fewer_faults : G.faults old ≤ G.faults (disk_of opened.0)
-      no_fewer_faults = moved (λ j. G.faults old ≤ G.faults (journals.disk_of j)) later
+      pub no_fault : G.faults (disk_of opened.0) ≡ G.faults old
+      no_fault = moved (λ j. G.faults (journals.disk_of j) ≡ G.faults old) stay
 
       pub reads_held : ReadsAs file (HoldsAs (format_of opened.0) (held_of opened.1)) (G.sight old)
       reads_held s read = moved (λ j. HoldsAs (journals.format_of j) (held_of opened.1) (s file)) (

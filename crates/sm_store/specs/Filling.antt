@@ -15,11 +15,12 @@ pub record MayBeAdded {D : Type 0} {G : Ghosts D} (bodies : List (List ℕ)) (fr
   pub within : AreWithin bodies
   pub room : length_of fresh + size bodies ≤ 2 ^ 63
 
--- these bodies were added
+-- these bodies were added, and the count of faults stays
 pub record HasAdded {D : Type 0} {G : Ghosts D} (bodies : List (List ℕ)) (old new : Fresh D G) : Type 0 where
   pub sure : has_failed new ≡ false
   pub length : length_of new ≡ length_of old + size bodies
   pub makes : (before : List (List ℕ)) → Makes old before → Makes new (before ++ bodies)
+  pub no_fault : G.faults (disk_of new) ≡ G.faults (disk_of old)
 
 -- a crash at any moment leaves the other files, and the count of faults never falls
 pub record GoesOn {D : Type 0} {G : Ghosts D} (old new : Fresh D G) : Type 0 where
@@ -27,9 +28,9 @@ pub record GoesOn {D : Type 0} {G : Ghosts D} (old new : Fresh D G) : Type 0 whe
   pub run : Leaves (file_of old) Anyhow Anyhow (G.sight (disk_of old)) (G.sight (disk_of new))
   pub later : G.faults (disk_of old) ≤ G.faults (disk_of new)
 
--- these bodies were added, or the disk failed, or memory was wanted
+-- these bodies were added; or the disk failed; or memory was wanted, and the count of faults stays
 abbrev pub Fills : {D : Type 0} {G : Ghosts D} → List (List ℕ) → Fresh D G → Fresh D G → Result (Unit {0}) FillRefused
     → Type 0
 Fills bodies old new (Ok x) = HasAdded bodies old new
 Fills {D} {G} bodies old new (Err Failed) = Rose (G.faults (disk_of old)) (G.faults (disk_of new))
-Fills bodies old new (Err Memory) = Unit {0}
+Fills {D} {G} bodies old new (Err Memory) = G.faults (disk_of new) ≡ G.faults (disk_of old)

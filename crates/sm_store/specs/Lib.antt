@@ -1,10 +1,7 @@
-pub mod Entries
-pub mod Stores
-pub mod Openings
 pub mod Held
-pub mod BaseStores
+pub mod Stores
 pub mod Filling
 pub mod Loading
-pub mod BaseFiles
-pub mod BaseOpenings
-pub mod BaseAppends
+pub mod Files
+pub mod Openings
+pub mod Appends

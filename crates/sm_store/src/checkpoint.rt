@@ -13,10 +13,10 @@ ghost use Rattle.sm_record.specs.Snapshots.{snapshot, HasSnapshot};
 ghost use Rattle.sm_record.specs.declared.edition.Edition.TheVariants as editions;
 ghost use Rattle.sm_store.specs.Held.{Held, only, HeldOr, HeldNew, AreTwo};
 ghost use Rattle.sm_record.specs.declared.base.Base.{Base};
-ghost use Rattle.sm_store.specs.BaseStores.{disk_of, format_of, limit_of, is_unsure, disk_in, Holds, IsOpened, IsStopped};
+ghost use Rattle.sm_store.specs.Stores.{disk_of, format_of, limit_of, is_unsure, disk_in, Holds, IsOpened, IsStopped};
 
-use crate::base_store::BaseStore;
 use crate::filling::{FillRefused, fill};
+use crate::store::Store;
 use sm_disk::Disk;
 use sm_journal::{Format, Fresh, Journal, OpenRefused};
 use sm_record::Base;
@@ -50,7 +50,7 @@ fn make_over<D: Disk>(
         Leaves file Anyhow Anyhow (D.sight disk) (D.sight (journals.disk_of journal))) }
     ensures run_err { IfErr result (λ refused.
         Leaves file Anyhow Anyhow (D.sight disk) (D.sight (disk_in refused))) }
-    ensures later { IfOk result (λ journal. D.faults disk ≤ D.faults (journals.disk_of journal)) }
+    ensures no_other { IfOk result (λ journal. D.faults (journals.disk_of journal) ≡ D.faults disk) }
     ensures stopped { IfErr result (IsStopped D.Disk disk) }
 {
     match Fresh::make(disk, file, limit) {
@@ -77,8 +77,8 @@ fn seal_over<D: Disk>(
         (D.sight (freshes.disk_of fresh)) (D.sight (journals.disk_of journal))) }
     ensures run_err { IfErr result (λ refused. Leaves (freshes.file_of fresh) Anyhow Anyhow
         (D.sight (freshes.disk_of fresh)) (D.sight (disk_in refused))) }
-    ensures later { IfOk result (λ journal.
-        D.faults (freshes.disk_of fresh) ≤ D.faults (journals.disk_of journal)) }
+    ensures no_other { IfOk result (λ journal.
+        D.faults (journals.disk_of journal) ≡ D.faults (freshes.disk_of fresh)) }
     ensures stopped { IfErr result (IsStopped D.Disk (freshes.disk_of fresh)) }
 {
     match fill(alloc, &mut fresh, base) {
@@ -96,7 +96,7 @@ fn name_over<D: Disk>(
     mut journal: Journal<D>,
     file: u8,
     limit: u64,
-) -> Result<BaseStore<D>, OpenRefused<D>>
+) -> Result<Store<D>, OpenRefused<D>>
     requires two { file < 2 }
     requires in_file { journals.file_of journal ≡ file }
     requires under { journals.limit_of journal ≡ limit }
@@ -110,20 +110,20 @@ fn name_over<D: Disk>(
         Leaves ROOT Anyhow Anyhow (D.sight (journals.disk_of journal)) (D.sight (disk_of store))) }
     ensures run_err { IfErr result (λ refused.
         Leaves ROOT Anyhow Anyhow (D.sight (journals.disk_of journal)) (D.sight (disk_in refused))) }
-    ensures later { IfOk result (λ store. D.faults (journals.disk_of journal) ≤ D.faults (disk_of store)) }
+    ensures no_other { IfOk result (λ store. D.faults (disk_of store) ≡ D.faults (journals.disk_of journal)) }
     ensures stopped { IfErr result (IsStopped D.Disk (journals.disk_of journal)) }
 {
     match journal.root(file) {
-        Ok(()) => Ok(BaseStore::over(journal, file, limit)),
+        Ok(()) => Ok(Store::over(journal, file, limit)),
         Err(_) => Err(OpenRefused::Failed(journal.close())),
     }
 }
 
-impl<D: Disk> BaseStore<D> {
+impl<D: Disk> Store<D> {
     /// Puts a base in the place of all that is held: it makes the other file with the base, each body as it is encoded,
     /// and seals it, and then lets the root name that file. It needs one sync of the file and one of the root. An
     /// error hands the disk back.
-    pub fn checkpoint(self, alloc: Global, base: &Base) -> Result<BaseStore<D>, OpenRefused<D>>
+    pub fn checkpoint(self, alloc: Global, base: &Base) -> Result<Store<D>, OpenRefused<D>>
         requires sure { is_unsure self ≡ false }
         requires limit { limit_of self ≤ JOURNAL_LIMIT }
         requires spelled { HasSnapshot editions.Second base.now }
@@ -143,7 +143,7 @@ impl<D: Disk> BaseStore<D> {
             LeavesBy (HeldOr h (only base.now)) (HeldOr h (only base.now))
             (D.sight (disk_of self)) (D.sight (disk_in refused))) }
 
-        ensures later { IfOk result (λ store. D.faults (disk_of self) ≤ D.faults (disk_of store)) }
+        ensures no_other { IfOk result (λ store. D.faults (disk_of store) ≡ D.faults (disk_of self)) }
         ensures stopped { IfErr result (IsStopped D.Disk (disk_of self)) }
     {
         let (journal, file, limit) = self.parts();

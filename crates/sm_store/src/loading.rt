@@ -1,10 +1,9 @@
 //! What a list of bodies holds, without the disk.
-ghost use Rattle.std.specs.Prelude.{◌≡◌, ◌≤◌, ◌<◌, ◌+◌, ◌^◌, ℕ, map, length, take, drop, IfOk, Err};
+ghost use Rattle.std.specs.Prelude.{◌≡◌, ◌≤◌, ◌<◌, ◌+◌, ◌^◌, ℕ, length, take, drop, IfOk, Err};
 ghost use Rattle.sm_journal.specs.Records.{size, place_behind};
 ghost use Rattle.sm_journal.specs.declared.parse.Damage.{Damage};
-ghost use Rattle.sm_record.specs.Spelling.{spelling};
-ghost use Rattle.sm_store.specs.Held.{AreEntries, IsSnapshot, base_bodies};
-ghost use Rattle.sm_store.specs.BaseOpenings.{Loads};
+ghost use Rattle.sm_store.specs.Held.{IsSnapshot, base_bodies};
+ghost use Rattle.sm_store.specs.Openings.{LoadsUpTo};
 ghost use Rattle.sm_store.specs.Loading as loading;
 
 use crate::entries::EntriesRefused;
@@ -128,20 +127,19 @@ fn base_before(
     }
 }
 
-/// The entries that the bodies behind the first spell, so many, of which the first has its gate at this place.
+/// The entries that the bodies behind the first spell, so many, up to the first body that is no entry's spelling, and
+/// where that is. The first of them has its gate at this place.
 fn entries_behind(
     alloc: Global,
     edition: Edition,
     bodies: &Records,
     count: usize,
     gate: u64,
-) -> Result<List<Entry>, EntriesRefused>
+) -> Result<(List<Entry>, Option<Damage>), NoMemory>
     requires within { count ≤ length bodies.now }
     requires place { gate + size (drop count bodies.now) < 2 ^ 64 }
-    ensures list { IfOk result (λ list. AreEntries edition list
-        × (drop count bodies.now ≡ map (spelling edition) list)) }
-    ensures damaged { (damage : Damage) → result ≡ Err (EntriesRefused.Damaged damage) →
-        loading.IsNoEntryIn edition (drop count bodies.now) gate count damage.at damage.entry }
+    ensures { IfOk result (λ found.
+        loading.ReadsUpTo edition (drop count bodies.now) gate count found.0 found.1) }
 {
     let mut list = Vec::new(alloc);
     let mut at = gate;
@@ -151,30 +149,34 @@ fn entries_behind(
             Ok(entry) => list.push(entry)?,
             Err(DecodeRefused::NoEntry(_)) => {
                 let entry = (count + number) as u64;
-                return Err(EntriesRefused::Damaged(Damage { at, entry }));
+                return Ok((List::new(list), Some(Damage { at, entry })));
             }
-            Err(DecodeRefused::Memory) => return Err(EntriesRefused::Memory),
+            Err(DecodeRefused::Memory) => return Err(NoMemory),
         }
         at += record_size(bytes);
     }
-    Ok(List::new(list))
+    Ok((List::new(list), None))
 }
 
-/// What these bodies hold, in a file of this number: the first of them that are of rows a base, and the others entries.
+/// What these bodies hold, in a file of this number: the first of them that are of rows a base, and the others entries,
+/// up to the first that is no entry's spelling, and where that is.
 pub fn load(
     alloc: Global,
     edition: Edition,
     file: u8,
     bodies: &Records,
-) -> Result<Loaded, EntriesRefused>
+) -> Result<(Loaded, Option<Damage>), EntriesRefused>
     requires { place_behind bodies.now < 2 ^ 64 }
-    ensures loaded { IfOk result (Loads edition file bodies.now) }
+    ensures loaded { IfOk result (λ found. LoadsUpTo edition file bodies.now found.0 found.1) }
     ensures damaged { (damage : Damage) → result ≡ Err (EntriesRefused.Damaged damage) →
-        loading.IsUnheld edition bodies.now damage.at damage.entry }
+        loading.IsNoBase edition bodies.now damage.at damage.entry }
 {
     let count = marked_count(bodies);
     match base_before(alloc, edition, bodies, count) {
-        Ok(base) => load_behind(alloc, edition, file, base, bodies, count),
+        Ok(base) => match load_behind(alloc, edition, file, base, bodies, count) {
+            Ok(found) => Ok(found),
+            Err(NoMemory) => Err(EntriesRefused::Memory),
+        },
         Err(refused) => Err(refused),
     }
 }
@@ -187,23 +189,23 @@ fn load_behind(
     base: Option<Base>,
     bodies: &Records,
     count: usize,
-) -> Result<Loaded, EntriesRefused>
-    requires within { count ≤ length bodies.now }
+) -> Result<(Loaded, Option<Damage>), NoMemory>
+    requires count { count ≡ loading.marked_count bodies.now }
     requires place { place_behind bodies.now < 2 ^ 64 }
     requires base { IsSnapshot edition base × (take count bodies.now ≡ base_bodies edition base) }
-    ensures loaded { IfOk result (Loads edition file bodies.now) }
-    ensures damaged { (damage : Damage) → result ≡ Err (EntriesRefused.Damaged damage) →
-        loading.IsNoEntryIn edition (drop count bodies.now) (place_behind (take count bodies.now))
-        (length (take count bodies.now)) damage.at damage.entry }
+    ensures { IfOk result (λ found. LoadsUpTo edition file bodies.now found.0 found.1) }
 {
     let gate = place_behind(bodies, count);
     match entries_behind(alloc, edition, bodies, count, gate) {
-        Ok(entries) => Ok(Loaded {
-            base,
-            entries,
-            file,
-            gate,
-        }),
-        Err(refused) => Err(refused),
+        Ok((entries, damage)) => {
+            let loaded = Loaded {
+                base,
+                entries,
+                file,
+                gate,
+            };
+            Ok((loaded, damage))
+        }
+        Err(NoMemory) => Err(NoMemory),
     }
 }

@@ -1,7 +1,8 @@
 //! Laws of what is opened and given, over any run of calls.
 ghost use Rattle.std.specs.Prelude.{◌≡◌};
-ghost use Rattle.sm_visits.specs.Visits.{nothing_arrived, OpensInOneWay};
+ghost use Rattle.sm_visits.specs.Visits.{ArrivalsState, nothing_arrived, OpensInOneWay};
 ghost use Rattle.sm_visits.specs.Histories.{nothing_happened, Told};
+ghost use Rattle.sm_visits.specs.Places.{ThereAtFirst, ThereAtPrepare, ThereAtInsert, ThereAtChange, ThereAtTake, ThereAtPutBack, ThereAtRemove, FoundIsTold, BytesAtInsert, BytesAtChange, BytesAtTake, BytesAtRemove};
 ghost use Rattle.sm_visits.specs.Laws.{ToldAtPush, ToldAtVisit, ToldAtOpen, ToldAtGive, VisitIsWhole, LastVisitIsRead, MessageHasBytes, EndedAtPush, EndedAtVisit, EndedAtOpen, EndedAtGive};
 
 use crate::arrivals::{CONNECTION_LIMIT, VISIT_LIMIT};
@@ -42,4 +43,27 @@ pub fn the_last_stays()
     ensures visit { EndedAtVisit }
     ensures open { EndedAtOpen }
     ensures give { EndedAtGive }
+{}
+
+/// Each call keeps this of all connections that came to a worker: each that was not removed is at the place that it was
+/// given, as the calls for that place left it, and no other has that place. A visit, a change or a removal leaves all
+/// others as they are.
+pub fn each_is_there<C>()
+    ensures begins { ThereAtFirst C }
+    ensures prepare { ThereAtPrepare C }
+    ensures insert { ThereAtInsert C }
+    ensures change { ThereAtChange C }
+    ensures take { ThereAtTake C }
+    ensures back { ThereAtPutBack C }
+    ensures remove { ThereAtRemove C }
+{}
+
+/// Each call keeps this of the bytes: those of the connection at a place are what came there since the place was given
+/// to it, whatever came on others. Each was given once or waits.
+pub fn bytes_are_their_own<C>()
+    ensures found { (arrivals : C → ArrivalsState) → FoundIsTold arrivals }
+    ensures insert { (arrivals : C → ArrivalsState) → BytesAtInsert arrivals }
+    ensures change { (arrivals : C → ArrivalsState) → BytesAtChange arrivals }
+    ensures take { (arrivals : C → ArrivalsState) → BytesAtTake arrivals }
+    ensures remove { (arrivals : C → ArrivalsState) → BytesAtRemove arrivals }
 {}

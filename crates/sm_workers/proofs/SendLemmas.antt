@@ -12,7 +12,7 @@ use Rattle.sm_disk.specs.declared.disk.Disk.{Ghosts as DiskGhosts}
 use Rattle.sm_model.proofs.entry.Entry.TheSendSync as entry
 use Rattle.sm_record.proofs.base.Base.TheSendSync as base
 use Rattle.sm_rotator.specs.declared.rotator.Rotator.{Ghosts as RotatorGhosts}
-use Rattle.sm_store.proofs.base_store.BaseStore.TheSendSync as store
+use Rattle.sm_store.proofs.store.Store.TheSendSync as store
 use Rattle.sm_table.proofs.table.Table.TheSendSync as table
 
 account_state_field_send : (D : RattleType) (d : DiskGhosts D.Denot) → IsSend D → IsSend (inner.the_field D d).row
@@ -54,5 +54,5 @@ account_send D R d r sent =
     recorded_send (account.the_field D R d r).row _ _ (account.the_type D R d r).to_one
     (struct_send (shape (account.the_type D R d r)) (
       account_state_field_send D d sent,
-      (plain_send _ _ _ _ _, (search sendable, tt)),
+      (plain_send _ _ _ _ _, (plain_send _ _ _ _ _, (search sendable, tt))),
     ))

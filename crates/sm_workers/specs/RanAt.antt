@@ -4,7 +4,7 @@ use Rattle.sm_disk.specs.declared.disk.Disk.{Ghosts as DiskGhosts}
 use Rattle.sm_lock.specs.declared.storied.Storied.{Ghosts}
 use Rattle.sm_model.specs.declared.entry.Mark.{Mark}
 use Rattle.sm_rotator.specs.declared.rotator.Rotator.{Ghosts as RotatorGhosts}
-use Rattle.sm_account.specs.Accounts.{base, history, began, taken}
+use Rattle.sm_account.specs.Accounts.{base, history, began, doors_at_opening, taken}
 use Rattle.sm_account.specs.declared.account.Account.{Account}
 use Rattle.sm_principal.specs.declared.people.People.{People}
 use Rattle.sm_workers.specs.Closed.{Closed}
@@ -21,4 +21,5 @@ module _ {E K C W R A O D : Type 0} {g : Ghosts A O Mark} {G : DiskGhosts D} {V 
     pub taken_stays : taken after ≡ taken before
     pub began_stays : began after ≡ began before
     pub base_stays : base after ≡ base before
+    pub doors_stay : doors_at_opening after ≡ doors_at_opening before
     pub left : All HasNoPass new

@@ -37,7 +37,8 @@ returns-in-Ok g c = record {
   kept = c.make.ensures.kept;
   enters = made_so (passed_at (state_in c.args.inner.now) c.args.due.entry) (sym c.passed_limit.ensures ∙ c.in-None.is);
   leaves = entry_made c.args.inner.now c.make.new.inner c.args.seat c.args.due.entry c.make.ensures.origin
-      c.make.ensures.any_moment c.make.ensures.cause.later c.in-Ok.ensures.history (c.in-Ok.ensures.sure refl);
+      c.make.ensures.any_moment c.make.ensures.cause.later c.in-Ok.ensures.history (c.in-Ok.ensures.sure refl)
+      (c.in-Ok.ensures.cause.no_other refl);
 }
 
 pub returns-in-Err : goal.returns-in-Err

@@ -25,7 +25,7 @@ consider-requires g c = record {
 pub grow_request-requires : goal.grow_request-requires
 grow_request-requires g c =
     let inner = c.args.inner.now in
-    let request = c.args.request.now in
+    let request = c.args.tested.request.now in
     let change = of_change c.in-Accept.reply c.in-Accept.change c.in-Some.change c.in-Some.is in
     let legal = change
     (λ _. LegalAct inner.table (pruning (record { 0 = c.max.result })) c.args.drawn.now (Asked request))
@@ -45,7 +45,7 @@ finish-requires g c =
     let inner = c.args.inner.now in
     let mid = c.grow_request.new.inner in
     let drawn = c.args.drawn.now in
-    let request = c.args.request.now in
+    let request = c.args.tested.request.now in
     let entry = asked_entry (record { 0 = c.max.result }) c.args.person.now drawn request in
     let change = of_change c.in-Accept.reply c.in-Accept.change c.in-Some.change c.in-Some.is in
     record {
@@ -70,7 +70,7 @@ returns-in-None g c =
       person = c.args.person.now;
       now = c.args.now;
       drawn = c.args.drawn.now;
-      request = c.args.request.now;
+      request = c.args.tested.request.now;
     } in
     record {
       kept = c.requires.kept;
@@ -84,7 +84,7 @@ returns-in-Refuse g c =
       person = c.args.person.now;
       now = c.args.now;
       drawn = c.args.drawn.now;
-      request = c.args.request.now;
+      request = c.args.tested.request.now;
     } in
     record {
       kept = c.requires.kept;
@@ -112,7 +112,7 @@ returns-in-Ok g c =
       person = c.args.person.now;
       now = c.args.now;
       drawn = c.args.drawn.now;
-      request = c.args.request.now;
+      request = c.args.tested.request.now;
     } in
     record {
       kept = c.finish.ensures.kept;

@@ -4,7 +4,7 @@ use Rattle.sm_model.specs.declared.entry.Mark.TheVariants.{Entry, Fault}
 use Rattle.sm_base.specs.Faults.{Rose}
 use Rattle.sm_table.specs.Sound.{ChangeSound, Sound}
 use Rattle.sm_table.specs.Sweep.{sweep}
-use Rattle.sm_store.specs.BaseStores as stores
+use Rattle.sm_store.specs.Stores as stores
 use Rattle.sm_account.specs.AccountState.{history_in, all_held, disk_in}
 use Rattle.sm_account.specs.Crashes.{Throughout}
 use Rattle.sm_account.proofs.MakeLemmas.{entered_origin, entered_kept, failed_stays, faulted_origin, faulted_state, unmended_kept, torn_kept, behind_commit, behind_entries, behind_fault, behind_tear, behind_history}
@@ -42,7 +42,11 @@ returns-in-Ok g c =
       any_moment =
           subst (λ s. Throughout g.D.Disk (all_held old) old.failed.value due.entry (disk_in old) (stores.disk_of s))
           (sym stored) c.write_ready.ensures.any_moment;
-      cause = record { later = later; failed = λ is. absurd (cc) };
+      cause = record {
+        later = later;
+        failed = λ is. absurd (cc);
+        no_other = λ _. ap (λ s. g.D.Disk.faults (stores.disk_of s)) stored ∙ c.in-Ok.ensures.no_other;
+      };
     }
 
 pub returns-in-Unmended : goal.returns-in-Unmended
@@ -76,6 +80,7 @@ returns-in-Unmended g c =
             c.write_ready.ensures.later;
         failed = λ is. subst (λ s. Rose (g.D.Disk.faults (disk_in old)) (g.D.Disk.faults (stores.disk_of s)))
             (sym stored) c.in-Unmended.ensures.failed;
+        no_other = λ is. absurd (false≢true is);
       };
     }
 
@@ -109,5 +114,6 @@ returns-in-Torn g c =
             c.write_ready.ensures.later;
         failed = λ is. subst (λ s. Rose (g.D.Disk.faults (disk_in old)) (g.D.Disk.faults (stores.disk_of s)))
             (sym stored) c.in-Torn.ensures.failed;
+        no_other = λ is. absurd (false≢true is);
       };
     }

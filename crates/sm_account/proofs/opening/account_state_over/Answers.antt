@@ -1,5 +1,5 @@
 use Rattle.std.proofs.Common.{refl, ap, ◌∙◌}
-use Rattle.sm_opening.specs.Lawful.{base_under}
+use Rattle.sm_recovery.specs.Lawful.{base_under}
 use Rattle.sm_store.specs.Held.{Held}
 use Rattle.sm_account.proofs.OpenLemmas.{opened_kept}
 use Rattle.sm_account.proofs.opening.account_state_over.Goals as goal

@@ -55,3 +55,9 @@ returns-in-Failed-clause-later g c = c.append.ensures.later
 
 pub returns-in-Failed-clause-failed : goal.returns-in-Failed-clause-failed
 returns-in-Failed-clause-failed g c = c.in-Failed.ensures.failed refl
+
+pub returns-in-Ok-clause-no_other : goal.returns-in-Ok-clause-no_other
+returns-in-Ok-clause-no_other g c = c.in-Ok.ensures.no_other
+
+pub returns-in-Failed-clause-no_other : goal.returns-in-Failed-clause-no_other
+returns-in-Failed-clause-no_other g c = tt

@@ -1,6 +1,6 @@
-use Rattle.std.proofs.Common.{inl, inr, ◌∙◌, arith}
-use Rattle.sm_store.specs.BaseStores.{disk_of}
-use Rattle.sm_account.proofs.WriteLemmas.{same_through, writes_behind}
+use Rattle.std.proofs.Common.{inl, inr, refl, ◌∙◌, arith}
+use Rattle.sm_store.specs.Stores.{disk_of}
+use Rattle.sm_account.proofs.WriteLemmas.{same_through, stays_through, writes_behind}
 use Rattle.sm_account.proofs.writing.write.Goals as goal
 
 pub append-requires-clause-format : goal.append-requires-clause-format
@@ -29,3 +29,7 @@ returns-in-Ok-clause-any_moment g c = λ e spells h failed was.
 
 pub returns-in-Err-clause-any_moment : goal.returns-in-Err-clause-any_moment
 returns-in-Err-clause-any_moment g c = λ e spells h failed was. inl (c.mend.ensures.recovered h failed was)
+
+pub returns-in-Ok-clause-no_other : goal.returns-in-Ok-clause-no_other
+returns-in-Ok-clause-no_other g c =
+    stays_through _ _ _ c.append.result (c.in-Ok.ensures.cause.no_other refl) c.append.ensures.no_other

@@ -27,6 +27,7 @@ returns-in-Ok g c =
         clock = c.now-now.ensures.told;
         failed = c.get.ensures.failed;
         later = c.get.ensures.later;
+        no_other = c.get.ensures.no_other;
       },
     )
 
@@ -39,5 +40,5 @@ returns-in-Err g c = (
     replies = refuses (request_of c.args.method.now c.args.path.now) c.in-Err.refused c.refused_reply.result
         c.in-Err.ensures c.refused_reply.ensures;
   },
-  record { upstream = refl; clock = refl; failed = tt; later = omega arith },
+  record { upstream = refl; clock = refl; failed = tt; later = omega arith; no_other = refl },
 )

@@ -1,7 +1,7 @@
 use Rattle.sm_table.specs.Changes.{CanMake, StandsAt}
 use Rattle.sm_table.specs.Sound.{ChangeSound}
 use Rattle.sm_table.specs.Sweep.{sweep}
-use Rattle.sm_judging.proofs.JudgedLemmas.{if_change_then}
+use Rattle.sm_judge_common.proofs.JudgedLemmas.{if_change_then}
 use Rattle.sm_judge_lists_and_passwords.specs.BatchGetSecretValue.{value_question}
 use Rattle.sm_core.specs.Effects.{entry_of, Makes}
 use Rattle.sm_core.proofs.JudgingLemmas.{judges, judgement_is_no_memory}

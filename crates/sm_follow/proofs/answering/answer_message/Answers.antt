@@ -1,5 +1,5 @@
 use Rattle.std.proofs.Common.{◌≡◌, [], ◌∷◌, Result, Ok, Err, inl, refl, sym, subst}
-use Rattle.sm_frames.specs.declared.input.Input.TheVariants as inputs
+use Rattle.sm_replication.specs.declared.input.Input.TheVariants as inputs
 use Rattle.sm_http.specs.Messages.{Message}
 use Rattle.sm_model.specs.declared.why.Why.{Why}
 use Rattle.sm_reply.specs.Shown.{refused}

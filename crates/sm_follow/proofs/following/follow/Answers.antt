@@ -1,5 +1,5 @@
-use Rattle.sm_store.specs.BaseOpenings.{held_of}
-use Rattle.sm_store.specs.BaseStores.{disk_of, format_of}
+use Rattle.sm_store.specs.Openings.{held_of}
+use Rattle.sm_store.specs.Stores.{disk_of, format_of}
 use Rattle.sm_follow.specs.Disks.{first_state}
 use Rattle.sm_follow.specs.Streams.{Around, around_by}
 use Rattle.sm_follow.proofs.DiskLemmas.{followed_over}
@@ -21,6 +21,9 @@ returns-in-Ok-clause-followed g c =
     c.follow_source.new.clock in
     followed_over g.D.Disk c.args.people.now c.args.region c.follow_source.result.0 before after c.args.disk
     (disk_of c.in-Ok.store) c.follow_source.result.1 (format_of c.in-Ok.store) held opened.found opened.any_moment
-    opened.later
+    opened.no_other
     (c.follow_source.ensures.followed (first_state c.args.region held)
     (record { replica = c.new-replica.ensures; store = opened.opened })) c.follow_source.ensures.disk_later
+
+pub returns-in-Err-clause-refused : goal.returns-in-Err-clause-refused
+returns-in-Err-clause-refused g c = c.told.ensures c.args.disk c.in-Err.ensures.refused

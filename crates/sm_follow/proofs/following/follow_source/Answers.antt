@@ -1,5 +1,5 @@
 use Rattle.std.proofs.Common.{ap, refl, arith}
-use Rattle.sm_frames.specs.Reading.{FrameReaderState}
+use Rattle.sm_replication.specs.Reading.{FrameReaderState}
 use Rattle.sm_follow.specs.Disks.{disk_in}
 use Rattle.sm_follow.specs.Streams.{Around, around_by}
 use Rattle.sm_follow.proofs.CourseLemmas.{Place, course_first}

@@ -1,5 +1,5 @@
 use Rattle.std.proofs.Common.{refl}
-use Rattle.sm_frames.specs.declared.reader.NextFrame.TheVariants as next
+use Rattle.sm_replication.specs.declared.reader.NextFrame.TheVariants as next
 use Rattle.sm_follow.proofs.following.next_input.Goals as goal
 
 pub returns-in-Input-clause-reads : goal.returns-in-Input-clause-reads

@@ -1,5 +1,5 @@
-use Rattle.std.proofs.Common.{refl, subst}
-use Rattle.sm_store.specs.BaseStores.{IsOpened, disk_of}
+use Rattle.std.proofs.Common.{refl, subst, arith}
+use Rattle.sm_store.specs.Stores.{IsOpened, disk_of}
 use Rattle.sm_store.specs.Held.{only}
 use Rattle.sm_follow.proofs.DiskLemmas.{refused_later, refused_puts, refused_sure}
 use Rattle.sm_follow.proofs.promoting.put_base.Goals as goal
@@ -28,3 +28,6 @@ pub returns-in-Err-clause-later : goal.returns-in-Err-clause-later
 returns-in-Err-clause-later g c =
     refused_later (disk_of c.args.follower.store) c.in-Err.refused c.end_refused.result c.in-Err.ensures.stopped
     c.end_refused.ensures
+
+pub returns-in-Ok-clause-later : goal.returns-in-Ok-clause-later
+returns-in-Ok-clause-later g c = omega (arith, c.in-Ok.ensures.no_other)

@@ -1,6 +1,6 @@
 use Rattle.std.proofs.Common.{[], sym, subst}
-use Rattle.sm_frames.specs.declared.input.Input.{Input}
-use Rattle.sm_frames.specs.Frames.{IsFrame}
+use Rattle.sm_replication.specs.declared.input.Input.{Input}
+use Rattle.sm_replication.specs.Frames.{IsFrame}
 use Rattle.sm_io.proofs.Known.{append_known-nil}
 use Rattle.sm_follow.specs.Disks.{ComesTo, disk_in}
 use Rattle.sm_follow.proofs.turns.turn.Goals as goal

@@ -2,7 +2,7 @@ use Rattle.std.proofs.Common.{arith, refl, subst}
 use Rattle.sm_http.specs.declared.answer.Stop.TheVariants as stop
 use Rattle.sm_http.specs.Messages.{StartsBadly}
 use Rattle.sm_http.proofs.AheadLemmas.{moves_none}
-use Rattle.sm_http.proofs.ReaderLemmas.{awaited_len, awaited_head, awaited_partial, awaited_some, awaited_there, found_stop}
+use Rattle.sm_http.proofs.ReaderLemmas.{awaited_len, awaited_head, awaited_partial, awaited_some, awaited_there, found_stays, found_stop}
 use Rattle.sm_http.proofs.reader.find_body.Goals as goal
 
 pub take_message-requires-clause-whole : goal.take_message-requires-clause-whole
@@ -53,3 +53,6 @@ pub returns-in-Memory-clause-still : goal.returns-in-Memory-clause-still
 returns-in-Memory-clause-still g c =
     λ whole. c.await_bytes.ensures.still
     (awaited_there _ _ _ _ _ _ c.as_slice.ensures c.requires.within c.in-Whole.ensures.0 whole)
+
+pub returns-in-Got-clause-no_other : goal.returns-in-Got-clause-no_other
+returns-in-Got-clause-no_other g c = found_stays _ _ _ c.in-Got.ensures.no_other

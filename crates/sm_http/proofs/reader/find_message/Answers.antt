@@ -1,6 +1,6 @@
 use Rattle.std.proofs.Common.{◌∙◌, inl, subst, sym}
 use Rattle.sm_http.specs.Messages.{IsPartial}
-use Rattle.sm_http.proofs.ReaderLemmas.{found_later}
+use Rattle.sm_http.proofs.ReaderLemmas.{found_later, found_since}
 use Rattle.sm_http.proofs.reader.find_message.Goals as goal
 
 pub returns-in-Head-clause-found : goal.returns-in-Head-clause-found
@@ -23,3 +23,7 @@ returns-in-Memory-clause-still g c = λ whole. (c.seek_head.ensures.still (λ la
 
 pub returns-else-len-eq0-clause-still : goal.returns-else-len-eq0-clause-still
 returns-else-len-eq0-clause-still g c = λ whole. (c.seek_head.ensures.still (λ lacks. whole (inl lacks))).0
+
+pub returns-in-Head-clause-no_other : goal.returns-in-Head-clause-no_other
+returns-in-Head-clause-no_other g c =
+    found_since _ _ _ _ c.in-Head.ensures.no_other c.find_body.ensures.no_other

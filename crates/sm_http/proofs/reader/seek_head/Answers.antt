@@ -16,7 +16,7 @@ loop-ahead-preserved g c =
     let none : head_length c.loop-ahead.ahead ≡ None
     = sym (c.in-None.ensures.value ∙ ap head_length c.as_slice.ensures) in (
       moves_more _ _ _ _ _ _ before.0 step.moves,
-      omega (arith, step.later),
+      cc (step.no_other, before.1),
       cc (step.beside, before.2),
       subst (λ bytes. Passed c.saturating_sub-passed.result (take head_limit bytes)) (sym step.moves.grows)
           (passed_more c.loop-ahead.ahead step.moves.taken c.saturating_sub-passed.result none (omega arith)

@@ -10,6 +10,6 @@ loop-at-preserved g c =
       step.there,
       prepend_known-piece _ _ _ c.loop-at.vec.items c.take_at.new.vec.items c.loop-at.at c.in-Ok.count before.2
           step.front step.bytes,
-      omega (arith, step.later),
+      cc (step.no_other, before.3),
       cc (step.beside, before.4),
     )

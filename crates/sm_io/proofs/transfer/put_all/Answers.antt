@@ -9,6 +9,6 @@ loop-at-preserved g c =
       omega (arith, step.within),
       append_known-piece _ _ _ c.args.piece.now c.loop-at.at c.in-Put.count before.1
           step.bytes,
-      omega (arith, step.later),
+      cc (step.no_other, before.2),
       cc (step.beside, before.3),
     )

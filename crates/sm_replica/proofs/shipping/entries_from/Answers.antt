@@ -1,5 +1,5 @@
 use Rattle.std.proofs.Common.{◌≤◌, ◌-◌, ◌++◌, ◌∷◌, [], min, length, ap, ◌∙◌, arith}
-use Rattle.sm_frames.specs.declared.frame.TheConstants.{FRAME_ENTRIES}
+use Rattle.sm_replication.specs.declared.frame.TheConstants.{FRAME_ENTRIES}
 use Rattle.sm_model.specs.declared.entry.Entry.{Entry}
 use Rattle.sm_record.specs.declared.base.Base.{Base}
 use Rattle.sm_replica.specs.Shipped.{entries_of}

@@ -1,5 +1,5 @@
 use Rattle.std.proofs.Common.{Option, IfSome, sym, subst, ◌∙◌}
-use Rattle.sm_frames.specs.declared.frame.Frame.{Frame}
+use Rattle.sm_replication.specs.declared.frame.Frame.{Frame}
 use Rattle.sm_replica.specs.Shipped.{base_of, entries_of, IsShippable}
 use Rattle.sm_replica.proofs.ShipLemmas.{shipped_more}
 use Rattle.sm_replica.proofs.shipping.ship.Goals as goal

@@ -1,5 +1,5 @@
 use Rattle.std.proofs.Common.{arith}
-use Rattle.sm_opening.proofs.FollowLemmas.{none_come}
+use Rattle.sm_recovery.proofs.FollowLemmas.{none_come}
 use Rattle.sm_replica.proofs.taking.follow_one.Goals as goal
 
 pub returns-in-Err-Illegal : goal.returns-in-Err-Illegal

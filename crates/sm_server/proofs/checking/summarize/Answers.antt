@@ -3,7 +3,7 @@ use Rattle.sm_summary.specs.Summary.{IsSummary}
 use Rattle.sm_base.specs.Faults.{Rose}
 use Rattle.sm_model.specs.declared.rows.Rows.{Rows}
 use Rattle.sm_account.specs.Accounts.{all_of, rows}
-use Rattle.sm_opening.specs.Lawful.{made_of}
+use Rattle.sm_recovery.specs.Lawful.{made_of}
 use Rattle.sm_io.proofs.Known.{append_known-nil}
 use Rattle.sm_server.proofs.CheckLemmas.{shows_by}
 use Rattle.sm_server.proofs.checking.summarize.Goals as goal

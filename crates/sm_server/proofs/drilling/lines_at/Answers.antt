@@ -4,7 +4,7 @@ use Rattle.sm_core.specs.Histories.{replay}
 use Rattle.sm_account.specs.Accounts.{base, history, taken}
 use Rattle.sm_account.specs.History.{entries_in}
 use Rattle.sm_account.proofs.HeldLemmas.{made_count}
-use Rattle.sm_opening.specs.Lawful.{made_of}
+use Rattle.sm_recovery.specs.Lawful.{made_of}
 use Rattle.sm_drill.specs.Lines.{lines}
 use Rattle.sm_summary.specs.Summary.{totals_of}
 use Rattle.sm_server.specs.Drills.{totals_after}

@@ -2,7 +2,7 @@ use Rattle.std.proofs.Common.{ℕ, List, option_map, refl, subst}
 use Rattle.sm_base.specs.Faults.{Rose}
 use Rattle.sm_account.specs.Accounts.{base, disk, history, taken}
 use Rattle.sm_account.specs.States.{Base}
-use Rattle.sm_opening.specs.Lawful.{made_of}
+use Rattle.sm_recovery.specs.Lawful.{made_of}
 use Rattle.sm_store.specs.Held.{Held}
 use Rattle.sm_drill.specs.Lines.{lines, shown_by}
 use Rattle.sm_session.specs.Replies.{reply_of}

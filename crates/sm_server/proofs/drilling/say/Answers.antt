@@ -1,7 +1,7 @@
 use Rattle.std.proofs.Common.{◌≡◌, ℕ, List, [], refl, sym, subst, ◌∙◌, option_map}
 use Rattle.sm_base.specs.Faults.{Rose}
 use Rattle.sm_account.specs.Accounts.{base, history, taken}
-use Rattle.sm_opening.specs.Lawful.{made_of}
+use Rattle.sm_recovery.specs.Lawful.{made_of}
 use Rattle.sm_drill.specs.Lines.{lines, shown_by}
 use Rattle.sm_session.specs.Replies.{reply_of}
 use Rattle.sm_io.proofs.Known.{append_known-nil}

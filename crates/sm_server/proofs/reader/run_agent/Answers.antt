@@ -1,5 +1,5 @@
 use Rattle.std.proofs.Common.{inl, map, refl, string_bytes}
-use Rattle.sm_agent_stream.specs.Streams.{around_by}
+use Rattle.sm_agent_server.specs.Streams.{around_by}
 use Rattle.sm_command_line.specs.Reading.{settings_of}
 use Rattle.sm_server.proofs.ReaderLemmas.{agent_ran}
 use Rattle.sm_server.proofs.reader.run_agent.Goals as goal

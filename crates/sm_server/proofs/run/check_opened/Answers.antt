@@ -3,7 +3,7 @@ use Rattle.sm_base.specs.Faults.{Rose}
 use Rattle.sm_model.specs.declared.rows.Rows.{Rows}
 use Rattle.sm_account.specs.Accounts.{all_of, base, failed, history, rows, taken}
 use Rattle.sm_account.proofs.HeldLemmas.{made_count}
-use Rattle.sm_opening.specs.Lawful.{made_of}
+use Rattle.sm_recovery.specs.Lawful.{made_of}
 use Rattle.sm_account.specs.History.{entries_in}
 use Rattle.sm_core.specs.Histories.{replay}
 use Rattle.sm_server.specs.Checks.{Shows}

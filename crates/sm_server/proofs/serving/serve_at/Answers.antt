@@ -9,6 +9,7 @@ returns-in-Ok g c =
         taken_stays = at.taken_stays;
         began_stays = at.began_stays;
         base_stays = at.base_stays;
+        doors_stay = at.doors_stay;
         on_disk = c.invariants.ensures.on_disk;
         told = c.invariants.ensures.told;
         faults = c.invariants.ensures.faults;

@@ -2,7 +2,7 @@ use Rattle.std.proofs.Common.{List, [], inl, refl, sym, subst}
 use Rattle.sm_base.specs.Faults.{Rose}
 use Rattle.sm_io.proofs.Known.{append_known-nil}
 use Rattle.sm_account.specs.Accounts.{all_of}
-use Rattle.sm_frames.specs.declared.frame.Frame.{Frame}
+use Rattle.sm_replication.specs.declared.frame.Frame.{Frame}
 use Rattle.sm_server.specs.Ships.{PutsFrames, shipped_bytes}
 use Rattle.sm_server.proofs.PutLemmas.{ships_by}
 use Rattle.sm_server.proofs.shipping.ship_frames.Goals as goal

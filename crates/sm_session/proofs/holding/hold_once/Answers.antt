@@ -12,18 +12,18 @@ use Rattle.sm_session.proofs.holding.hold_once.Goals as goal
 
 pub leave-requires-clause-origin : goal.leave-requires-clause-origin
 leave-requires-clause-origin g c =
-    origin_stays c.value-2.result.now c.handle-handled.new.self c.handle-handled.ensures.origin
+    origin_stays c.value-2.result.now c.handle_tested-handled.new.self c.handle_tested-handled.ensures.origin
     ∙ ap origin_of (c.value-2.ensures.value ∙ c.value.ensures.value) ∙ c.enter-held.ensures.origin
 
 pub leave-requires-clause-entry : goal.leave-requires-clause-entry
 leave-requires-clause-entry g c =
-    let h = c.handle-handled in
+    let h = c.handle_tested-handled in
     let held = c.enter-held.result in
     let question : Question = record {
       person = c.args.person.now;
       now = c.now-now.result;
       drawn = c.args.drawn.now;
-      request = c.args.request.now;
+      request = c.args.tested.request.now;
     } in
     let wanted : Outcome = outcome (state c.value-2.result.now) question in
     let marks = marks_of h.result wanted in
@@ -35,13 +35,13 @@ leave-requires-clause-entry g c =
 
 pub returns-clause-holds : goal.returns-clause-holds
 returns-clause-holds g c =
-    let h = c.handle-handled in
+    let h = c.handle_tested-handled in
     let held = c.enter-held.result in
     let question : Question = record {
       person = c.args.person.now;
       now = c.now-now.result;
       drawn = c.args.drawn.now;
-      request = c.args.request.now;
+      request = c.args.tested.request.now;
     } in
     let before : History = history held.value.value in
     let stood : c.value-2.result.now ≡ held.value.value = c.value-2.ensures.value ∙ c.value.ensures.value in

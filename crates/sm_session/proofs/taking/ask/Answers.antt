@@ -1,14 +1,15 @@
-use Rattle.std.proofs.Common.{◌≡◌, ◌<◌, ◌∙◌, Ok, refl, ap, subst}
+use Rattle.std.proofs.Common.{◌≡◌, ◌<◌, ◌∙◌, Ok, length, refl, ap, subst}
 use Rattle.sm_base.specs.Faults.{Rose}
 use Rattle.sm_account.specs.Accounts.{base}
 use Rattle.sm_account.specs.Handled.{marks_of}
 use Rattle.sm_account.specs.Outcome.{Question, outcome}
 use Rattle.sm_account.specs.States.{Base, state_at}
 use Rattle.sm_lock.specs.Handles.{built_with, number, seen}
+use Rattle.sm_model.specs.declared.request.Request.{Request}
 use Rattle.sm_session.specs.declared.said.Said.TheVariants.{Memory}
 use Rattle.sm_session.specs.Answer.{Asked}
 use Rattle.sm_session.specs.Replies.{reply_of}
-use Rattle.sm_session.specs.Sessions.{Place, LocalState}
+use Rattle.sm_session.specs.Sessions.{Holds, Place, LocalState}
 use Rattle.sm_session.specs.Told.{told_once}
 use Rattle.sm_session.specs.Views.{local_state_by}
 use Rattle.sm_session.proofs.HoldLemmas.{fault_stands, is_touched, passed_behind, traced_by}
@@ -17,7 +18,21 @@ use Rattle.sm_session.proofs.taking.ask.Goals as goal
 
 pub returns-in-Bytes-clause-turn : goal.returns-in-Bytes-clause-turn
 returns-in-Bytes-clause-turn g c =
-    let held = c.hold_once-pass.ensures.holds in
+    let hold = c.hold_once-pass.result in
+    let held : (held : Holds (base (built_with c.args.gate.now)) (number c.args.pass) (record {
+      person = c.args.person.now;
+      now = hold.now;
+      drawn = c.as_slice.result.now;
+      request = c.args.request.now;
+    }) (seen c.args.pass) (seen hold.pass) hold.handled) × (hold.position ≡ length held.before) =
+    subst
+    (λ (r : Request). (held : Holds (base (built_with c.args.gate.now)) (number c.args.pass) (record {
+      person = c.args.person.now;
+      now = hold.now;
+      drawn = c.as_slice.result.now;
+      request = r;
+    }) (seen c.args.pass) (seen hold.pass) hold.handled) × (hold.position ≡ length held.before)) c.new-tested.ensures
+    c.hold_once-pass.ensures.holds in
     let asked : Asked = record { person = c.args.person.now; request = c.args.request.now } in
     let question : Question = record {
       person = c.args.person.now;

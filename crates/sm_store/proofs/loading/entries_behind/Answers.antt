@@ -1,11 +1,12 @@
-use Rattle.std.proofs.Common.{◌≡◌, ℕ, ◌+◌, ◌<◌, List, length, drop, length-drop, get_or, sym, ◌∙◌, ap, subst, Err, arith}
+use Rattle.std.proofs.Common.{ℕ, ◌+◌, ◌<◌, List, length, drop, length-drop, sym, ap, subst, Err, arith}
+use Rattle.sm_model.specs.declared.entry.Entry.{Entry}
 use Rattle.sm_store.specs.Loading.{IsNoEntryIn}
-use Rattle.sm_store.proofs.EntryRuns.{entries_push, at_fits, listed, next_list, next_at, no_entry_here, told_damage}
+use Rattle.sm_store.proofs.EntryRuns.{entries_push, at_fits, listed, next_list, next_at, no_entry_here}
 use Rattle.sm_store.proofs.LoadRuns.{body_behind}
 use Rattle.sm_store.proofs.loading.entries_behind.Goals as goal
 
-pub returns-in-Err-NoEntry-clause-damaged : goal.returns-in-Err-NoEntry-clause-damaged
-returns-in-Err-NoEntry-clause-damaged c =
+pub returns-in-Err-NoEntry : goal.returns-in-Err-NoEntry
+returns-in-Err-NoEntry c =
     let rest = drop c.args.count c.args.bodies.now in
     let lt : c.loop-number.number < length rest =
     omega (arith, c.loop-number-test.true, c.len.ensures, length-drop c.args.count c.args.bodies.now) in
@@ -14,9 +15,10 @@ returns-in-Err-NoEntry-clause-damaged c =
     let number = listed c.args.edition rest c.args.gate c.args.count c.loop-number.list.items c.loop-number.number
     c.loop-number.at c.body-bytes.result.now lt is c.loop-number.invariant.0 c.loop-number.invariant.1
     c.loop-number.invariant.2 in
-    λ damage same. told_damage (IsNoEntryIn c.args.edition rest c.args.gate c.args.count) _ damage same
-    (subst (λ (n : ℕ). IsNoEntryIn c.args.edition rest c.args.gate c.args.count c.loop-number.at (c.args.count + n))
-    number
+    subst (λ (list : List Entry). IsNoEntryIn c.args.edition list rest c.args.gate c.args.count c.loop-number.at
+    (c.args.count + c.loop-number.number)) (sym c.new.ensures)
+    (subst (λ (n : ℕ). IsNoEntryIn c.args.edition c.loop-number.list.items rest c.args.gate c.args.count
+    c.loop-number.at (c.args.count + n)) number
     (no_entry_here c.args.edition rest c.args.gate c.args.count c.loop-number.list.items c.loop-number.number
     c.loop-number.at c.body-bytes.result.now lt is c.loop-number.invariant.0 c.loop-number.invariant.1
     c.loop-number.invariant.2 (c.in-Err-NoEntry.ensures.no_entry c.in-Err-NoEntry.field-0-0

@@ -1,23 +1,13 @@
-use Rattle.std.proofs.Common.{ap, arith}
+use Rattle.std.proofs.Common.{arith}
 use Rattle.std.proofs.lemmas.List.Sums.{prefix_len-le-length}
 use Rattle.sm_store.specs.Loading.{is_marked}
 use Rattle.sm_store.specs.declared.entries.EntriesRefused.TheVariants.{Damaged}
-use Rattle.sm_store.proofs.LoadRuns.{no_base, no_entry, same_refusal}
+use Rattle.sm_store.proofs.LoadRuns.{no_base, same_refusal}
 use Rattle.sm_store.proofs.loading.load.Goals as goal
 
 pub base_before-requires : goal.base_before-requires
 base_before-requires c =
     omega (arith, c.marked_count-count.ensures, prefix_len-le-length is_marked c.args.bodies.now)
-
-pub load_behind-requires-clause-within : goal.load_behind-requires-clause-within
-load_behind-requires-clause-within c =
-    omega (arith, c.marked_count-count.ensures, prefix_len-le-length is_marked c.args.bodies.now)
-
-pub returns-in-Ok-clause-damaged : goal.returns-in-Ok-clause-damaged
-returns-in-Ok-clause-damaged c damage same =
-    no_entry c.args.edition c.args.bodies.now c.marked_count-count.result c.in-Ok.base damage.at damage.entry
-    c.marked_count-count.ensures c.in-Ok.ensures.base.0 c.in-Ok.ensures.base.1
-    (c.load_behind.ensures.damaged damage same)
 
 pub returns-in-Err-clause-damaged : goal.returns-in-Err-clause-damaged
 returns-in-Err-clause-damaged c damage same =

@@ -1,5 +1,5 @@
 use Rattle.std.proofs.Common.{ap, sym, subst, ◌∙◌}
-use Rattle.sm_account.specs.Accounts.{base, history, began, taken}
+use Rattle.sm_account.specs.Accounts.{base, history, began, doors_at_opening, taken}
 use Rattle.sm_account.specs.States.{base_of}
 use Rattle.sm_lock.specs.Handles.{built_with}
 use Rattle.sm_workers.specs.Closed.{Closed}
@@ -33,5 +33,6 @@ returns-in-Ok-clause-ran g c =
       taken_stays = ap (λ o. o.taken) origin ∙ ap (λ a. taken a) built.gate.0;
       began_stays = ap (λ o. o.began) origin ∙ ap (λ a. began a) built.gate.0;
       base_stays = ap (λ o. base_of o.taken o.limit) origin ∙ ap (λ a. base a) built.gate.0;
+      doors_stay = ap (λ o. o.doors) origin ∙ ap (λ a. doors_at_opening a) built.gate.0;
       left = ran.ensures.left;
     }

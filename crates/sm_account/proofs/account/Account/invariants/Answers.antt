@@ -1,4 +1,4 @@
-use Rattle.sm_store.proofs.BaseStands.{holds_recover}
+use Rattle.sm_store.proofs.StoreStands.{holds_recover}
 use Rattle.sm_account.specs.Accounts.{all_of, failed}
 use Rattle.sm_account.proofs.VouchLemmas.{kept_vouched}
 use Rattle.sm_account.proofs.account.Account.invariants.Goals as goal

@@ -24,5 +24,5 @@ returns g c =
       next = next_told old.inner new c.args.seat c.args.now old.kept c.next_work.result c.next_work.ensures.next;
       leaves = claimed_told old.inner new c.args.seat c.args.now old.kept c.next_work.result
           c.next_work.ensures.leaves;
-      origin = same_origin old _ c.next_work.ensures.leaves.origin refl;
+      origin = same_origin old _ c.next_work.ensures.leaves.origin refl refl;
     }

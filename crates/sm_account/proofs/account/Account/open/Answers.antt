@@ -1,5 +1,4 @@
-use Rattle.std.proofs.Common.{◌≤◌, subst, sym}
-use Rattle.sm_store.specs.BaseStores as stores
+use Rattle.std.proofs.Common.{ap, subst, arith}
 use Rattle.sm_account.specs.Openings.{IsAccountStateOver}
 use Rattle.sm_account.proofs.FreshLemmas.{fresh_allowed}
 use Rattle.sm_account.proofs.OpenLemmas.{opened_over, taken_over}
@@ -17,8 +16,7 @@ account_state_over-requires g c =
       lawful = ok.lawful;
       replayed = ok.made;
       limits = c.requires;
-      later = subst (λ d. g.D.Disk.faults d ≤ g.D.Disk.faults (stores.disk_of c.in-Ok.opened.store))
-          (sym c.of-began.ensures) ok.later;
+      later = omega (arith, ok.no_other, ap g.D.Disk.faults c.of-began.ensures);
     }
 
 pub over-requires : goal.over-requires
@@ -36,8 +34,8 @@ returns-in-Ok g c =
     c.account_state_over.ensures in
     record {
       opened = opened_over c.in-Ok.opened c.args.disk c.args.limit c.args.doors c.account_state_over.result
-          c.over.result c.over.ensures.inner are c.over.ensures.doors;
+          c.over.result c.over.ensures.inner are c.over.ensures.doors c.over.ensures.at_opening;
       taken = taken_over c.in-Ok.opened c.args.disk c.args.limit c.args.doors c.account_state_over.result c.over.result
-          c.over.ensures.inner are ok.opened ok.any_moment ok.later;
+          c.over.ensures.inner are ok.opened ok.any_moment ok.no_other;
       refused = tt;
     }

@@ -41,5 +41,5 @@ returns g c =
       leaves = reported_told old.inner new c.args.seat c.args.now old.kept c.report.result verdict.work verdict.answer
           (subst (λ (a : Answer). Leaves g.D.Disk old.inner new c.args.seat (reported_by c.report.result
           (report_at (state_in old.inner) c.args.now verdict.work a))) c.answer.ensures.value leaves);
-      origin = same_origin old _ c.report.ensures.leaves.origin refl;
+      origin = same_origin old _ c.report.ensures.leaves.origin refl refl;
     }

@@ -29,5 +29,5 @@ returns g c =
           c.start_due.ensures.starts;
       leaves = started_told old.inner new c.args.seat c.args.now old.kept c.start_due.result c.args.drawn.now
           c.start_due.ensures.leaves;
-      origin = same_origin old _ c.start_due.ensures.leaves.origin refl;
+      origin = same_origin old _ c.start_due.ensures.leaves.origin refl refl;
     }

@@ -24,5 +24,5 @@ pub returns-in-Ok-clause-refused : goal.returns-in-Ok-clause-refused
 returns-in-Ok-clause-refused g c =
     IfErr-weaker c.open_loaded.result _ _
     (loaded_refused g.D.Disk c.args.file c.in-Ok.bytes.items c.args.disk c.load.new.disk c.load.ensures.run
-    c.load.ensures.reads c.in-Ok.ensures.loaded c.in-Ok.ensures.synced c.load.ensures.later)
+    c.load.ensures.reads c.in-Ok.ensures.loaded c.in-Ok.ensures.synced c.in-Ok.ensures.no_other)
     c.open_loaded.ensures.refused

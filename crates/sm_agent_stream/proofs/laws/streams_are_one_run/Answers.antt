@@ -1,5 +1,0 @@
-use Rattle.sm_agent_stream.proofs.ConnectionLemmas.{streams_joined}
-use Rattle.sm_agent_stream.proofs.laws.streams_are_one_run.Goals as goal
-
-pub returns : goal.returns
-returns c = streams_joined

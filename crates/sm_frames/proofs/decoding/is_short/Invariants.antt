@@ -1,7 +1,0 @@
-use Rattle.std.proofs.Common.{◌≡◌, ◌+◌, take}
-use Rattle.sm_frames.specs.declared.input.TheConstants.{LIST_LIMIT}
-use Rattle.sm_frames.specs.Parcels.{listed_size}
-use Rattle.sm_frames.proofs.decoding.is_short.Given as goal
-
-abbrev pub invariant-loop-item : goal.invariant-loop-item
-invariant-loop-item l = listed_size (take l.item-index l.items) + l.left ≡ LIST_LIMIT

@@ -1,7 +1,0 @@
-use Rattle.std.proofs.Common.{◌≡◌, ◌+◌, take}
-use Rattle.sm_frames.specs.declared.input.TheConstants.{LIST_LIMIT}
-use Rattle.sm_frames.specs.Parcels.{listed_size}
-use Rattle.sm_frames.proofs.encoding.is_short.Given as goal
-
-abbrev pub invariant-loop-body : goal.invariant-loop-body
-invariant-loop-body l = listed_size (take l.body-index l.bodies) + l.left ≡ LIST_LIMIT

@@ -1,5 +1,0 @@
-use Rattle.std.proofs.Common.{length}
-use Rattle.sm_judging.proofs.labels_shown.+sorted.Given as goal
-
-abbrev pub decreases-sorted : goal.decreases-sorted
-decreases-sorted l = length l.labels.now

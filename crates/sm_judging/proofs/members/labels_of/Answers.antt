@@ -1,6 +1,0 @@
-use Rattle.sm_judging.proofs.MemberLemmas.{label_at}
-use Rattle.sm_judging.proofs.members.labels_of.Goals as goal
-
-pub label_of-requires : goal.label_of-requires
-label_of-requires c = label_at c.args.texts.now c.loop-text.text-index c.text-item.result c.requires
-    c.loop-text-test.true c.text-item.is
