@@ -1,4 +1,4 @@
-//! One connection of a worker's, of which nothing is waited for.
+//! One connection of a worker's. It is waited for only where the worker has no other one.
 use crate::request_log::RequestLog;
 use crate::stage::Stage;
 use crate::unsent::{Unsent, is_later, write_now};

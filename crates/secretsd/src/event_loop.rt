@@ -1,4 +1,5 @@
-//! The event loop of one connection worker: it serves many connections, and waits for none of them.
+//! The event loop of one connection worker: it serves many connections. It waits for one of them
+//! only while that is the only one, and then for a millisecond at most.
 
 use crate::accepting::{Remedy, remedy_of};
 use crate::client::{Client, Turn};

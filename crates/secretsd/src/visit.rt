@@ -12,7 +12,8 @@ use std::io;
 use std::io::{Read, Write};
 
 /// A connection that has whole messages, from its event loop to a worker and back. It gives whole messages and then the
-/// end, and takes each reply whole: a worker never waits for its client. It tells no content.
+/// end, and takes each reply whole: while messages are answered a worker never waits for its client. It tells no
+/// content.
 #[derive(Drop)]
 pub struct Visit<'a> {
     /// The connection, with its place in the event loop.

@@ -111,7 +111,7 @@ impl<D: Disk, R: Rotator> Account<D, R> {
             (outcome (state self.old)
             (record { person = person.now; now = now; drawn = drawn.now; request = request.now }))) }
 
-        // A refusal and want of memory leave rows, journal and disk. Once an entry is acknowledged the tail is sure; a
+        // A refusal and lack of memory leave rows, journal and disk. Once an entry is acknowledged the tail is sure; a
         // fault of the disk leaves the rows, and the tail is unsure.
         ensures leaves { Leaves D.Disk self.old.inner self.new.inner seat (handled_by result
             (outcome (state self.old)
@@ -142,7 +142,7 @@ impl<D: Disk, R: Rotator> Account<D, R> {
             (outcome (state self.old)
             (record { person = person.now; now = now; drawn = drawn.now; request = tested.entry.request.now }))) }
 
-        // A refusal and want of memory leave rows, journal and disk. Once an entry is acknowledged the tail is sure; a
+        // A refusal and lack of memory leave rows, journal and disk. Once an entry is acknowledged the tail is sure; a
         // fault of the disk leaves the rows, and the tail is unsure.
         ensures leaves { Leaves D.Disk self.old.inner self.new.inner seat (handled_by result
             (outcome (state self.old)

@@ -8,7 +8,7 @@ use crate::answer::Answer;
 use crate::question::Question;
 use sm_base::Bytes;
 
-/// What became of a question: an answer, by its status and its body, a fault, or want of memory.
+/// What became of a question: an answer, by its status and its body, a fault, or out of memory.
 #[derive(Drop)]
 pub enum Upped {
     Got(u16, Bytes),

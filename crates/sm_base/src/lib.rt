@@ -1,4 +1,4 @@
-//! What every layer stands on: texts, bytes and lists, want of memory and copies, moments, faults that are told, and
+//! What every layer stands on: texts, bytes and lists, lack of memory and copies, moments, faults that are told, and
 //! names, tokens, labels and ARNs in their spelling.
 //!
 //! Contracts see `Text` and `Bytes` as the list of their bytes, and `List<T>` and `SharedList<T>` as the list of their

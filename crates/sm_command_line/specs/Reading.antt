@@ -65,7 +65,7 @@ IsInBounds settings =
     (1 ≤ settings.connections) × (settings.connections ≤ CONNECTION_WORKERS_LIMIT)
     × (settings.workers ≤ ROTATION_WORKERS_LIMIT)
 
--- an answer, where it is not want of memory
+-- an answer, where it is not lack of memory
 abbrev pub told : Result Settings WordsRefused → Option (Option Settings)
 told (Ok settings) = Some (Some settings)
 told (Err Refused) = Some None

@@ -181,7 +181,7 @@ change_is_entry question rows when key drawn (requests.RotateSecret rotate) soun
 change_is_entry question rows when key drawn (requests.ValidateResourcePolicy validate) sound early forms room =
     validate_change rows when.moment validate _
 
--- no request is judged as want of memory
+-- no request is judged as out of memory
 no_memory : (judged : Judged) (refusal : Option Why) → refusal_told judged ≡ Some refusal → IsSome (judged_told judged)
 no_memory (Accept reply change) refusal e = refl
 no_memory (Refuse why) refusal e = refl

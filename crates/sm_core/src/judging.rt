@@ -56,7 +56,7 @@ pub fn judge(
     requires forms { forms_of request.now ≡ None }
     requires drawn { length drawn.now ≡ needed request.now }
 
-    // The judgement is never want of memory, so that only this call can answer it.
+    // The judgement is never lack of memory, so that only this call can answer it.
     ensures judged { OrMemory (judged_told result)
         (judgement_for table.now person.now when drawn.now request.now) }
     ensures judgement_is_no_memory { IsSome

@@ -38,7 +38,7 @@ pub fn drive<D: Disk, R: Rotator>(
     requires { AllMayBeMade calls }
 
     // Over a disk that tells, or over any disk where no call is a restart: there is an outcome for each call, each but
-    // want of memory as the account's rules want it. The entries are legal, one after the other, from the state at the
+    // lack of memory as the account's rules want it. The entries are legal, one after the other, from the state at the
     // opening, and what the account has is that state and they. What is acknowledged has its place among them for good.
     // Each other one is that of a call at which the disk failed, and a later restart found it. After each number of
     // them the secrets are sound, and what a rotator accepted stays so.

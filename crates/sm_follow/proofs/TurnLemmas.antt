@@ -52,7 +52,7 @@ same_answer status body a is same =
     ap (λ n. let x : Answered = record { status = n; body = body } in x) is
     ∙ ap (λ b. let x : Answered = record { status = a.status; body = b } in x) same
 
--- what was said of an answer is that, or want of memory, however it is written
+-- what was said of an answer is that, or out of memory, however it is written
 pub written_says : (reply : Said) (wanted : Answered) (output : Outgoing) → session.Says reply wanted
     → IsWritten (said.Reply reply) output → IsReply wanted output
 written_says (replies.Reply status body) wanted output says is =
@@ -235,7 +235,7 @@ moment_is state follower now last moment stands last_is is =
     let same : last ≡ state.replica.base.last = last_is ∙ ap (λ (r : Replica). r.base.last) stands.replica in
     ap (λ n. let m : Moment = record { 0 = n } in m) (is ∙ ap (λ (l : Moment). max l.0 now) same)
 
--- what was said of a judgement, or of want of memory, is the reply to what is judged
+-- what was said of a judgement, or of being out of memory, is the reply to what is judged
 said_judged : (judged : Judged) (wanted : Judged) (reply : Said) (output : Outgoing)
     → OrMemory (judged_told judged) wanted → session.Says reply (judged_answer judged)
     → IsWritten (said.Reply reply) output → IsReply (judged_answer wanted) output

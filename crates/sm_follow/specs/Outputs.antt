@@ -25,7 +25,7 @@ output_bytes (Reply answer) = reply_bytes (framed_answer answer)
 abbrev pub joined : List Outgoing → List ℕ
 joined outputs = flat_map output_bytes outputs
 
--- the reply, or the one for want of memory in its place
+-- the reply, or the one where memory ran out in its place
 abbrev pub IsReply : Answered → Outgoing → Type 0
 IsReply answer output = (output ≡ Reply answer) ⊎ (output ≡ Reply unavailable)
 
@@ -38,7 +38,7 @@ IsWritten (said.Reply reply) output = output ≡ Reply (reply_of reply)
 abbrev pub counted : ℕ → ℕ → ℕ
 counted count more = min (count + more) count_limit
 
--- An output was written, or the sink failed within it: so many bytes had been taken then. For want of memory nothing
+-- An output was written, or the sink failed within it: so many bytes had been taken then. Where memory ran out nothing
 -- was written.
 abbrev pub Puts : Option End → outputs → ℕ → ℕ → Option (List ℕ) → Option (List ℕ) → ℕ → ℕ → Type 0
 Puts None wanted count count' old new before now = (output : Outgoing) × IsWritten wanted output

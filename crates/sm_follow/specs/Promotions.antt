@@ -26,7 +26,7 @@ use Rattle.sm_follow.specs.declared.promoting.Allowed.TheVariants.{Yes, No, Memo
 use Rattle.sm_follow.specs.Disks.{KeepsOnDisk}
 use Rattle.sm_follow.specs.InputTurns.{Either}
 
--- want of memory, or that nothing refuses the promotion, the forms before all, or what refuses it
+-- out of memory, or that nothing refuses the promotion, the forms before all, or what refuses it
 abbrev pub AllowsBy : Allowed → Option Why → Option Why → Type 0
 AllowsBy Yes refusal forms = (refusal ≡ None) × (forms ≡ None)
 AllowsBy (No why) refusal forms = refusal ≡ Some why

@@ -97,7 +97,7 @@ EndsBy (WriteFault counted) p = (length p.inputs ≤ frame_limit) × CutWithin p
 EndsBy DiskFault p = (length p.inputs ≤ frame_limit) × WritesAll p × (rest : List ℕ) × Reads p rest
 EndsBy Memory p = (length p.inputs ≤ frame_limit) × WritesFirst p × (rest : List ℕ) × Reads p rest
 
--- A stream that ended so ended where its replica went on, save that a fault of the disk ends it, and want of memory and
+-- A stream that ended so ended where its replica went on, save that a fault of the disk ends it, and lack of memory and
 -- a fault of the sink may come at any place.
 abbrev pub EndsAt : End → Onward → Type 0
 EndsAt DiskFault (Fails kept) = ⊤

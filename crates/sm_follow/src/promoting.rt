@@ -133,7 +133,7 @@ fn promote<D: Disk>(
 {
     let mut follower = follower;
     match follower.replica.promote(id, moment) {
-        // The reply's body is made first, so that want of memory for it leaves the disk as it was.
+        // The reply's body is made first, so that a lack of memory for it leaves the disk as it was.
         Ok(base) => match say_promoted(alloc, follower.replica.table(), id, moment) {
             Said::Reply(status, body) => {
                 put_base(alloc, follower, &base, Said::Reply(status, body))

@@ -66,7 +66,7 @@ fn encode_output(alloc: Global, output: &Output) -> Result<Bytes, NoMemory>
     }
 }
 
-/// The bytes of a reply. One that is too long for an output, which none comes near, is told as want of memory.
+/// The bytes of a reply. One that is too long for an output, which none comes near, is told as out of memory.
 fn encode_said(alloc: Global, said: &Said) -> Result<Bytes, NoMemory>
     ensures { IfOk result (λ bytes. bytes ≡ reply_bytes (framed_answer (reply_of said.now))) }
 {

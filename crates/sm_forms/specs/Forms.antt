@@ -48,7 +48,7 @@ forms_of (requests.UpdateSecret update) = update_forms update
 forms_of (requests.UpdateSecretVersionStage update) = move_forms update
 forms_of (requests.ValidateResourcePolicy validate) = validate_forms validate
 
--- the refusal is the first form that fails; it may be for want of memory only where the text of a policy is read
+-- the refusal is the first form that fails; it may be where memory ran out only where the text of a policy is read
 abbrev pub Refuses : Request → Option Why → Type 0
 Refuses (requests.PutResourcePolicy put) refusal = OrNoMemory refusal (put_policy_forms put)
 Refuses request refusal = refusal ≡ forms_of request

@@ -19,6 +19,6 @@ flaw_in (Err flaw) = Some (Malformed flaw.0 flaw.1)
 abbrev pub policy_flaw : List ℕ → Option Why
 policy_flaw text = flaw_in (policy_of text)
 
--- the refusal is this one, or it is for want of memory
+-- the refusal is this one, or memory ran out
 abbrev pub OrNoMemory : Option Why → Option Why → Type 0
 OrNoMemory result wanted = (result ≡ Some Memory) ⊎ (result ≡ wanted)

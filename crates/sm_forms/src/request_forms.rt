@@ -22,7 +22,7 @@ use crate::validate_resource_policy::validate_forms;
 use sm_model::{Request, Why};
 use std::alloc::Global;
 
-/// The first form or joint test that fails, or none. `Why::Memory` is want of memory, which only the text of a policy
+/// The first form or joint test that fails, or none. `Why::Memory` is out of memory, which only the text of a policy
 /// takes.
 pub fn forms(alloc: Global, request: &Request) -> Option<Why>
     ensures wanted { OrNoMemory result (forms_of request.now) }

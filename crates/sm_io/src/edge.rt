@@ -31,8 +31,8 @@ pub trait Edge<N> {
     /// How often it has failed. At 2^64 - 1 the count stands.
     ghost edge_faults: { Self → ℕ };
 
-    /// Hands out the first connection that is left. The count of faults rises only where it answers `Failed`, so no
-    /// accept that failed is tried again unseen.
+    /// Hands out the first connection that is left. The count of faults stays with every answer but `Failed`,
+    /// so that no failure is left out of the answer.
     fn accept(&mut self) -> Accepted<Self::C>
         ensures first { TakesFirst result (left self.old) (left self.new) }
         ensures handed { HandsOut result (handed self.old) (handed self.new) }

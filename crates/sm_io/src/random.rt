@@ -21,8 +21,8 @@ pub trait Words {
     /// How often it has failed. At 2^64 - 1 the count stands.
     ghost faults: { Self → ℕ };
 
-    /// Draws exactly n bytes, or none. The count of faults rises only where it answers `Failed`, so no draw that
-    /// failed is tried again unseen.
+    /// Draws exactly n bytes, or none. The count of faults stays with every answer but `Failed`, so that no
+    /// failure is left out of the answer.
     fn draw(&mut self, n: usize) -> Drew
         ensures exactly { IfDrew result (λ bytes. length bytes ≡ n) }
         ensures bytes { Draws result (drawn self.old) (drawn self.new) }

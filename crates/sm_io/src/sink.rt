@@ -25,7 +25,7 @@ pub trait Sink {
     ghost beside_sink: { Self → Option (List ℕ) × ℕ };
 
     /// Takes the front of a piece: at least one byte, if the piece has one. Of an empty piece it takes none. The count
-    /// of faults rises only where it answers `Failed`, so no put that failed is tried again unseen.
+    /// of faults stays with every answer but `Failed`, so that no failure is left out of the answer.
     fn put(&mut self, piece: &[u8]) -> Gave
         ensures within { IfPut result (λ n. n ≤ length piece.now) }
         ensures some { IfPut result (λ n. 0 < length piece.now → 0 < n) }

@@ -27,8 +27,8 @@ pub trait Source {
     ghost beside_source: { Self → Option (List ℕ) × ℕ };
 
     /// Takes the next bytes to the front of a buffer: at least one, if the buffer has room for one. An empty
-    /// buffer gets none. What is left in the rest of the buffer is not said. The count of faults rises only where it
-    /// answers `Failed`, so no take that failed is tried again unseen.
+    /// buffer gets none. What is left in the rest of the buffer is not said. The count of faults stays with every
+    /// answer but `Failed`, so that no failure is left out of the answer.
     fn take(&mut self, buf: &mut [u8]) -> Took
         ensures within { IfGot result (λ n. n ≤ length buf.old) }
         ensures some { IfGot result (λ n. 0 < length buf.old → 0 < n) }

@@ -5,7 +5,7 @@ use Rattle.serde_json.specs.View.{view}
 use Rattle.sm_json.specs.declared.body.Body.{Body}
 use Rattle.sm_json.specs.declared.body.Body.TheVariants as bodies
 
--- want of memory, or the value, or that there is none
+-- out of memory, or the value, or that there is none
 abbrev pub IsBody : Body → Option Data → Type 0
 IsBody (bodies.Object value) is = is ≡ Some (view value)
 IsBody bodies.NotJson is = is ≡ None

@@ -19,7 +19,7 @@ pub enum Mark {
     LeftOut,
 }
 
-/// The first member with which something is wrong, or want of memory.
+/// The first member with which something is wrong, or out of memory.
 #[derive(Drop)]
 pub enum Fault {
     At(MemberName, Mark),

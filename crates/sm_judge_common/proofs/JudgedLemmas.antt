@@ -11,7 +11,7 @@ use Rattle.sm_judge_common.specs.Judged.{judged_told, refusal_told, IfAccepted, 
 use Rattle.sm_judge_common.specs.Refusals.{first_refusal, unless_there, scheduled_refusal, refusal_at, repeat_at}
 use Rattle.sm_judge_common.specs.Secrets.{IsStanding, standing_refusal, unless_scheduled, on_secret, if_there}
 
--- ---- what a call answers: the judgement, or want of memory
+-- ---- what a call answers: the judgement, or out of memory
 
 pub told_same : (judged wanted : Judged) → judged ≡ wanted → OrMemory (judged_told judged) wanted
 told_same (Accept reply change) wanted e = e

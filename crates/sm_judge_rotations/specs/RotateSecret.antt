@@ -124,7 +124,7 @@ rotate_accepted row version_id = Accept (replies.RotateSecret (rotated row versi
 abbrev pub rotate_repeated : SecretRow → List ℕ → Judged
 rotate_repeated row token = Accept (replies.RotateSecret (rotated row (Some token))) None
 
--- by what the start answers, which is never want of memory
+-- by what the start answers, which is never lack of memory
 abbrev pub started_by : Began → SecretRow → Start
 started_by starts.Ok after = Begun after
 started_by starts.Same after = Repeat

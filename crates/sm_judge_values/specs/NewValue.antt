@@ -44,7 +44,7 @@ versioned_secret row version_id = record { arn = row.arn; name = row.name; versi
 
 -- ---- putting it into a secret
 
--- by what putting the value answers, which is never want of memory
+-- by what putting the value answers, which is never lack of memory
 abbrev pub placed_by : PutDone → SecretRow → List ℕ → Placed
 placed_by puts.Added after token = Added after
 placed_by (puts.Same labels) after token = Repeat

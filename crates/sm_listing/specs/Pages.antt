@@ -93,7 +93,7 @@ abbrev pub versions_page : SecretRow → Bool → ℕ → Option (List ℕ) → 
 versions_page row deprecated max token =
     page_at (start_of VERSIONS token) (λ start. page_of VERSIONS max (version_serials row deprecated start))
 
--- None for want of memory
+-- None where memory ran out
 abbrev pub told : Result Listed PageRefused → Option (Result Listed PageRefused)
 told (Ok listed) = Some (Ok listed)
 told (Err (BadFilter number)) = Some (Err (BadFilter number))

@@ -124,7 +124,7 @@ http_status Chunked = 400
 http_status Length = 400
 http_status BodyTooLong = 413
 
--- the status of a refusal: 500 for faults of the server, 503 for want of memory, 413 for a body that is too long, and
+-- the status of a refusal: 500 for faults of the server, 503 where memory ran out, 413 for a body that is too long, and
 -- else 400
 abbrev pub status_of : Why → ℕ
 status_of (Form member) = 400

@@ -56,7 +56,7 @@ password_of ask drawn =
     else if nat_lt ask.length (required ask) then Err TooShort
     else Ok (password_text ask drawn)
 
--- None for want of memory
+-- None where memory ran out
 abbrev pub told : Result (List ℕ) PasswordRefused → Option (Result (List ℕ) PasswordRefused)
 told (Ok text) = Some (Ok text)
 told (Err Length) = Some (Err Length)

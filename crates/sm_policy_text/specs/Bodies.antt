@@ -8,13 +8,13 @@ use Rattle.sm_policy_text.specs.declared.document.Body.TheVariants as bodies
 use Rattle.sm_policy_text.specs.declared.read.Fault.{Fault}
 use Rattle.sm_policy_text.specs.Reads.{Flawed}
 
--- want of memory, or the value, or that there is none
+-- out of memory, or the value, or that there is none
 abbrev pub IsBody : Body → Option Data → Type 0
 IsBody (bodies.Json value) is = is ≡ Some (view value)
 IsBody bodies.NotJson is = is ≡ None
 IsBody bodies.Memory is = ⊤
 
--- want of memory, or the member at fault, or the statements, as they are shown, where there is none
+-- out of memory, or the member at fault, or the statements, as they are shown, where there is none
 abbrev pub IsDocument : {A : Type 0} → (A → shapes.Items) → Result A Fault → Option (List ℕ)
     → Option shapes.Items → Type 0
 IsDocument shown (Ok values) flaw is = (flaw ≡ None) × (is ≡ Some (shown values))

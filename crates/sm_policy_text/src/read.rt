@@ -13,7 +13,7 @@ use sm_base::Text;
 use sm_base::text::same_text;
 use std::alloc::Global;
 
-/// The first member at fault, or want of memory.
+/// The first member at fault, or out of memory.
 #[derive(Drop)]
 pub enum Fault {
     At(Text),

@@ -45,7 +45,7 @@ readings_of (hold ∷ holds) = hold.now.0 ∷ readings_of holds
 
 -- ---- a work whose step is claimed
 
--- The rotator was not asked, for want of memory; or it gave an answer, which was reported in a hold.
+-- The rotator was not asked, where memory ran out; or it gave an answer, which was reported in a hold.
 pub data WorkCourse : Type 0 where
   Unasked : WorkCourse
   Asked : Answer → Hold → Reported → WorkCourse

@@ -24,7 +24,7 @@ abbrev pub people_of : List ℕ → Result People ℕ
 people_of [] = Ok Everybody
 people_of (c ∷ text) = listed (persons_of (c ∷ text))
 
--- want of memory, or the persons known, or the first bad line
+-- out of memory, or the persons known, or the first bad line
 abbrev pub IsKnown : Result (List Known) PeopleRefused → Result (List Known) ℕ → Type 0
 IsKnown (Ok known) is = is ≡ Ok known
 IsKnown (Err (BadLine number)) is = is ≡ Err number

@@ -3,17 +3,17 @@ use Rattle.std.specs.Prelude.{◌≡◌, ℕ, ◌≤◌, List, Result, Ok, Err}
 use Rattle.sm_record.specs.declared.unread.Unread.{Unread}
 use Rattle.sm_record.specs.declared.unread.Unread.TheVariants.{Left, Memory}
 
--- want of memory, or how many bytes are left where a field is not spelled
+-- out of memory, or how many bytes are left where a field is not spelled
 abbrev pub Fails : {Y : Type 0} → Unread → Result Y ℕ → Type 0
 Fails (Left n) wanted = wanted ≡ Err n
 Fails Memory wanted = Unit {0}
 
--- want of memory, or exactly what is to be read, seen by view
+-- out of memory, or exactly what is to be read, seen by view
 abbrev pub Gives : {X Y : Type 0} → (X → Y) → Result X Unread → Result Y ℕ → Type 0
 Gives view (Ok x) wanted = wanted ≡ Ok (view x)
 Gives view (Err unread) wanted = Fails unread wanted
 
--- want of memory, or what is made of exactly what is to be read
+-- out of memory, or what is made of exactly what is to be read
 abbrev pub Makes : {A B X : Type 0} → (A → B → Type 0) → (X → B × List ℕ) → Result X Unread → Result (A × List ℕ) ℕ
     → Type 0
 Makes {A} made view (Ok x) wanted = (a : A) × (made a (view x).0) × (wanted ≡ Ok (a, (view x).1))

@@ -73,7 +73,7 @@ abbrev pub frames_in : List Step → List Frame
 frames_in [] = []
 frames_in (step ∷ steps) = step.frame ∷ frames_in steps
 
--- no frame was answered by want of memory
+-- no frame was answered by lack of memory
 abbrev pub HasMemory : List Step → Type 0
 HasMemory [] = ⊤
 HasMemory (step ∷ steps) = (step.answer ≡ Memory → ⊥) × HasMemory steps

@@ -17,12 +17,12 @@ abbrev pub IsUnread : {Y : Type 0} → Result Y ℕ → Type 0
 IsUnread (Ok y) = ⊥
 IsUnread (Err left) = ⊤
 
--- want of memory, or nothing is to be read
+-- out of memory, or nothing is to be read
 abbrev pub FailsAs : {Y : Type 0} → FrameRefused → Result Y ℕ → Type 0
 FailsAs NoFrame wanted = IsUnread wanted
 FailsAs Memory wanted = ⊤
 
--- want of memory, or exactly what is to be read, seen by view
+-- out of memory, or exactly what is to be read, seen by view
 abbrev pub ReadsAs : {X Y : Type 0} → (X → Y) → Result X FrameRefused → Result Y ℕ → Type 0
 ReadsAs view (Ok x) wanted = wanted ≡ Ok (view x)
 ReadsAs view (Err refused) wanted = FailsAs refused wanted
@@ -33,26 +33,26 @@ parcel_seen (parts.Entries at bodies) = Entries at bodies
 parcel_seen (parts.Rows at bodies) = Rows at bodies
 parcel_seen (parts.Message bytes) = Message bytes.now
 
--- want of memory, or the entry of a body in the second format, or that it is no entry's
+-- out of memory, or the entry of a body in the second format, or that it is no entry's
 abbrev pub IsOneEntry : List ℕ → Result Entry FrameRefused → Type 0
 IsOneEntry body (Ok entry) = HasSpelling Second entry × (spelling Second entry ≡ body)
 IsOneEntry body (Err NoFrame) = (entry : Entry) → HasSpelling Second entry → ¬ (spelling Second entry ≡ body)
 IsOneEntry body (Err Memory) = ⊤
 
--- want of memory, or the entries of bodies in the second format, or that they are no entries'
+-- out of memory, or the entries of bodies in the second format, or that they are no entries'
 abbrev pub AreEntries : List (List ℕ) → Result (List Entry) FrameRefused → Type 0
 AreEntries bodies (Ok entries) = AreSpelled entries × (map (spelling Second) entries ≡ bodies)
 AreEntries bodies (Err NoFrame) =
     (entries : List Entry) → AreSpelled entries → ¬ (map (spelling Second) entries ≡ bodies)
 AreEntries bodies (Err Memory) = ⊤
 
--- want of memory, or the frame of these parts, or that no frame has them
+-- out of memory, or the frame of these parts, or that no frame has them
 abbrev pub IsMade : Parcel → Result Input FrameRefused → Type 0
 IsMade parcel (Ok i) = IsFrame i × (parcel_of i ≡ parcel)
 IsMade parcel (Err NoFrame) = (i : Input) → IsFrame i → ¬ (parcel_of i ≡ parcel)
 IsMade parcel (Err Memory) = ⊤
 
--- want of memory, or the frame of these bytes, or that they are no frame's
+-- out of memory, or the frame of these bytes, or that they are no frame's
 abbrev pub IsDecoded : List ℕ → Result Input FrameRefused → Type 0
 IsDecoded bytes (Ok i) = IsFrame i × (frame_bytes i ≡ bytes)
 IsDecoded bytes (Err NoFrame) = (i : Input) → IsFrame i → ¬ (frame_bytes i ≡ bytes)

@@ -16,7 +16,7 @@ position_bytes at = 1 ∷ long.spell at
 abbrev pub reply_bytes : List ℕ → List ℕ
 reply_bytes reply = 2 ∷ octets.spell reply
 
--- want of memory, or the bytes of the frame, or that a limit is passed
+-- out of memory, or the bytes of the frame, or that a limit is passed
 abbrev pub IsEncoded : Frame → Result (List ℕ) EncodeRefused → Type 0
 IsEncoded frame (Ok bytes) = IsFrame (input.Frame frame) × (bytes ≡ frame_bytes (input.Frame frame))
 IsEncoded frame (Err TooLong) = IsWithin (parts_of frame) → ⊥

@@ -149,7 +149,7 @@ abbrev pub has_applied : Result Applied NoMemory → Bool
 has_applied (Ok applied) = is_done applied
 has_applied (Err e) = false
 
--- what was answered, or None for want of memory
+-- what was answered, or None where memory ran out
 abbrev pub apply_told : Applied → Option Applied
 apply_told Done = Some Done
 apply_told (Stale at) = Some (Stale at)

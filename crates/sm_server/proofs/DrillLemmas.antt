@@ -90,7 +90,7 @@ module _ (replies : Replies) (people : Persons) (base : Base) (held : Held) (num
     };
   }
 
-  -- all were made and answered, and then the lines were written, or not for want of memory
+  -- all were made and answered, and then the lines were written, or not where memory ran out
   module _ (drilled : Drilled) (a : AnswersMade replies people base number (Ok drilled) before now history)
       (taken readings : Option (List ℕ)) (sink : ℕ) (moment : Moment) (written : List ℕ)
       (reads : readings ≡ append_known now.readings (moment.0 ∷ []))

@@ -28,7 +28,7 @@ abbrev pub role_of_words : Option Settings → Result Role Status
 role_of_words None = Err Words
 role_of_words (Some settings) = role_of_mode settings.mode settings.number settings.region
 
--- a run follows its words, or ends as it must, or for want of memory
+-- a run follows its words, or ends as it must, or memory ran out
 abbrev pub FollowsWords : Result Role Status → Option Settings → Type 0
 FollowsWords role asked = (role ≡ Err Memory) ⊎ (role ≡ role_of_words asked)
 
@@ -37,12 +37,12 @@ abbrev pub end_of_people : PeopleRefused → Status
 end_of_people (refusals.BadLine line) = People line
 end_of_people refusals.Memory = Memory
 
--- A text of the people says who may ask, or its first bad line ends the run; so does want of memory.
+-- A text of the people says who may ask, or its first bad line ends the run; so does lack of memory.
 abbrev pub FollowsPeople : Result Persons Status → Result Persons ℕ → Type 0
 FollowsPeople (Ok people) read = read ≡ Ok people
 FollowsPeople (Err status) read = (status ≡ Memory) ⊎ ((line : ℕ) × (read ≡ Err line) × (status ≡ People line))
 
--- the words decide whether an account is opened and read, and what is done with it; want of memory may come with any
+-- the words decide whether an account is opened and read, and what is done with it; a lack of memory may come with any
 abbrev pub WordsDecide : Status → Option Settings → RunTask → Type 0
 WordsDecide Words asked task = role_of_words asked ≡ Err Words
 WordsDecide Memory asked task = ⊤

@@ -20,7 +20,7 @@ pub record Summarizes (Cause : Type 0) (rows : Rows) (now : Moment) (entries : �
   pub is : IsSummary rows now entries summary
   pub writes : WritesBy Cause status summary written
 
--- for want of memory nothing was written
+-- where memory ran out nothing was written
 abbrev pub Shows : Type 0 → Rows → Moment → ℕ → Status → List ℕ → Type 0
 Shows Cause rows now entries Memory written = written ≡ []
 Shows Cause rows now entries status written = Summarizes Cause rows now entries status written
@@ -32,7 +32,7 @@ pub record ChecksAt (Cause : Type 0) (rows : Rows) (entries : ℕ) (status : Sta
     pub reading : readings ≡ now.0 ∷ []
     pub shows : Shows Cause rows now entries status written
 
--- for want of memory the clock may not have been read
+-- where memory ran out the clock may not have been read
 abbrev pub ChecksBy : Type 0 → Rows → ℕ → Status → List ℕ → List ℕ → Type 0
 ChecksBy Cause rows entries Memory readings written = written ≡ []
 ChecksBy Cause rows entries status readings written = ChecksAt Cause rows entries status readings written

@@ -35,7 +35,7 @@ pub record NoneFailed (before now : Counts) : Type 0 where
   pub disk : Steady before.disk now.disk
   pub random : Steady before.random now.random
 
--- a turn in whose message neither the disk nor the random source failed: the model's answer, or want of memory
+-- a turn in whose message neither the disk nor the random source failed: the model's answer, or out of memory
 pub record ModelRound (replies : Replies) (base : Base) (history : History) (asked : Result Asked Why)
     (turn : MessageRound) : Type 0 where
   pub of : MessageRoundOf replies base history asked turn
@@ -51,14 +51,14 @@ ModelRounds may people base history (message ∷ messages) replies =
     × (replies ≡ turn.reply ∷ others)
 
 -- Each of the messages of the bytes that were read, of the first that are answered at most, got the model's reply or
--- the one for want of memory. What was written begins with these.
+-- the one where memory ran out. What was written begins with these.
 abbrev pub AnswersEach : Course → List ℕ → List ℕ → Type 0
 AnswersEach course input written = (all : List Message) (end : End) → Messages input 0 all end
     → (replies : List Answered) × (more : List ℕ)
     × ModelRounds course.replies course.people course.base [] (take message_limit all) replies ×
     (written ≡ joined replies ++ more)
 
--- Each of the messages of a number that were answered got the model's reply or the one for want of memory.
+-- Each of the messages of a number that were answered got the model's reply or the one where memory ran out.
 abbrev pub DrillsEach : Course → Status → List ℕ → Trace → Type 0
 DrillsEach course status input trace = (number : ℕ) → (drills : Drills course number status input trace)
     → ModelRounds course.replies course.people course.base [] (messages_of number drills.count)

@@ -23,7 +23,7 @@ use Rattle.sm_server.specs.Checks.{WritesBy}
 use Rattle.sm_server.specs.Outside.{Outside}
 use Rattle.sm_server.specs.MessageRounds.{Brought}
 
--- what is counted of the replies to all messages of a drill; for want of memory it ended before one of them
+-- what is counted of the replies to all messages of a drill; where memory ran out it ended before one of them
 abbrev pub Counts : Result Drilled NoMemory → ℕ → List Answered → Type 0
 Counts (Ok drilled) count replies = (count ≡ MESSAGES) × (drilled.refused ≡ refused_count replies)
     × (option_map reply_of drilled.last ≡ slice_get replies 9_999)
@@ -38,7 +38,7 @@ pub record AnswersMade (replies : Replies) (people : People) (base : Base) (numb
   pub brings : Brings replies people base before now history (messages_of number count) brought
   pub counts : Counts result count brought.replies
 
--- for want of memory nothing was written of the lines, and else they were, or the front of them
+-- where memory ran out nothing was written of the lines, and else they were, or the front of them
 abbrev pub Says : Type 0 → List ℕ → Status → List ℕ → Type 0
 Says Cause lines Memory written = written ≡ []
 Says Cause lines status written = WritesBy Cause status lines written
@@ -60,7 +60,7 @@ pub record SaysLines (Cause : Type 0) (base : Base) (entries : ℕ) (history : H
   pub reading : all ≡ told_then told now
   pub writes : WritesBy Cause status (lines_of replies (totals_after base entries history now)) written
 
--- for want of memory a message or the lines were not made, and nothing was written
+-- where memory ran out a message or the lines were not made, and nothing was written
 pub record LacksMemory (told all : Told) (written : List ℕ) : Type 0 where
   pub unwritten : written ≡ []
   pub reading : (all ≡ told) ⊎ ((now : Moment) × (all ≡ told_then told now))

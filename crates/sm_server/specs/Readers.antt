@@ -25,7 +25,7 @@ abbrev pub end_of_reader : Option Settings → Option Status
 end_of_reader None = Some Words
 end_of_reader (Some settings) = end_of_reading settings.mode
 
--- a reader that does not follow its words ends as it must, or for want of memory
+-- a reader that does not follow its words ends as it must, or memory ran out
 abbrev pub EndsReader : Option Status → Option Settings → Type 0
 EndsReader end asked = (end ≡ Some Memory) ⊎ (end ≡ end_of_reader asked)
 
@@ -33,12 +33,12 @@ EndsReader end asked = (end ≡ Some Memory) ⊎ (end ≡ end_of_reader asked)
 abbrev pub first_agent : AgentState
 first_agent = empty_agent 1000 300
 
--- that reader, or want of memory
+-- that reader, or out of memory
 abbrev pub IsNewAgent : Result AgentState Status → Type 0
 IsNewAgent (Ok agent) = agent ≡ first_agent
 IsNewAgent (Err status) = status ≡ Memory
 
--- That reader, where the words ask for one. Else what ends the run: its words, or want of memory.
+-- That reader, where the words ask for one. Else what ends the run: its words, or out of memory.
 abbrev pub BuildsAgent : Result AgentState Status → Option Settings → Type 0
 BuildsAgent (Ok agent) asked = (end_of_reader asked ≡ None) × (agent ≡ first_agent)
 BuildsAgent (Err status) asked = (status ≡ Memory) ⊎ ((status ≡ Words) × (end_of_reader asked ≡ Some Words))

@@ -46,7 +46,7 @@ abbrev pub end_of_server : Option Settings → Option Status
 end_of_server None = Some Words
 end_of_server (Some settings) = end_of_serving settings.mode
 
--- a server that does not follow its words ends as it must, or for want of memory
+-- a server that does not follow its words ends as it must, or memory ran out
 abbrev pub EndsServer : Option Status → Option Settings → Type 0
 EndsServer end asked = (end ≡ Some Memory) ⊎ (end ≡ end_of_server asked)
 
@@ -67,7 +67,7 @@ EndsWorkers EdgeFault workers = SomeFailed workers
 EndsWorkers other workers = ⊥
 
 -- Who may ask, where the words ask for a server and the text of the people was read. Else what ends the server: its
--- words, the first bad line of that text, or want of memory.
+-- words, the first bad line of that text, or out of memory.
 abbrev pub FollowsOrders : Result Persons Status → Option Settings → Result Persons ℕ → Type 0
 FollowsOrders (Ok people) asked read = (end_of_server asked ≡ None) × (read ≡ Ok people)
 FollowsOrders (Err status) asked read =

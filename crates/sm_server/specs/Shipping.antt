@@ -17,7 +17,7 @@ PutsBytes (Some (SinkFault sent)) bytes count count' old new before now = (size 
     × (new ≡ append_known old (take size bytes)) × (sent ≡ min (count + size) count_limit) × Rose before now
 PutsBytes (Some other) bytes count count' old new before now = ⊥
 
--- so were the bytes of a frame; for want of memory nothing was written of it
+-- so were the bytes of a frame; where memory ran out nothing was written of it
 abbrev pub PutsFrame : Option Status → Frame → ℕ → ℕ → Option (List ℕ) → Option (List ℕ) → ℕ → ℕ → Type 0
 PutsFrame (Some Memory) frame count count' old new before now = new ≡ old
 PutsFrame end frame count count' old new before now =

@@ -19,7 +19,7 @@ shipped_bytes frames = flat_map (λ frame. frame_bytes (inputs.Frame frame)) fra
 abbrev pub AreShipped : Held → ℕ → List Frame → Type 0
 AreShipped held position frames = Ships (base_under held.base) held.entries position frames
 
--- How much of frames was written, where the run ended so. A cause holds where the sink failed. For want of memory it is
+-- How much of frames was written, where the run ended so. A cause holds where the sink failed. If memory ran out, it is
 -- a front of them.
 abbrev pub PutsFrames : Type 0 → Status → List ℕ → List ℕ → Type 0
 PutsFrames Cause Done all written = written ≡ all

@@ -63,7 +63,7 @@ Leaves G OpenFault story old new = IsRefused G old (refusals.Failed new)
 Leaves G Memory story old new = (new ≡ old) ⊎ (IsRefused G old (refusals.Memory new) ⊎ Records G story old new)
 Leaves G status story old new = Records G story old new
 
--- A run that ended for want of memory either opened no account: it read no byte and made no mark, nothing was written,
+-- A run that ran out of memory either opened no account: it read no byte and made no mark, nothing was written,
 -- read from the clock or drawn, and the disk is as it was, or, once it had come this far, as such an opening leaves it;
 -- or it had come this far, and the disk has its story.
 abbrev pub WantsBy : {D : Type 0} → Ghosts D → Type 0 → Story → List ℕ → Trace → D → D → Type 0

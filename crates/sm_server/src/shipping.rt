@@ -54,7 +54,7 @@ fn put_frames<K: Sink>(alloc: Global, frames: &[Frame], sink: &mut K) -> Status
 }
 
 /// Writes a frame, and counts its bytes. Where it is not written it says how the run ends. A frame that is too long to
-/// be one ends it as want of memory does.
+/// be one ends it as out of memory does.
 fn put_frame<K: Sink>(alloc: Global, frame: &Frame, sink: &mut K, count: &mut u64) -> Option<Status>
     requires { IsShippable frame.now }
     ensures puts { PutsFrame result frame.now count.old count.new (K.taken sink.old) (K.taken sink.new)

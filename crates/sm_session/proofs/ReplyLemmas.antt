@@ -1,4 +1,4 @@
--- Replies that were made, and the one for want of memory.
+-- Replies that were made, and the one where memory ran out.
 use Rattle.std.proofs.Common.{◌≡◌, ◌⊎◌, ℕ, List, refl, ap, ◌∙◌, inl, inr, codes}
 use Rattle.serde_json.proofs.OnLiterals.{serde_json_on_literals}
 use Rattle.sm_base.specs.declared.bad_kind.BadKind.{BadKind}
@@ -9,7 +9,7 @@ use Rattle.sm_session.specs.declared.said.Said.{Said}
 use Rattle.sm_session.specs.declared.said.Said.TheVariants.{Reply, Memory}
 use Rattle.sm_session.specs.Replies.{Says, IsBadReply, unavailable, reply_of, framed_answer}
 
--- a reply that was made is the model's, or it stands for want of memory
+-- a reply that was made is the model's, or it stands where memory ran out
 pub reply_said : (said : Said) (answer : Answered) → Says said answer
     → (reply_of said ≡ answer) ⊎ (reply_of said ≡ unavailable)
 reply_said (Reply status body) answer is =
@@ -21,7 +21,7 @@ pub bad_reply : (said : Said) (kind : BadKind) → Says said (refused (whys.Http
     → IsBadReply kind (reply_of said)
 bad_reply said kind is = reply_said said (refused (whys.Http kind)) is
 
--- the reply for want of memory, as it stands in the code
+-- the reply where memory ran out, as it stands in the code
 unavailable_body : unavailable.body ≡ codes "{\"Message\":\"out of memory\",\"__type\":\"ServiceUnavailable\"}"
 unfolding serde_json_on_literals
 unavailable_body = refl

@@ -51,7 +51,7 @@ authorization_of message = field_of (codes "authorization") message.fields
 unfoldable pub asker_of : People → Message → Result Person Why
 asker_of people message = asker_named people (caller_of people (authorization_of message)) message
 
--- want of memory, or who asks, or why nobody does
+-- out of memory, or who asks, or why nobody does
 abbrev pub IsAsker : Asker → Result Person Why → Type 0
 IsAsker (Is person) wanted = wanted ≡ Ok person
 IsAsker (Refused why) wanted = wanted ≡ Err why

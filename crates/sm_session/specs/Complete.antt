@@ -24,7 +24,7 @@ abbrev pub NoFaults : List MessageTurn → Type 0
 NoFaults [] = ⊤
 NoFaults (turn ∷ turns) = (turn.marks ≡ Fault ∷ [] → ⊥) × NoFaults turns
 
--- each turn got the model's reply, or the one for want of memory
+-- each turn got the model's reply, or the one where memory ran out
 abbrev pub AreModels : People → Base → List MessageTurn → Type 0
 AreModels people base [] = ⊤
 AreModels people base (turn ∷ turns) =
@@ -35,8 +35,8 @@ abbrev pub AreFirst : List ℕ → List MessageTurn → Type 0
 AreFirst input turns = (all : List Message) (end : End) → Messages input 0 all end
     → take message_limit all ≡ map (λ turn. turn.message) turns
 
--- Where nothing failed, the disk included, and the session did not end for want of memory, each message that is to be
--- answered got the model's reply or the one for want of memory.
+-- Where nothing failed, the disk included, and the session did not end where memory ran out, each message that is to be
+-- answered got the model's reply or the one where memory ran out.
 module _ {people : People} {place : Place} {old new : Around} {ended : Ended} {items : List TraceItem} where
   abbrev pub Completes : Serves people place old new ended items → Type 0
   Completes session = NoneFailed old new → (ended ≡ Memory → ⊥) → NoFaults session.turns

@@ -7,7 +7,7 @@ use Rattle.sm_session.specs.declared.heard.Heard.{Heard}
 use Rattle.sm_session.specs.declared.heard.Heard.TheVariants.{Ask, Refused, Memory}
 use Rattle.sm_session.specs.Answer.{Asked}
 
--- want of memory, or who asks for what, or the refusal
+-- out of memory, or who asks for what, or the refusal
 abbrev pub Hears : Heard → Result Asked Why → Type 0
 Hears (Ask person request) wanted = wanted ≡ Ok (record { person = person; request = request })
 Hears (Refused why) wanted = wanted ≡ Err why

@@ -9,16 +9,16 @@ use Rattle.sm_reply.specs.Shown.{Answered, shown, refused}
 use Rattle.sm_session.specs.declared.said.Said.{Said}
 use Rattle.sm_session.specs.declared.said.Said.TheVariants.{Reply, Memory}
 
--- the reply for want of memory
+-- the reply where memory ran out
 abbrev pub unavailable : Answered
 unavailable = refused whys.Memory
 
--- what was said: want of memory has a reply of its own
+-- what was said: a lack of memory has a reply of its own
 abbrev pub reply_of : Said → Answered
 reply_of (Reply status body) = record { status = status; body = body }
 reply_of Memory = unavailable
 
--- want of memory, or this reply
+-- out of memory, or this reply
 abbrev pub Says : Said → Answered → Type 0
 Says (Reply status body) answer = (status ≡ answer.status) × (body ≡ answer.body)
 Says Memory answer = ⊤
@@ -34,6 +34,6 @@ SaysHandled handled.Memory said = said ≡ Memory
 abbrev pub framed_answer : Answered → List ℕ
 framed_answer answer = framed answer.status answer.body
 
--- the reply to a bad message: that of its fault, or the one for want of memory in its place
+-- the reply to a bad message: that of its fault, or the one where memory ran out in its place
 abbrev pub IsBadReply : BadKind → Answered → Type 0
 IsBadReply kind answer = (answer ≡ refused (whys.Http kind)) ⊎ (answer ≡ unavailable)

@@ -7,10 +7,10 @@ use crate::said::Said;
 use sm_http::{Piece, Sent, write_through};
 use sm_io::Sink;
 
-/// The body of the reply for want of memory.
+/// The body of the reply where memory ran out.
 const UNAVAILABLE: &[u8] = b"{\"Message\":\"out of memory\",\"__type\":\"ServiceUnavailable\"}";
 
-/// Writes a reply, or the one that stands for want of memory. It takes none.
+/// Writes a reply, or the one that stands where memory ran out. It takes none.
 pub fn send<K: Sink>(sink: &mut K, piece: &mut Piece, said: &Said) -> Sent
     ensures sent { Sends result (framed_answer (reply_of said.now)) (K.taken sink.old) (K.taken sink.new)
         (K.sink_faults sink.old) (K.sink_faults sink.new) }
@@ -23,7 +23,7 @@ pub fn send<K: Sink>(sink: &mut K, piece: &mut Piece, said: &Said) -> Sent
     }
 }
 
-/// Writes the reply for want of memory.
+/// Writes the reply where memory ran out.
 fn send_unavailable<K: Sink>(sink: &mut K, piece: &mut Piece) -> Sent
     ensures sent { Sends result (framed_answer unavailable) (K.taken sink.old) (K.taken sink.new)
         (K.sink_faults sink.old) (K.sink_faults sink.new) }

@@ -136,7 +136,7 @@ fn sign_at(
     Ok(field_with(alloc, secret, message, scope, text.as_str(), moment)?)
 }
 
-/// Whether the fields of these names may be signed, or want of memory.
+/// Whether the fields of these names may be signed, or out of memory.
 #[tactic(auto, using(crate::proofs::SigningLemmas::names_come_back, crate::proofs::SigningLemmas::no_names_fit, crate::proofs::SigningLemmas::none_fits))]
 fn may_sign(alloc: Global, message: &Message, names: &[Text]) -> Result<bool, NoMemory>
     ensures { IfOk result (λ may. may ≡ are_signable (content message.now).fields names.now) }
