@@ -31,9 +31,10 @@ NEWCOMERS = 20
 # So many that they take about so long.
 FEWEST_GREEDY, MOST_GREEDY, GREEDY_SECONDS = 10, 200, 3
 SENDERS, PAUSING = 8, 10
-HOARDERS = 600
-# So many messages of the greatest length have 128 MiB.
-KEPT_MOST = (128 << 20) // BODY_MOST
+HOARDERS, HOARDED_BY = 600, 4
+# So many messages of the greatest length have 128 MiB. Behind that each worker but one may keep one message more: it
+# has less than its part of them, and one that has more closes a connection only when it next keeps something.
+KEPT_MOST = (128 << 20) // BODY_MOST + HOARDED_BY - 1
 # More memory than the program may have for what it holds, beside what it needs for itself.
 MEMORY_MOST = 400_000_000
 ONE_WORKER = ["--connections", "1"]
@@ -379,8 +380,8 @@ def fault_of_stopped_program(program):
 
 
 def fault_of_hoarders(program):
-    """Of messages that are not ended no more is held than 128 MiB, which is said once, and others are answered."""
-    with Serving(program) as server:
+    """Of messages that are not ended about 128 MiB are held, which is said once, and others are answered."""
+    with Serving(program, "--connections", str(HOARDED_BY)) as server:
         if is_checked(server.process.pid):
             raise NotTried("a program without checks of memory")
         with Others(server) as others:
@@ -390,7 +391,7 @@ def fault_of_hoarders(program):
     lines = [line for line in server.said if " have reached 128 MiB: " in line]
     if most > MEMORY_MOST or is_ended:
         return f"for messages that are not ended {most / 1e6:.0f} MB are held"
-    # What is kept of them is at most 128 MiB, and not much less.
+    # What is kept of them is about 128 MiB, and not much less.
     if len(lines) != 1 or len(server.said) != 2 or not KEPT_MOST * 3 // 4 <= kept <= KEPT_MOST:
         return f"of {HOARDERS} messages that are not ended {kept} are kept, and it said {server.said}"
     return others.fault("messages that are not ended")
